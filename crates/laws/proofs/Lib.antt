@@ -1,0 +1,9 @@
+pub mod Parity
+pub mod Xor
+pub mod Linear
+pub mod Sum
+pub mod Table
+pub mod Places
+pub mod Lists
+pub mod Updates
+pub mod Questions
