@@ -1,1 +1,3 @@
 pub mod Product
+pub mod Square
+pub mod Inverse

@@ -1,4 +1,5 @@
--- Additive maps: two that agree on the powers of two below 2^n agree below 2^n.
+-- Additive maps: two that agree on the powers of two below 2^n agree below 2^n. So a map that is linear over two values is
+-- known by n values, and those are one computed test (`below`).
 use mathlib.Core.Path.{_≡_, refl, sym, ap, ap₂, _∙_, subst}
 use mathlib.Core.Bool.{Bool, true, false, _&&_}
 use mathlib.Core.Logic.{_⊎_, inl, inr, ⊎-elim}
@@ -7,10 +8,12 @@ use native.Mathlib.Nat.{mul-comm, pow-succ', not-suc-le-zero, zero-lt-suc, div-a
 use lib.Pow.{pow-pos, pow-lt}
 use native.Mathlib.Omega.{arith}
 use native.Mathlib.Decide.{le-ind}
+use mathlib.Core.List.{List, [], _∷_}
 use lib.Arith.{lt-one}
+use lib.Bits.{bitAnd}
 use lib.Dec.{T, eqb, eqb→eq}
-use Rattle.laws.specs.Xor.{_⊕_}
-use Rattle.laws.proofs.Xor.{odd-cases, ⊕-self, ⊕-dbl, ⊕-parts, ⊕-mod}
+use Rattle.laws.specs.Xor.{_⊕_, sel}
+use Rattle.laws.proofs.Xor.{odd-cases, ⊕-self, ⊕-dbl, ⊕-parts, ⊕-mod, ⊕-shl, ⊕-shr, ⊕-swap, ⊕-half, sel-odd, and-⊕}
 
 abbrev pub Additive : (ℕ → ℕ) → Type 0
 Additive f = (a b : ℕ) → f (a ⊕ b) ≡ f a ⊕ f b
@@ -55,16 +58,38 @@ below (suc n) p t i h =
     ⊎-elim (λ (e : i ≡ n). rw e (and-l (p n) (allBelow n p) t)) (λ (k : i < n). below n p (and-r (p n) (allBelow n p) t) i k)
     (eq-or-lt-of-le (le-of-suc-le-suc h))
 
--- the same for maps that are additive on words only
-abbrev pub AdditiveWord : (ℕ → ℕ) → Type 0
-AdditiveWord f = (a b : ℕ) → a < 2 ^ 128 → b < 2 ^ 128 → f (a ⊕ b) ≡ f a ⊕ f b
+-- ---- what is made of additive maps is additive
 
-pub ext-word : (f g : ℕ → ℕ) → AdditiveWord f → AdditiveWord g → ((i : ℕ) → i < 128 → f (2 ^ i) ≡ g (2 ^ i)) → (v : ℕ) → v < 2 ^ 128 → f v ≡ g v
-ext-word f g hf hg h v l =
-    ap f (sym (mod-eq-of-lt l))
-    ∙ ext 128 (λ x. f (x % 2 ^ 128)) (λ x. g (x % 2 ^ 128)) (onLow f hf) (onLow g hg)
-    (λ i k. ap f (mod-eq-of-lt (pow-lt k)) ∙ h i k ∙ ap g (sym (mod-eq-of-lt (pow-lt k)))) v l
-    ∙ ap g (mod-eq-of-lt l)
-  where
-    onLow : (f : ℕ → ℕ) → AdditiveWord f → Additive (λ x. f (x % 2 ^ 128))
-    onLow f hf a b = ap f (⊕-mod a b 128) ∙ hf (a % 2 ^ 128) (b % 2 ^ 128) (mod-lt a (pow-pos 128)) (mod-lt b (pow-pos 128))
+pub sum-additive : (f g : ℕ → ℕ) → Additive f → Additive g → Additive (λ v. f v ⊕ g v)
+sum-additive f g hf hg a b = ap₂ _⊕_ (hf a b) (hg a b) ∙ ⊕-swap (f a) (f b) (g a) (g b)
+
+pub then-additive : (f g : ℕ → ℕ) → Additive f → Additive g → Additive (λ v. g (f v))
+then-additive f g hf hg a b = ap g (hf a b) ∙ hg (f a) (f b)
+
+pub shl-additive : (k : ℕ) → Additive (λ v. v * 2 ^ k)
+shl-additive k a b = sym (⊕-shl k a b)
+
+pub shr-additive : (k : ℕ) → Additive (λ v. v / 2 ^ k)
+shr-additive k a b = ⊕-shr a b k
+
+pub mod-additive : (k : ℕ) → Additive (λ v. v % 2 ^ k)
+mod-additive k a b = ⊕-mod a b k
+
+pub mask-additive : (m : ℕ) → Additive (λ v. bitAnd v m)
+mask-additive m a b = and-⊕ a b m
+
+-- the shift of a k-bit number, as code does it
+pub shl-mod-additive : (j k : ℕ) → Additive (λ v. v * 2 ^ j % 2 ^ k)
+shl-mod-additive j k = then-additive (λ v. v * 2 ^ j) (λ v. v % 2 ^ k) (shl-additive j) (mod-additive k)
+
+-- the additive map that takes 2^i to entry i of a list
+unfoldable pub linear : List ℕ → ℕ → ℕ
+linear [] v = 0
+linear (c ∷ cs) v = sel (v % 2) c ⊕ linear cs (v / 2)
+
+pub linear-additive : (cs : List ℕ) → Additive (linear cs)
+unfolding linear
+linear-additive [] a b = sym (⊕-self 0)
+linear-additive (c ∷ cs) a b =
+    ap₂ _⊕_ (sel-odd a b c) (ap (linear cs) (⊕-half a b) ∙ linear-additive cs (a / 2) (b / 2))
+    ∙ ⊕-swap (sel (a % 2) c) (sel (b % 2) c) (linear cs (a / 2)) (linear cs (b / 2))
