@@ -1,3 +1,5 @@
 pub mod Product
 pub mod Square
 pub mod Inverse
+pub mod LongProduct
+pub mod Words

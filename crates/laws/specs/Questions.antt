@@ -2,6 +2,7 @@
 use Prim.Native.Nat.{ℕ}
 use mathlib.Core.List.{List, [], _∷_}
 use mathlib.Core.Bool.{Bool, true, false}
+use lib.Dec.{eqb}
 
 -- a where the test holds, else b
 abbrev pub pick : {A : Type 0} → Bool → A → A → A
@@ -26,3 +27,7 @@ n asks b = record { number = n; yes? = b }
 abbrev pub firstNo : List Question → ℕ
 firstNo [] = 0
 firstNo (q ∷ qs) = pick (q .yes?) (firstNo qs) (q .number)
+
+-- what an entry leaves: x where its number is 0, done; y where it refused
+abbrev pub onDone : {A : Type 0} → ℕ → A → A → A
+onDone number x y = pick (eqb number 0) x y

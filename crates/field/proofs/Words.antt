@@ -1,0 +1,64 @@
+-- Words of a slice by their place: read, stored, counted; and the words settle the slice.
+use mathlib.Core.Path.{_≡_, refl, sym, ap, ap₂, _∙_}
+use mathlib.Core.List.{List, [], _∷_, _++_}
+use Prim.Native.Nat.{ℕ, zero, suc, _+_, _*_, _/_, _%_, _^_, _≤_, _<_}
+use native.Mathlib.Numerals.{add-one}
+use native.Mathlib.Omega.{arith}
+use lib.Arith.{digits-div, digits-mod}
+use lib.ListN.{length, getD, set, take, drop}
+use Rattle.laws.specs.Table.{at}
+use Rattle.field.specs.Words.{joined, words}
+
+two-more : (p : ℕ) → 2 * suc p ≡ suc (suc (2 * p))
+two-more p = omega arith
+
+pub at-words : (l : List ℕ) (p : ℕ) → at (words l) p ≡ joined (at l (2 * p + 1)) (at l (2 * p))
+unfolding words
+at-words [] p = refl
+at-words (a ∷ []) zero = omega arith
+at-words (a ∷ []) (suc p) = rw (two-more p, add-one)
+at-words (a ∷ b ∷ l) zero = refl
+at-words (a ∷ b ∷ l) (suc p) = rw (two-more p, add-one) (at-words l p ∙ rw add-one)
+
+pub set-words : (l : List ℕ) (p a b : ℕ) → 2 * p + 1 < length l → words (set (set l (2 * p) a) (2 * p + 1) b) ≡ set (words l) p (joined b a)
+unfolding words
+set-words [] p a b h = absurd (omega arith)
+set-words (x ∷ []) p a b h = absurd (omega arith)
+set-words (x ∷ y ∷ l) zero a b h = refl
+set-words (x ∷ y ∷ l) (suc p) a b h = rw (two-more p, add-one) (ap (λ (r : List ℕ). joined y x ∷ r) (rw add-one at (set-words l p a b (omega arith))))
+
+pub length-words : (l : List ℕ) → length (words l) ≡ (length l + 1) / 2
+unfolding words
+length-words [] = refl
+length-words (a ∷ []) = refl
+length-words (a ∷ b ∷ l) = omega (arith, length-words l)
+
+-- a slice of 2 × m halves has m words
+pub length-words-even : (l : List ℕ) (m : ℕ) → length l ≡ 2 * m → length (words l) ≡ m
+length-words-even l m h = omega (arith, length-words l)
+
+-- ---- the words settle the slice
+
+-- every half is a u64
+abbrev pub Halves : List ℕ → Type 0
+Halves l = (k : ℕ) → at l k < 2 ^ 64
+
+same-joined : (a b c d : ℕ) → b < 2 ^ 64 → d < 2 ^ 64 → joined a b ≡ joined c d → (a ≡ c) × (b ≡ d)
+same-joined a b c d hb hd e = (
+  sym (digits-div a hb) ∙ ap (λ (x : ℕ). x / 2 ^ 64) e ∙ digits-div c hd,
+  sym (digits-mod a hb) ∙ ap (λ (x : ℕ). x % 2 ^ 64) e ∙ digits-mod c hd,
+)
+
+pub words-settle : (l m : List ℕ) → length l ≡ length m → Halves l → Halves m → words l ≡ words m → l ≡ m
+unfolding words
+words-settle [] [] n hl hm e = refl
+words-settle [] (y ∷ m) n hl hm e = absurd (omega arith)
+words-settle (x ∷ l) [] n hl hm e = absurd (omega arith)
+words-settle (x ∷ []) (y ∷ []) n hl hm e = e
+words-settle (x ∷ []) (y ∷ z ∷ m) n hl hm e = absurd (omega arith)
+words-settle (x ∷ z ∷ l) (y ∷ []) n hl hm e = absurd (omega arith)
+words-settle (x ∷ a ∷ l) (y ∷ b ∷ m) n hl hm e =
+    let h = same-joined a x b y (hl 0) (hm 0) (ap (λ (r : List ℕ). at r 0) e) in
+    ap₂ (λ (u : ℕ) (r : List ℕ). u ∷ r) (h .1)
+    (ap₂ (λ (u : ℕ) (r : List ℕ). u ∷ r) (h .0)
+    (words-settle l m (omega arith) (λ k. hl (suc (suc k))) (λ k. hm (suc (suc k))) (ap (drop 1) e)))
