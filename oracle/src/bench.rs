@@ -1,0 +1,265 @@
+//! The Rust's own times, on one thread, best of several: `name<TAB>ns`.
+
+use magnetar_field::{avx, eq, gf128};
+use magnetar_hash::MerkleTree;
+use magnetar_pcs::code::{CodeParams, Codeword};
+use oracle::query::{self, Claim, Levels, Prepared};
+use oracle::Word;
+use std::hint::black_box;
+use std::time::Instant;
+
+/// A domain of 20 bytes: the default's.
+const DOMAIN: &str = "magnetar/pcs/default";
+
+/// Prints every time. A line that starts with # says how it was measured.
+pub fn run(kind: &str, large: bool) {
+    println!("# kind {kind}, one thread, best of several, ns an operation");
+    words();
+    hashes();
+    commitment(16, 1, 7);
+    commitment(18, 2, 5);
+    if large {
+        commitment(20, 4, 2);
+    }
+}
+
+/// Runs the work `rounds` times; the shortest time, over `items`.
+fn best(rounds: usize, items: usize, mut work: impl FnMut()) -> f64 {
+    let mut least = f64::INFINITY;
+    for _ in 0..rounds {
+        let start = Instant::now();
+        work();
+        least = least.min(start.elapsed().as_nanos() as f64);
+    }
+    least / items as f64
+}
+
+fn print(name: &str, ns: f64) {
+    println!("{name}\t{ns:.1}");
+}
+
+/// Words that no shortcut fits: a word times rising powers of x^64 + x^2 + 1.
+fn some_words(count: usize) -> Vec<Word> {
+    let step = Word((1 << 64) + 5);
+    let mut word = Word(0x0123_4567_89ab_cdef_0f1e_2d3c_4b5a_6978);
+    let next = |_| {
+        word = gf128::mul(word, step);
+        word
+    };
+    (0..count).map(next).collect()
+}
+
+fn words() {
+    let count = 1 << 16;
+    let (src, r) = (some_words(count), some_words(9)[8]);
+    print(
+        "mul_chain",
+        best(20, count, || {
+            black_box(src.iter().fold(r, |product, &w| gf128::mul(product, w)));
+        }),
+    );
+    let mut dst = src.clone();
+    print(
+        "mul_independent",
+        best(20, count, || {
+            for (d, &w) in dst.iter_mut().zip(&src) {
+                *d = gf128::mul(w, r);
+            }
+            black_box(&mut dst);
+        }),
+    );
+    print(
+        "mul_run_65536_a_word",
+        best(20, count, || {
+            avx::mul_run(black_box(&mut dst), &src, r, count);
+        }),
+    );
+    print(
+        "axpy_run_65536_a_word",
+        best(20, count, || {
+            avx::axpy_run(black_box(&mut dst), &src, r, count);
+        }),
+    );
+    print(
+        "inv",
+        best(20, 256, || {
+            black_box(src[..256].iter().map(|&w| gf128::inv(w).0).max());
+        }),
+    );
+    let point = &src[..20];
+    print(
+        "eq_build_20",
+        best(5, 1, || {
+            black_box(eq::EqBits::build(point));
+        }),
+    );
+    print(
+        "eq_build_fused_20",
+        best(5, 1, || {
+            black_box(eq::eq_build_fused(point));
+        }),
+    );
+    let (mut a, mut b) = (vec![Word(0); 1 << 20], vec![Word(0); 1 << 20]);
+    print(
+        "eq_build_fused_into_20",
+        best(5, 1, || {
+            eq::eq_build_fused_into(point, black_box(&mut a), &mut b);
+        }),
+    );
+}
+
+fn hashes() {
+    let bytes: Vec<u8> = (0..1usize << 24).map(|i| (i % 251) as u8).collect();
+    print(
+        "blake3_16MiB",
+        best(7, 1, || {
+            black_box(oracle::hash::blake3(&bytes));
+        }),
+    );
+    let values = some_words(1 << 13);
+    let leaves = magnetar_hash::oracle_hash_groups(DOMAIN, &values, 8);
+    print(
+        "leaf_width8_domain20",
+        best(20, leaves.len(), || {
+            black_box(magnetar_hash::oracle_hash_groups(DOMAIN, &values, 8));
+        }),
+    );
+    print(
+        "node_domain20",
+        best(20, leaves.len() / 2, || {
+            black_box(magnetar_hash::oracle_hash_nodes(DOMAIN, 0, &leaves));
+        }),
+    );
+    let many = some_words(1 << 20);
+    print(
+        "tree_2^20_width8_domain20",
+        best(3, 1, || {
+            black_box(MerkleTree::build_batched(DOMAIN, &many, 8));
+        }),
+    );
+}
+
+/// Everything at one n and k.
+fn commitment(n: usize, k: usize, rounds: usize) {
+    let name = |what: &str| format!("{what}_n{n}_k{k}");
+    let (table, challenges) = (some_words(1 << n), some_words(n));
+    let params = CodeParams::derive(n, k, DOMAIN);
+    let codeword = Codeword::encode(&params, &table);
+    print(
+        &name("encode"),
+        best(rounds, 1, || {
+            black_box(Codeword::encode(&params, &table));
+        }),
+    );
+    let domain = query::level_domain(DOMAIN, 0);
+    let width = query::fold_tree_width(codeword.values.len());
+    print(
+        &name("tree"),
+        best(rounds, 1, || {
+            black_box(MerkleTree::build_batched(&domain, &codeword.values, width));
+        }),
+    );
+    print(
+        &name("commit"),
+        best(rounds, 1, || {
+            black_box(query::commit(k, DOMAIN, &table));
+        }),
+    );
+    print(
+        &name("folds"),
+        best(rounds, 1, || {
+            black_box(fold_all(&codeword, &challenges, |_, _| ()));
+        }),
+    );
+    print(
+        &name("folds_with_trees"),
+        best(rounds, 1, || {
+            black_box(fold_all(&codeword, &challenges, build_level));
+        }),
+    );
+    if n == 16 {
+        ring(n, &table, &challenges);
+    }
+    records(n, k, &table, &challenges, &name);
+}
+
+/// Every fold at variable 0, something done with each level.
+fn fold_all(
+    codeword: &Codeword,
+    challenges: &[Word],
+    mut with: impl FnMut(usize, &[Word]),
+) -> Word {
+    let mut folded = codeword.fold(0, challenges[0]);
+    with(1, &folded.values);
+    for (i, &r) in challenges.iter().enumerate().skip(1) {
+        folded = folded.fold(0, r);
+        with(i + 1, &folded.values);
+    }
+    folded.values[0]
+}
+
+fn build_level(level: usize, values: &[Word]) {
+    let domain = query::level_domain(DOMAIN, level);
+    let width = query::fold_tree_width(values.len());
+    black_box(MerkleTree::build_batched(&domain, values, width));
+}
+
+fn ring(n: usize, table: &[Word], challenges: &[Word]) {
+    let eq = oracle::field::eq_build(challenges);
+    print(
+        &format!("partial_evals_n{n}"),
+        best(7, 1, || {
+            black_box(oracle::ring::partial_evals(&eq, table));
+        }),
+    );
+    let rb: [Word; 128] = some_words(128).try_into().expect("128 words");
+    print(
+        &format!("materialize_n{n}"),
+        best(7, 1, || {
+            black_box(oracle::ring::materialize(challenges, &rb));
+        }),
+    );
+    let point = some_words(20);
+    print(
+        "eval_at_n20",
+        best(7, 1, || {
+            black_box(oracle::ring::eval_at(&point, &rb, &point));
+        }),
+    );
+}
+
+/// One query record built, and checked by step 5 at a preset position.
+fn records(n: usize, k: usize, table: &[Word], challenges: &[Word], name: &dyn Fn(&str) -> String) {
+    let levels = Levels::of(k, DOMAIN, table, challenges);
+    let roots = levels.roots();
+    let count = 1usize << (n + k);
+    let positions: Vec<usize> = (0..64).map(|i| i * 0x9e37_79b1 % count).collect();
+    print(
+        &name("query_built"),
+        best(20, positions.len(), || {
+            for &position in &positions {
+                black_box(levels.query_unrecorded(position));
+            }
+        }),
+    );
+    let claim = Claim {
+        n,
+        k,
+        domain: DOMAIN,
+        challenges,
+        roots: &roots,
+    };
+    let queries: Vec<_> = positions
+        .iter()
+        .map(|&position| levels.query(position))
+        .collect();
+    // One proof with all of them, so that steps 1 to 4 hardly count.
+    let prepared = Prepared::of(&claim, &queries);
+    let positions: Vec<u64> = positions.iter().map(|&position| position as u64).collect();
+    print(
+        &name("query_checked"),
+        best(10, positions.len(), || {
+            assert!(prepared.accepted(&claim, &positions));
+        }),
+    );
+}
