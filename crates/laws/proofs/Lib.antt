@@ -1,3 +1,4 @@
+pub mod Numbers
 pub mod Parity
 pub mod Xor
 pub mod Linear

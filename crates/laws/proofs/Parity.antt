@@ -19,6 +19,13 @@ odd-half w = omega arith
 pub odd-bit : (w : ℕ) → (w * 2 + 1) % 2 ≡ 1
 odd-bit w = omega arith
 
+-- the place made of a half w and the low bit of v
+pub place-half : (w v : ℕ) → (w * 2 + v % 2) / 2 ≡ w
+place-half w v = omega arith
+
+pub place-bit : (w v : ℕ) → (w * 2 + v % 2) % 2 ≡ v % 2
+place-bit w v = omega arith
+
 -- `simp parity` computes halves and low bits of w * 2 and w * 2 + 1
 pub ruleset parity = (even-half, even-bit, odd-half, odd-bit)
 

@@ -5,7 +5,8 @@ use Prim.Native.Nat.{ℕ, zero, suc, _+_, _-_, _*_, _/_, _%_, _^_, _≤_, _<_}
 use native.Mathlib.Nat.{zero-add, suc-add, add-suc}
 use native.Mathlib.Omega.{arith}
 use native.Mathlib.Numerals.{add-one}
-use lib.ListN.{length, getD, take, drop, set, length-append, length-map, length-take, length-drop, take-append-drop}
+use lib.ListN.{length, replicate}
+use lib.Pow.{pow-pos}
 use Rattle.laws.specs.Table.{tab, at}
 
 pub length-tab : (m : ℕ) (f : ℕ → ℕ) → length (tab m f) ≡ m
@@ -50,3 +51,15 @@ pub map-tab : (g : ℕ → ℕ) (m : ℕ) (f : ℕ → ℕ) → map g (tab m f) 
 unfolding tab
 map-tab g zero f = refl
 map-tab g (suc m) f = ap (λ (r : List ℕ). g (f 0) ∷ r) (map-tab g m (λ k. f (suc k)))
+
+-- entries below a bound
+pub at-tab-lt : (k m : ℕ) (f : ℕ → ℕ) → ((v : ℕ) → f v < 2 ^ k) → (v : ℕ) → at (tab m f) v < 2 ^ k
+unfolding tab
+at-tab-lt k zero f h v = pow-pos k
+at-tab-lt k (suc m) f h zero = h 0
+at-tab-lt k (suc m) f h (suc v) = at-tab-lt k m (λ i. f (suc i)) (λ i. h (suc i)) v
+
+pub tab-zero : (n : ℕ) → tab n (λ i. 0) ≡ replicate n 0
+unfolding tab
+tab-zero zero = refl
+tab-zero (suc n) = ap (λ (l : List ℕ). 0 ∷ l) (tab-zero n)
