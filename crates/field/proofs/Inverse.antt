@@ -13,9 +13,77 @@ use lib.Dec.{T, eqb, eqb→eq, lit<}
 use Rattle.laws.specs.Xor.{_⊕_, sel}
 use Rattle.laws.proofs.Xor.{bit-cases, ⊕-self, ⊕-dbl, ⊕-half}
 use Rattle.laws.proofs.Linear.{Additive, at-zero, ext, allBelow, below, sum-additive, linear, linear-additive}
-use Rattle.field.specs.Field.{xtime, _⊗_, sq, frob, ladder, inverse}
+use Rattle.field.specs.Field.{reduction, xtime, _⊗_, sq, frob, ladder, inverse}
 use Rattle.field.proofs.Product.{times, times-one, times-xtime, one-⊗, ⊗-one, pow-⊗, ⊗-lt, ⊗-comm, ⊗-assoc, ⊗-left-comm, zero-⊗, ⊗-zero}
+use Rattle.field.proofs.LongProduct.{long}
 use Rattle.field.proofs.Square.{sq-lt, sq-⊕, sq-⊗, sqFast, sqFast-⊕, sq-fast, spread, reduceOnce, byReduction}
+
+-- ---- repeated squaring
+
+pub frob-sq : (n a : ℕ) → frob n (sq a) ≡ sq (frob n a)
+unfolding frob
+frob-sq zero a = refl
+frob-sq (suc n) a = frob-sq n (sq a)
+
+pub frob-⊗ : (n a b : ℕ) → frob n (a ⊗ b) ≡ frob n a ⊗ frob n b
+unfolding frob
+frob-⊗ zero a b = refl
+frob-⊗ (suc n) a b = ap (frob n) (sq-⊗ a b) ∙ frob-⊗ n (sq a) (sq b)
+
+pub frob-⊕ : (n : ℕ) → Additive (frob n)
+unfolding frob
+frob-⊕ zero a b = refl
+frob-⊕ (suc n) a b = ap (frob n) (sq-⊕ a b) ∙ frob-⊕ n (sq a) (sq b)
+
+-- m squarings, then n
+pub frob-frob : (n m a : ℕ) → frob n (frob m a) ≡ frob (m + n) a
+unfolding frob
+frob-frob n zero a = ap (λ (k : ℕ). frob k a) (let e : n ≡ 0 + n = omega arith in e)
+frob-frob n (suc m) a = frob-frob n m (sq a) ∙ ap (λ (k : ℕ). frob k a) (let e : suc (m + n) ≡ suc m + n = omega arith in e)
+
+pub frob-suc : (n a : ℕ) → frob (suc n) a ≡ frob n (sq a)
+unfolding frob
+frob-suc n a = refl
+
+pub frob-zero : (a : ℕ) → frob 0 a ≡ a
+unfolding frob
+frob-zero a = refl
+
+fast : ℕ → ℕ → ℕ
+fast zero a = a
+fast (suc n) a = fast n (sqFast a)
+
+frob-fast : (n a : ℕ) → a < 2 ^ 128 → frob n a ≡ fast n a
+unfolding fast frob
+frob-fast zero a h = refl
+frob-fast (suc n) a h = frob-fast n (sq a) (sq-lt a) ∙ ap (fast n) (sq-fast a h)
+
+-- x is what it was after 128 squarings: computed
+x-back : T (eqb (fast 128 2) 2)
+unfolding fast sqFast reduceOnce byReduction long reduction spread sel _⊕_
+x-back = tt
+
+frob-x : frob 128 2 ≡ 2
+frob-x = frob-fast 128 2 (lit< tt) ∙ eqb→eq (fast 128 2) 2 x-back
+
+frob-one : (n : ℕ) → frob n 1 ≡ 1
+unfolding frob sq
+frob-one zero = refl
+frob-one (suc n) = ap (frob n) (one-⊗ 1 (lit< tt)) ∙ frob-one n
+
+two-pow : (i : ℕ) → suc i < 128 → 2 ⊗ 2 ^ i ≡ 2 ^ suc i
+two-pow i h =
+    pow-⊗ 1 (2 ^ i) (lit< tt) (pow-lt (le-of-suc-le h))
+    ∙ ap xtime (sym (times-one i (le-of-suc-le h))) ∙ sym (times-xtime i 1) ∙ times-one (suc i) h
+
+frob-pow : (i : ℕ) → i < 128 → frob 128 (2 ^ i) ≡ 2 ^ i
+frob-pow zero h = frob-one 128
+frob-pow (suc i) h =
+    ap (frob 128) (sym (two-pow i h)) ∙ frob-⊗ 128 2 (2 ^ i) ∙ ap₂ _⊗_ frob-x (frob-pow i (le-of-suc-le h)) ∙ two-pow i h
+
+-- Fermat: every word is its own power 2^128
+pub frob-all : (a : ℕ) → a < 2 ^ 128 → frob 128 a ≡ a
+frob-all a h = ext 128 (frob 128) (λ x. x) (frob-⊕ 128) (λ a b. refl) frob-pow a h
 
 -- ---- v^2 = v only of 0 and 1
 
@@ -82,7 +150,7 @@ right : ℕ → Bool
 right i = eqb (back (2 ^ i)) (clear (2 ^ i))
 
 basis : T (allBelow 128 right)
-unfolding right back clear linear unroot sqFast reduceOnce byReduction spread sel _⊕_
+unfolding right back clear linear unroot sqFast reduceOnce byReduction long reduction spread sel _⊕_
 basis = tt
 
 pub idempotent : (v : ℕ) → v < 2 ^ 128 → sq v ≡ v → (v ≡ 0) ⊎ (v ≡ 1)
@@ -96,73 +164,6 @@ idempotent v h e = bit-cases v (low v z)
 
     low : (v : ℕ) → 2 * (v / 2) ≡ 0 → v < 2
     low v z = omega arith
-
--- ---- repeated squaring
-
-pub frob-sq : (n a : ℕ) → frob n (sq a) ≡ sq (frob n a)
-unfolding frob
-frob-sq zero a = refl
-frob-sq (suc n) a = frob-sq n (sq a)
-
-pub frob-⊗ : (n a b : ℕ) → frob n (a ⊗ b) ≡ frob n a ⊗ frob n b
-unfolding frob
-frob-⊗ zero a b = refl
-frob-⊗ (suc n) a b = ap (frob n) (sq-⊗ a b) ∙ frob-⊗ n (sq a) (sq b)
-
-pub frob-⊕ : (n : ℕ) → Additive (frob n)
-unfolding frob
-frob-⊕ zero a b = refl
-frob-⊕ (suc n) a b = ap (frob n) (sq-⊕ a b) ∙ frob-⊕ n (sq a) (sq b)
-
--- m squarings, then n
-pub frob-frob : (n m a : ℕ) → frob n (frob m a) ≡ frob (m + n) a
-unfolding frob
-frob-frob n zero a = ap (λ (k : ℕ). frob k a) (let e : n ≡ 0 + n = omega arith in e)
-frob-frob n (suc m) a = frob-frob n m (sq a) ∙ ap (λ (k : ℕ). frob k a) (let e : suc (m + n) ≡ suc m + n = omega arith in e)
-
-pub frob-suc : (n a : ℕ) → frob (suc n) a ≡ frob n (sq a)
-unfolding frob
-frob-suc n a = refl
-
-pub frob-zero : (a : ℕ) → frob 0 a ≡ a
-unfolding frob
-frob-zero a = refl
-
-fast : ℕ → ℕ → ℕ
-fast zero a = a
-fast (suc n) a = fast n (sqFast a)
-
-frob-fast : (n a : ℕ) → a < 2 ^ 128 → frob n a ≡ fast n a
-unfolding fast frob
-frob-fast zero a h = refl
-frob-fast (suc n) a h = frob-fast n (sq a) (sq-lt a) ∙ ap (fast n) (sq-fast a h)
-
--- x is what it was after 128 squarings: computed
-x-back : T (eqb (fast 128 2) 2)
-unfolding fast sqFast reduceOnce byReduction spread _⊕_
-x-back = tt
-
-frob-x : frob 128 2 ≡ 2
-frob-x = frob-fast 128 2 (lit< tt) ∙ eqb→eq (fast 128 2) 2 x-back
-
-frob-one : (n : ℕ) → frob n 1 ≡ 1
-unfolding frob sq
-frob-one zero = refl
-frob-one (suc n) = ap (frob n) (one-⊗ 1 (lit< tt)) ∙ frob-one n
-
-two-pow : (i : ℕ) → suc i < 128 → 2 ⊗ 2 ^ i ≡ 2 ^ suc i
-two-pow i h =
-    pow-⊗ 1 (2 ^ i) (lit< tt) (pow-lt (le-of-suc-le h))
-    ∙ ap xtime (sym (times-one i (le-of-suc-le h))) ∙ sym (times-xtime i 1) ∙ times-one (suc i) h
-
-frob-pow : (i : ℕ) → i < 128 → frob 128 (2 ^ i) ≡ 2 ^ i
-frob-pow zero h = frob-one 128
-frob-pow (suc i) h =
-    ap (frob 128) (sym (two-pow i h)) ∙ frob-⊗ 128 2 (2 ^ i) ∙ ap₂ _⊗_ frob-x (frob-pow i (le-of-suc-le h)) ∙ two-pow i h
-
--- Fermat: every word is its own power 2^128
-pub frob-all : (a : ℕ) → a < 2 ^ 128 → frob 128 a ≡ a
-frob-all a h = ext 128 (frob 128) (λ x. x) (frob-⊕ 128) (λ a b. refl) frob-pow a h
 
 -- ---- the ladder a^(2^n - 1)
 

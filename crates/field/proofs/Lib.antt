@@ -1,5 +1,6 @@
 pub mod Product
+pub mod LongProduct
 pub mod Square
 pub mod Inverse
-pub mod LongProduct
+pub mod Spread
 pub mod Words

@@ -9,6 +9,7 @@ use Rattle.laws.proofs.Xor.{⊕-self, ⊕-mod, ⊕-shr, ⊕-shl, ⊕-half, ⊕-
 use Rattle.laws.proofs.Linear.{Additive, ext, allBelow, below, sum-additive, shl-additive}
 use Rattle.field.specs.Field.{reduction, xtime, mulBits, _⊗_, sq}
 use Rattle.field.proofs.Product.{times, ⊗-pow, ⊗-lt, ring}
+use Rattle.field.proofs.LongProduct.{long, ⊕-long}
 
 pub sq-lt : (v : ℕ) → sq v < 2 ^ 128
 unfolding sq
@@ -31,7 +32,7 @@ spread (suc n) v = v % 2 ⊕ spread n (v / 2) * 2 ^ 2
 
 -- h times x^7 + x^2 + x + 1
 unfoldable pub byReduction : ℕ → ℕ
-byReduction h = h ⊕ (h * 2 ^ 1 ⊕ (h * 2 ^ 2 ⊕ h * 2 ^ 7))
+byReduction h = long 8 h reduction
 
 -- the bits from 128 on, taken off and added below
 unfoldable pub reduceOnce : ℕ → ℕ
@@ -50,7 +51,7 @@ spread-⊕ (suc n) a b =
 
 byReduction-⊕ : Additive byReduction
 unfolding byReduction
-byReduction-⊕ = sum-additive (λ h. h) _ (λ a b. refl) (sum-additive _ _ (shl-additive 1) (sum-additive _ _ (shl-additive 2) (shl-additive 7)))
+byReduction-⊕ a b = ⊕-long 8 a b reduction
 
 reduceOnce-⊕ : Additive reduceOnce
 unfolding reduceOnce
@@ -70,7 +71,7 @@ right : ℕ → Bool
 right i = eqb (sqFast (2 ^ i)) (times i (2 ^ i))
 
 basis : T (allBelow 128 right)
-unfolding right sqFast reduceOnce byReduction spread xtime reduction sel _⊕_
+unfolding right sqFast reduceOnce byReduction long spread xtime reduction sel _⊕_
 basis = tt
 
 pub sq-fast : (v : ℕ) → v < 2 ^ 128 → sq v ≡ sqFast v

@@ -1,6 +1,8 @@
 -- `gf128::double` meets its contract: shifted across the halves, and reduced in the low one.
+use mathlib.Core.Path.{refl}
 use native.Mathlib.Omega.{arith}
 use borrow.Author.Needs.{needs}
+use Rattle.field.specs.Field.{reduction}
 use Rattle.gf128.specs.Word.{word}
 use Rattle.gf128.proofs.Halves.{double-halves}
 use Rattle.gf128.proofs.double.Statement.{statement}
@@ -10,10 +12,10 @@ mul-t3 : tie.Need-mul-t3
 mul-t3 c = search needs
 
 returns : tie.Need-returns
-unfolding word
+unfolding word reduction
 returns c =
     let a = c .before .before .before .before .args .a in
-    double-halves (a .hi) (a .lo) (omega arith) (omega arith)
+    double-halves _ (a .hi) (a .lo) refl (omega arith) (omega arith)
 
 pub double-spec : {M : Type 1} → statement M
 double-spec = tie.close (tie.spec mul-t3 returns)
