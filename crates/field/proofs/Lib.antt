@@ -1,4 +1,5 @@
 pub mod Product
+pub mod Powers
 pub mod LongProduct
 pub mod Square
 pub mod Inverse

@@ -13,7 +13,7 @@ use Rattle.laws.specs.Xor.{_⊕_, sel}
 use Rattle.laws.proofs.Xor.{zero-⊕, ⊕-zero, ⊕-self, ⊕-dbl, ⊕-mod, ⊕-shr, ⊕-shl, ⊕-half, ⊕-swap, ⊕-lt, ⊕-assoc, ⊕-comm, ⊕-left-comm, ⊕-cancel, ⊕-parts, sel-⊕, sel-odd, sel-lt}
 use Rattle.laws.proofs.Linear.{Additive, at-zero, ext, allBelow, below}
 use Rattle.field.specs.Field.{reduction, xtime, mulBits, _⊗_}
-use Rattle.field.proofs.Product.{times, times-xtime, times-one, times-⊕, ⊗-⊕, ⊗-pow}
+use Rattle.field.proofs.Product.{times, times-xtime, times-times, times-one, times-⊕, ⊗-⊕, ⊗-pow}
 
 -- a times the polynomial of the n low bits of b, not reduced
 unfoldable pub long : ℕ → ℕ → ℕ → ℕ
@@ -150,11 +150,6 @@ red-pow zero h = unfold red _⊗_ mulBits xtime reduction sel _⊕_ in refl
 red-pow (suc m) h =
     sym (eqb→eq (xtime (red (2 ^ m))) (red (2 ^ suc m)) (below 254 right steps m (le-of-suc-le-suc h)))
     ∙ ap xtime (red-pow m (omega arith)) ∙ sym (times-xtime m 1)
-
-times-times : (i j a : ℕ) → times i (times j a) ≡ times (i + j) a
-times-times zero j a = ap (λ (n : ℕ). times n a) (sym (zero-add j))
-times-times (suc i) j a =
-    ap (times i) (sym (times-xtime j a)) ∙ times-times i j (xtime a) ∙ ap (λ (n : ℕ). times n a) (sym (suc-add i j))
 
 red-shl : (i a : ℕ) → i < 128 → a < 2 ^ 128 → times i a ≡ red (a * 2 ^ i)
 red-shl i a h l =

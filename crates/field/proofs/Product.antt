@@ -1,7 +1,7 @@
 -- The product is additive on both sides, commutative and associative, and 1 is its unit: a commutative ring of all numbers.
 use mathlib.Core.Path.{_≡_, refl, sym, ap, ap₂, _∙_}
 use Prim.Native.Nat.{ℕ, zero, suc, _+_, _*_, _/_, _%_, _^_, _<_}
-use native.Mathlib.Nat.{not-suc-le-zero, zero-lt-suc, mod-lt, le-of-suc-le-suc, pow-suc, mul-div-cancel, mul-mod-left, lt-of-lt-of-le, le-of-suc-le, mod-mod, mod-eq-of-lt, two-mul, add-mod}
+use native.Mathlib.Nat.{not-suc-le-zero, zero-lt-suc, mod-lt, le-of-suc-le-suc, pow-suc, mul-div-cancel, mul-mod-left, lt-of-lt-of-le, le-of-suc-le, mod-mod, mod-eq-of-lt, two-mul, add-mod, zero-add, suc-add}
 use native.Mathlib.Omega.{arith}
 use lib.Pow.{pow-pos, pow-mono, split, field}
 use lib.Bits.{shifted-half, shifted-even}
@@ -84,6 +84,11 @@ times (suc i) a = times i (xtime a)
 pub times-xtime : (i a : ℕ) → times i (xtime a) ≡ xtime (times i a)
 times-xtime zero a = refl
 times-xtime (suc i) a = times-xtime i (xtime a)
+
+pub times-times : (i j a : ℕ) → times i (times j a) ≡ times (i + j) a
+times-times zero j a = ap (λ (n : ℕ). times n a) (sym (zero-add j))
+times-times (suc i) j a =
+    ap (times i) (sym (times-xtime j a)) ∙ times-times i j (xtime a) ∙ ap (λ (n : ℕ). times n a) (sym (suc-add i j))
 
 pub times-⊕ : (i : ℕ) → Additive (times i)
 times-⊕ zero a b = refl

@@ -2,10 +2,11 @@
 use mathlib.Core.Path.{_≡_, refl, ap}
 use mathlib.Core.Logic.{_⊎_, inl, inr}
 use Prim.Native.Nat.{ℕ, zero, suc, _+_, _*_, _/_, _%_, _^_, _<_, _≤_}
-use native.Mathlib.Decide.{decLe}
+use native.Mathlib.Decide.{decLe, decLt}
 use native.Mathlib.Nat.{lt-of-not-le, le-of-suc-le-suc, pow-suc, not-suc-le-zero}
 use native.Mathlib.Omega.{arith}
 use lib.Count.{trailingZeros, under, ones, ones-step}
+use lib.Pow.{pow-mono}
 
 -- a number is below another, or not
 pub lt-or-le : (a b : ℕ) → (a < b) ⊎ (b ≤ a)
@@ -72,3 +73,12 @@ ones-next (suc K) n h = go ((n + 1) % 2) refl (λ (l : n / 2 + 1 < 2 ^ K). ones-
         let b : (n + 1) / 2 ≡ n / 2 = omega arith in
         let s : ones (n + 1) ≡ (n + 1) % 2 + ones (n / 2) = rw b at (ones-step (n + 1)) in
         omega (arith, ones-step n)
+
+-- ---- the exponent of a power below another
+
+pub pow-below : (k m : ℕ) → 2 ^ m < 2 ^ k → m < k
+pow-below k m h = pick (decLt m k)
+  where
+    pick : Dec (m < k) → m < k
+    pick (yes l) = l
+    pick (no l) = absurd (omega (arith, pow-mono {i = k} {j = m} (omega arith)))

@@ -4,7 +4,7 @@ use mathlib.Core.Logic.{_≢_, _⊎_, inl, inr, ⊎-elim}
 use Prim.Native.Nat.{ℕ, zero, suc, _+_, _-_, _*_, _/_, _%_, _^_, _≤_, _<_}
 use native.Mathlib.Nat.{pow-suc, div-one, mod-one}
 use native.Mathlib.Omega.{arith}
-use lib.Pow.{pow-pos}
+use lib.Pow.{pow-pos, split}
 use lib.Arith.{digits-div, digits-mod}
 use Rattle.laws.specs.Places.{ins, del, flip}
 use Rattle.laws.proofs.Parity.{parity, even-half, even-bit, odd-half, odd-bit, by-parity, low-bit, low-half, high-half, mod-double}
@@ -133,3 +133,9 @@ unfolding flip
 flip-lt zero n v h l = omega arith
 flip-lt (suc i) zero v h l = absurd (omega arith)
 flip-lt (suc i) (suc n) v h l = omega (arith, flip-lt i n (v / 2) (omega arith) (omega arith))
+
+-- the first place of pair q, as code computes it
+pub ins-first : (i q : ℕ) → ins i 0 q ≡ q + q - q % 2 ^ i
+ins-first i q =
+    let e : q / 2 ^ i * 2 ^ suc i ≡ q / 2 ^ i * 2 ^ i * 2 = rw (pow-suc 2 i) (omega arith) in
+    omega (arith, ins-closed i 0 q (omega arith), split q i)

@@ -5,9 +5,10 @@ use Prim.Native.Nat.{ℕ, zero, suc, _+_, _-_, _*_, _/_, _%_, _^_, _≤_, _<_}
 use native.Mathlib.Nat.{zero-add, suc-add, add-suc}
 use native.Mathlib.Omega.{arith}
 use native.Mathlib.Numerals.{add-one}
-use lib.ListN.{length, replicate}
+use lib.ListN.{length, replicate, take}
 use lib.Pow.{pow-pos}
 use Rattle.laws.specs.Table.{tab, at}
+use lib.Seq.{getD-take, length-take-le}
 
 pub length-tab : (m : ℕ) (f : ℕ → ℕ) → length (tab m f) ≡ m
 unfolding tab
@@ -63,3 +64,11 @@ pub tab-zero : (n : ℕ) → tab n (λ i. 0) ≡ replicate n 0
 unfolding tab
 tab-zero zero = refl
 tab-zero (suc n) = ap (λ (l : List ℕ). 0 ∷ l) (tab-zero n)
+
+-- ---- lists as tables
+
+pub map-at : (f : ℕ → ℕ) (l : List ℕ) → map f l ≡ tab (length l) (λ v. f (at l v))
+map-at f l = ap (map f) (sym (tab-at l)) ∙ map-tab f (length l) (at l)
+
+pub take-tab : (n : ℕ) (l : List ℕ) → n ≤ length l → take n l ≡ tab n (at l)
+take-tab n l h = is-tab (take n l) n (at l) (length-take-le n l h) (λ v k. getD-take n l v 0 k)

@@ -3,12 +3,13 @@ use mathlib.Core.Path.{_≡_, refl, sym, ap, ap₂, _∙_, subst}
 use mathlib.Core.Logic.{_⊎_, inl, inr, ⊎-elim}
 use mathlib.Core.List.{List, [], _∷_, map}
 use Prim.Native.Nat.{ℕ, zero, suc, _+_, _-_, _*_, _≤_, _<_}
-use native.Mathlib.Nat.{le-of-suc-le-suc, not-suc-le-zero, eq-or-lt-of-le}
+use native.Mathlib.Nat.{le-of-suc-le-suc, not-suc-le-zero, eq-or-lt-of-le, le-refl}
 use native.Mathlib.Omega.{arith}
 use lib.ListN.{length, getD, set}
 use lib.Seq.{getD-set-same, getD-set-other}
 use Rattle.laws.specs.Table.{tab, at}
 use Rattle.laws.proofs.Table.{tab-ext}
+use native.Mathlib.Numerals.{add-one}
 
 -- ---- the first i elements changed, each by a function of its index and of what stood there
 unfoldable pub updated : ℕ → (ℕ → ℕ → ℕ) → List ℕ → List ℕ
@@ -45,6 +46,15 @@ updated-all zero g [] h = refl
 updated-all zero g (x ∷ xs) h = absurd (not-suc-le-zero h)
 updated-all (suc i) g [] h = refl
 updated-all (suc i) g (x ∷ xs) h = ap (λ (r : List ℕ). g 0 x ∷ r) (updated-all i (λ k. g (suc k)) xs (le-of-suc-le-suc h))
+
+-- what a turn reads ahead is as it was
+pub updated-read : (v : ℕ) (g : ℕ → ℕ → ℕ) (xs ys : List ℕ) → ys ≡ updated v g xs → at ys v ≡ at xs v
+updated-read v g xs ys e = ap (λ l. at l v) e ∙ updated-at v v g xs 0 (le-refl v)
+
+-- and what it writes
+pub updated-turn : (v : ℕ) (g : ℕ → ℕ → ℕ) (xs ys : List ℕ) (p : ℕ) → ys ≡ updated v g xs → p ≡ g v (at xs v)
+    → set ys v p ≡ updated (v + 1) g xs
+updated-turn v g xs ys p e f = ap₂ (λ l x. set l v x) e f ∙ updated-more v g xs 0 ∙ ap (λ n. updated n g xs) (sym (add-one v))
 
 -- ---- a list filled from the front by f
 
