@@ -6,5 +6,6 @@ pub mod Sum
 pub mod Table
 pub mod Places
 pub mod Lists
+pub mod Bytes
 pub mod Updates
 pub mod Questions

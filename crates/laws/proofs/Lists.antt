@@ -73,6 +73,25 @@ unfolding flat
 length-flat n [] h = omega arith
 length-flat n (x ∷ xs) h = rw (length-append x (flat xs), length-flat n xs (h .1), h .0) (omega arith)
 
+pub getD-long : (n k : ℕ) (xs : List (List ℕ)) → AllLong n xs → k < length xs → length (getD xs k []) ≡ n
+getD-long n k [] a h = absurd (omega arith)
+getD-long n zero (x ∷ xs) a h = a .0
+getD-long n (suc k) (x ∷ xs) a h = getD-long n k xs (a .1) (omega arith)
+
+pub append-long : (n : ℕ) (xs ys : List (List ℕ)) → AllLong n xs → AllLong n ys → AllLong n (xs ++ ys)
+append-long n [] ys a b = b
+append-long n (x ∷ xs) ys a b = (a .0, append-long n xs ys (a .1) b)
+
+pub drop-long : (n k : ℕ) (xs : List (List ℕ)) → AllLong n xs → AllLong n (drop k xs)
+drop-long n zero xs a = a
+drop-long n (suc k) [] a = tt
+drop-long n (suc k) (x ∷ xs) a = drop-long n k xs (a .1)
+
+pub runs-long : (n c : ℕ) (l : List ℕ) → n * c ≤ length l → AllLong n (runs n c l)
+unfolding runs
+runs-long n zero l h = tt
+runs-long n (suc c) l h = (length-take-le n l (omega arith), runs-long n c (drop n l) (simp length-drop (omega arith)))
+
 -- ---- stores
 
 pub length-stored : (l : List ℕ) (at : ℕ) (bs : List ℕ) → length (stored l at bs) ≡ length l

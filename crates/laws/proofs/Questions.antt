@@ -4,9 +4,12 @@ use mathlib.Core.Path.{_≡_, refl, sym, _∙_}
 use mathlib.Core.Bool.{Bool, true, false, not}
 use mathlib.Core.List.{List, [], _∷_, _++_}
 use native.Mathlib.Omega.{arith}
-use borrow.Author.Tests.{le-ltb, le-leb, lt-leb, eq-eqb, ne-eqb, not-true, not-false}
+use borrow.Author.Tests.{le-ltb, le-leb, lt-leb, eq-eqb, ne-eqb, eqb-false, not-true, not-false}
+use mathlib.Core.Logic.{_⊎_, inl, inr}
 use lib.Dec.{T, leb, ltb, eqb}
-use Rattle.laws.specs.Questions.{pick, Question, firstNo}
+use Rattle.laws.specs.Questions.{pick, both, Question, firstNo}
+use Rattle.laws.specs.Lists.{same}
+use Rattle.laws.proofs.Lists.{same-refl}
 
 -- the questions, one after the other, applied backwards
 module _ {A : Type 0} (r x y : A) where
@@ -82,3 +85,60 @@ firstNo-append (q ∷ xs) ys t = go (q .yes?) (eqb (q .number) 0) refl t (firstN
     go true false e u ih = ih u
     go false true e u ih = absurd u
     go false false e u ih = rw e
+
+-- where each question says yes, none says no
+pub yes-all : (qs : List Question) → AllYes qs → firstNo qs ≡ 0
+yes-all [] h = refl
+yes-all (q ∷ qs) h = rw (h .0) (yes-all qs (h .1))
+
+-- all of a list in two parts
+pub yes-append : (xs ys : List Question) → AllYes xs → AllYes ys → AllYes (xs ++ ys)
+yes-append [] ys h k = k
+yes-append (x ∷ xs) ys h k = (h .0, yes-append xs ys (h .1) k)
+
+pub append-yes : (xs ys : List Question) → AllYes (xs ++ ys) → AllYes xs × AllYes ys
+append-yes [] ys h = (tt, h)
+append-yes (x ∷ xs) ys h = let r = append-yes xs ys (h .1) in ((h .0, r .0), r .1)
+
+-- P where the test holds
+abbrev pub Where : Bool → Type 0 → Type 0
+Where true P = P
+Where false P = Unit
+
+-- every question of number m says yes
+abbrev pub YesAt : ℕ → List Question → Type 0
+YesAt m [] = Unit
+YesAt m (q ∷ qs) = Where (eqb (q .number) m) (q .yes? ≡ true) × YesAt m qs
+
+-- then m is not the answer
+pub never-no : (m : ℕ) (qs : List Question) → (m ≡ 0 → ⊥) → YesAt m qs → firstNo qs ≡ m → ⊥
+never-no m [] z h e = z (sym e)
+never-no m (q ∷ qs) z h e = go (q .yes?) (eqb (q .number) m) refl refl (h .0) e (never-no m qs z (h .1))
+  where
+    go : (b t : Bool) → q .yes? ≡ b → eqb (q .number) m ≡ t → Where t (q .yes? ≡ true) → pick b (firstNo qs) (q .number) ≡ m → (firstNo qs ≡ m → ⊥) → ⊥
+    go true t x y u f rest = rest f
+    go false true x y u f rest = let w : _≡_ {A = ℕ} 0 1 = cc in omega arith
+    go false false x y u f rest = eqb-false (q .number) m y f
+
+-- ---- tests that hold
+
+pub true-both : (a b : Bool) → a ≡ true → b ≡ true → both a b ≡ true
+true-both a b e f = rw (e, f)
+
+pub same-yes : (a b : List ℕ) → a ≡ b → same a b ≡ true
+same-yes a b e = rw e (same-refl b)
+
+-- ---- questions that all have one number
+
+abbrev pub AllNumbered : ℕ → List Question → Type 0
+AllNumbered v [] = Unit
+AllNumbered v (q ∷ qs) = (q .number ≡ v) × AllNumbered v qs
+
+-- the first 'no' among them gives that number
+pub one-number : (v : ℕ) (qs : List Question) → AllNumbered v qs → (firstNo qs ≡ 0) ⊎ (firstNo qs ≡ v)
+one-number v [] h = inl refl
+one-number v (q ∷ qs) h = go (q .yes?) (one-number v qs (h .1))
+  where
+    go : (b : Bool) → (firstNo qs ≡ 0) ⊎ (firstNo qs ≡ v) → (pick b (firstNo qs) (q .number) ≡ 0) ⊎ (pick b (firstNo qs) (q .number) ≡ v)
+    go true e = e
+    go false e = inr (h .0)

@@ -1,0 +1,4 @@
+pub mod Compression
+pub mod Words
+pub mod Tree
+pub mod Stack

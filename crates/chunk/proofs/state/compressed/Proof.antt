@@ -1,0 +1,56 @@
+use mathlib.Core.Path.{_∙_}
+use native.Mathlib.Omega.{arith}
+use Rattle.node.proofs.Laws.{block-whole}
+use Rattle.chunk.proofs.Chunk.{next-law}
+use Rattle.chunk.proofs.Feed.{block-length, compressed-law}
+use borrow.Author.Needs.{needs}
+use Rattle.chunk.proofs.state.compressed.Statement.{statement}
+use Rattle.chunk.proofs.state.compressed.Tie as tie
+use Rattle.chunk.proofs.state.compressed.Reads as reads
+use Rattle.chunk.proofs.state.compressed.Lts as lts
+use Rattle.compress.proofs.compress.Reads as compress-reads
+use Rattle.node.proofs.first_eight.Reads as first-eight-reads
+use Rattle.node.proofs.start_flag.Reads as start-flag-reads
+use Rattle.node.proofs.words_at.Reads as words-at-reads
+
+-- src/state.rt:55:22
+slice-aggregate-words-at : tie.Need-slice-aggregate-words-at
+slice-aggregate-words-at c = search needs
+
+-- src/state.rt:55:9
+words-at-requires : tie.Need-words-at-requires
+words-at-requires c κs = omega (arith, block-length (c .before .before .before .args .s) _ (c .before .before .before .good .0))
+
+-- src/state.rt:56:9
+start-flag-requires : tie.Need-start-flag-requires
+start-flag-requires c κs = search needs
+
+-- src/state.rt:57:9
+compress-requires : tie.Need-compress-requires
+compress-requires c κs = search needs
+
+-- src/state.rt:58:9
+first-eight-requires : tie.Need-first-eight-requires
+first-eight-requires c κs = search needs
+
+-- src/state.rt:61:17
+add-t11 : tie.Need-add-t11
+add-t11 c = search needs
+
+-- src/state.rt:49:1
+returns : tie.Need-returns
+returns c =
+    let s = c .before .before .before .before .before .before .before .before .before .args .s in
+    compressed-law s (next-law (s .flags) (s .counter) (s .h) _ (s .block) _ _ _ _ (c .before .before .before .before .before .words-at .ensures ∙ block-whole (s .block)) (c .before .before .before .before .start-flag .ensures) (c .before .before .compress .ensures) (c .before .first-eight .ensures))
+
+pub compressed-spec : {M : Type 1} → statement M
+compressed-spec =
+    tie.close
+    (tie.spec
+    slice-aggregate-words-at
+    words-at-requires
+    start-flag-requires
+    compress-requires
+    first-eight-requires
+    add-t11
+    returns)

@@ -1,0 +1,4 @@
+pub mod Ready
+pub mod OneCall
+pub mod Absorb
+pub mod Sequence

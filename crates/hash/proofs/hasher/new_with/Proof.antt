@@ -1,0 +1,14 @@
+use mathlib.Core.Path.{refl}
+use Rattle.hash.specs.Hasher as S
+use Rattle.hash.proofs.hasher.new_with.Statement.{statement}
+use Rattle.hash.proofs.hasher.new_with.Tie as tie
+use Rattle.hash.proofs.hasher.new_with.Reads as reads
+use Rattle.hash.proofs.hasher.new_with.Lts as lts
+
+-- src/hasher.rt:38:1
+returns : tie.Need-returns
+unfolding S.newOf
+returns c = refl
+
+pub new-with-spec : {M : Type 1} → statement M
+new-with-spec = tie.close (tie.spec returns)

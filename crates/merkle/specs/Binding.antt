@@ -1,0 +1,41 @@
+-- The messages that are hashed on the way from a group to the root, and the two of them, nearest the root, in which two ways differ.
+use Prim.Native.Nat.{ℕ, suc, _/_}
+use mathlib.Core.List.{List, [], _∷_}
+use Rattle.laws.specs.Questions.{pick}
+use Rattle.laws.specs.Lists.{same}
+use Rattle.merkle.specs.Message.{leafMessage, nodeMessage}
+use Rattle.merkle.specs.Tree.{groupOf, left, right}
+
+-- what a comparison finds: two messages that differ, or none
+pub data Found : Type 0 where
+  none : Found
+  pair : List ℕ → List ℕ → Found
+
+-- the first, or else the second
+abbrev pub orElse : Found → Found → Found
+orElse none f = f
+orElse (pair m m′) f = pair m m′
+
+-- two messages if they differ
+unfoldable pub differing : List ℕ → List ℕ → Found
+differing m m′ = pick (same m m′) none (pair m m′)
+
+-- the last place at which two lists of messages differ
+unfoldable pub lastDiffering : List (List ℕ) → List (List ℕ) → Found
+lastDiffering [] ms′ = none
+lastDiffering (m ∷ ms) [] = none
+lastDiffering (m ∷ ms) (m′ ∷ ms′) = orElse (lastDiffering ms ms′) (differing m m′)
+
+module _ (H : List ℕ → List ℕ) (domain : List ℕ) where
+  -- the message m, whose digest is number g of its level, and the messages on its way along a path, the root's last
+  unfoldable pub messages : ℕ → ℕ → List ℕ → List (List ℕ) → List (List ℕ)
+  messages level g m [] = m ∷ []
+  messages level g m (s ∷ ss) = m ∷ messages (suc level) (g / 2) (nodeMessage domain level (left g (H m) s) (right g (H m) s)) ss
+
+  -- the messages from the group of a place to the root
+  unfoldable pub messagesOf : ℕ → ℕ → ℕ → List ℕ → List (List ℕ) → List (List ℕ)
+  messagesOf count width place values ss = messages 0 (groupOf place width) (leafMessage domain count width (groupOf place width) values) ss
+
+  -- the messages, nearest the root, in which two (group, path) pairs for one place differ
+  unfoldable pub collision : ℕ → ℕ → ℕ → List ℕ → List (List ℕ) → List ℕ → List (List ℕ) → Found
+  collision count width place values ss values′ ss′ = lastDiffering (messagesOf count width place values ss) (messagesOf count width place values′ ss′)

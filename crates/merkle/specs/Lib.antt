@@ -1,0 +1,5 @@
+pub mod Message
+pub mod Tree
+pub mod Shape
+pub mod Binding
+pub mod Questions

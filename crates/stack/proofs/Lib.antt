@@ -1,0 +1,2 @@
+pub mod Array
+pub mod Tower
