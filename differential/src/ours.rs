@@ -19,7 +19,7 @@ struct Pair {
 /// A number, and a word that is 0 where the number is not.
 #[repr(C)]
 struct Answer {
-    number: u64,
+    number: u32,
     word: Pair,
 }
 
@@ -44,7 +44,7 @@ extern "C" {
         bytes_length: usize,
         out: *mut u64,
         out_length: usize,
-    ) -> u64;
+    ) -> u32;
     fn dequmlo_test_phi_c(p: Pair, c: Coefficients) -> Pair;
     fn dequmlo_test_phi_tab(p: Pair, c: Coefficients) -> Pair;
     fn dequmlo_test_eq_coefficients(r: Point7) -> Coefficients;
@@ -54,7 +54,7 @@ extern "C" {
         point_length: usize,
         out: *mut u64,
         out_length: usize,
-    ) -> u64;
+    ) -> u32;
     /// s = r × s.
     fn dequmlo_test_scale(s: *mut u64, s_length: usize, r: Pair);
     /// y += r × x, the two of one length.
@@ -88,7 +88,7 @@ fn square(a: Word) -> Word {
 fn inv(a: Word) -> (u64, Word) {
     // SAFETY: a word by value; nothing is lent.
     let answer = unsafe { dequmlo_test_inv(pair(a)) };
-    (answer.number, word(answer.word))
+    (u64::from(answer.number), word(answer.word))
 }
 
 fn pack_table(bytes: &[u8]) -> (u64, Vec<Word>) {
@@ -97,7 +97,7 @@ fn pack_table(bytes: &[u8]) -> (u64, Vec<Word>) {
     let number = unsafe {
         dequmlo_test_pack_table(bytes.as_ptr(), bytes.len(), out.as_mut_ptr(), out.len())
     };
-    (number, raised(&out))
+    (u64::from(number), raised(&out))
 }
 
 fn phi_c(p: Word, c: &[Word; 128]) -> Word {
@@ -131,7 +131,7 @@ fn eq_table(point: &[Word]) -> (u64, Vec<Word>) {
             out.len(),
         )
     };
-    (number, raised(&out))
+    (u64::from(number), raised(&out))
 }
 
 fn mul_run(src: &[Word], r: Word) -> Vec<Word> {

@@ -1,12 +1,14 @@
 -- Words of a slice by their place: read, stored, counted; and the words settle the slice.
-use mathlib.Core.Path.{_≡_, refl, sym, ap, ap₂, _∙_}
+use mathlib.Core.Path.{_≡_, refl, sym, ap, ap₂, _∙_, subst}
 use mathlib.Core.List.{List, [], _∷_, _++_}
 use Prim.Native.Nat.{ℕ, zero, suc, _+_, _*_, _/_, _%_, _^_, _≤_, _<_}
 use native.Mathlib.Numerals.{add-one}
 use native.Mathlib.Omega.{arith}
 use lib.Arith.{digits-div, digits-mod}
 use lib.ListN.{length, getD, set, take, drop}
-use Rattle.laws.specs.Table.{at}
+use Rattle.laws.specs.Table.{tab, at}
+use Rattle.laws.proofs.Table.{is-tab}
+use Rattle.laws.proofs.Updates.{fill-step}
 use Rattle.field.specs.Words.{joined, words}
 
 two-more : (p : ℕ) → 2 * suc p ≡ suc (suc (2 * p))
@@ -62,3 +64,19 @@ words-settle (x ∷ a ∷ l) (y ∷ b ∷ m) n hl hm e =
     ap₂ (λ (u : ℕ) (r : List ℕ). u ∷ r) (h .1)
     (ap₂ (λ (u : ℕ) (r : List ℕ). u ∷ r) (h .0)
     (words-settle l m (omega arith) (λ k. hl (suc (suc k))) (λ k. hm (suc (suc k))) (ap (drop 1) e)))
+
+-- ---- a slice of words that a loop fills from the front, a word a turn
+
+-- the first i words are those of f
+abbrev pub Filled : (ℕ → ℕ) → ℕ → List ℕ → Type 0
+Filled f i l = (k : ℕ) → k < i → at (words l) k ≡ f k
+
+-- a turn
+pub filled-more : (f : ℕ → ℕ) (i w : ℕ) (l l′ : List ℕ) → 2 * i + 1 < length l → words l′ ≡ set (words l) i w → w ≡ f i → Filled f i l
+    → Filled f (i + 1) l′
+filled-more f i w l l′ h e g p =
+    subst (λ (ws : List ℕ). (k : ℕ) → k < i + 1 → at ws k ≡ f k) (sym e) (fill-step f i (words l) w (omega (arith, length-words l)) g p)
+
+-- after the last turn
+pub filled-all : (f : ℕ → ℕ) (i m : ℕ) (l : List ℕ) → length l ≡ 2 * m → m ≤ i → Filled f i l → words l ≡ tab m f
+filled-all f i m l h k p = is-tab (words l) m f (length-words-even l m h) (λ v j. p v (omega arith))

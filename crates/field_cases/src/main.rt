@@ -1,18 +1,26 @@
 // Runs the field against expected results, a file of data/ for each group and a line for each case. tools/field_vectors.py made
-// them by schoolbook arithmetic on polynomials and Euclid's algorithm, apart from the code. It prints a line for each group, and
+// them by schoolbook arithmetic on polynomials, Euclid's algorithm and the rules of document 01, apart from the code. It prints a line for each group, and
 // one for each case that comes out differently.
 ghost use Prim.Native.Nat.{_<_, _≤_};
 ghost use lib.ListN.{length};
 
+mod coefficients;
 mod inverses;
+mod packings;
+mod phis;
 mod products;
 mod squares;
+mod tables;
 mod words;
 
 enum Group {
     Products,
     Squares,
     Inverses,
+    Packings,
+    Phis,
+    Coefficients,
+    Tables,
 }
 
 fn open(group: Group) -> i32 {
@@ -20,6 +28,10 @@ fn open(group: Group) -> i32 {
         Group::Products => os::open_read(b"products"),
         Group::Squares => os::open_read(b"squares"),
         Group::Inverses => os::open_read(b"inverses"),
+        Group::Packings => os::open_read(b"packings"),
+        Group::Phis => os::open_read(b"phis"),
+        Group::Coefficients => os::open_read(b"coefficients"),
+        Group::Tables => os::open_read(b"tables"),
     }
 }
 
@@ -28,17 +40,25 @@ fn with_name(line: text::Line, group: Group) -> text::Line {
         Group::Products => text::with_text(line, b"products"),
         Group::Squares => text::with_text(line, b"squares"),
         Group::Inverses => text::with_text(line, b"inverses"),
+        Group::Packings => text::with_text(line, b"packings"),
+        Group::Phis => text::with_text(line, b"phis"),
+        Group::Coefficients => text::with_text(line, b"coefficients"),
+        Group::Tables => text::with_text(line, b"equality tables"),
     }
 }
 
 // The bytes of a line of the group's file.
 fn width(group: Group) -> usize
-    ensures { λ r. ⌜ (1 ≤ r) × (r ≤ 99) ⌝ }
+    ensures { λ r. ⌜ (1 ≤ r) × (r ≤ 1024) ⌝ }
 {
     match group {
         Group::Products => products::WIDTH,
         Group::Squares => squares::WIDTH,
         Group::Inverses => inverses::WIDTH,
+        Group::Packings => packings::WIDTH,
+        Group::Phis => phis::WIDTH,
+        Group::Coefficients => coefficients::WIDTH,
+        Group::Tables => tables::WIDTH,
     }
 }
 
@@ -50,6 +70,10 @@ fn is_right(group: Group, cases: &[u8], from: usize) -> bool
         Group::Products => products::is_right(cases, from),
         Group::Squares => squares::is_right(cases, from),
         Group::Inverses => inverses::is_right(cases, from),
+        Group::Packings => packings::is_right(cases, from),
+        Group::Phis => phis::is_right(cases, from),
+        Group::Coefficients => coefficients::is_right(cases, from),
+        Group::Tables => tables::is_right(cases, from),
     }
 }
 
@@ -93,4 +117,8 @@ fn main() {
     run(Group::Products);
     run(Group::Squares);
     run(Group::Inverses);
+    run(Group::Packings);
+    run(Group::Phis);
+    run(Group::Coefficients);
+    run(Group::Tables);
 }

@@ -3,6 +3,7 @@ pub mod Parity
 pub mod Xor
 pub mod Linear
 pub mod Sum
+pub mod Windows
 pub mod Table
 pub mod Places
 pub mod Lists

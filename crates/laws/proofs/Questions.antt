@@ -47,6 +47,16 @@ zero-said q v f h = sym h ∙ f
 
 pub ruleset asks = (zero-said, yes-le, no-le, no-lt, yes-eq, no-eq, yes-said, no-said, yes-zero, no-zero)
 
+-- a question that compares a number with one that a function gave: `search (asks, asks-given)`
+module _ {A : Type 0} (r x y : A) where
+  pub yes-eq-given : (a b q : ℕ) → q ≡ b → a ≡ q → r ≡ x → r ≡ pick (eqb a b) x y
+  yes-eq-given a b q f h e = yes-eq r x y a b (h ∙ f) e
+
+  pub no-eq-given : (a b q : ℕ) → q ≡ b → (a ≡ q → ⊥) → r ≡ y → r ≡ pick (eqb a b) x y
+  no-eq-given a b q f h e = no-eq r x y a b (λ z. h (z ∙ sym f)) e
+
+pub ruleset asks-given = (yes-eq-given, no-eq-given)
+
 -- where no question said no, each said yes
 abbrev pub Numbered : List Question → Bool
 Numbered [] = true
