@@ -5,7 +5,7 @@ use Prim.Native.Nat.{ℕ, zero, suc, _+_, _*_, _/_, _%_, _^_, _≤_, _<_}
 use native.Mathlib.Numerals.{add-one}
 use native.Mathlib.Omega.{arith}
 use lib.Arith.{digits-div, digits-mod}
-use lib.ListN.{length, getD, set, take, drop}
+use lib.ListN.{length, getD, set, take, drop, replicate}
 use Rattle.laws.specs.Table.{tab, at}
 use Rattle.laws.proofs.Table.{is-tab}
 use Rattle.laws.proofs.Updates.{fill-step}
@@ -38,6 +38,15 @@ length-words (a ∷ b ∷ l) = omega (arith, length-words l)
 -- a slice of 2 × m halves has m words
 pub length-words-even : (l : List ℕ) (m : ℕ) → length l ≡ 2 * m → length (words l) ≡ m
 length-words-even l m h = omega (arith, length-words l)
+
+-- words of a slice of zeros
+zeros-at : (n k : ℕ) → at (replicate n 0) k ≡ 0
+zeros-at zero k = refl
+zeros-at (suc n) zero = refl
+zeros-at (suc n) (suc k) = zeros-at n k
+
+pub at-zeros : (n k : ℕ) → at (words (replicate n 0)) k ≡ 0
+at-zeros n k = at-words (replicate n 0) k ∙ ap₂ (λ h l. joined h l) (zeros-at n (2 * k + 1)) (zeros-at n (2 * k))
 
 -- ---- the words settle the slice
 

@@ -7,7 +7,7 @@ use native.Mathlib.Omega.{arith}
 use borrow.Author.Tests.{le-ltb, le-leb, lt-leb, eq-eqb, ne-eqb, eqb-false, not-true, not-false}
 use mathlib.Core.Logic.{_⊎_, inl, inr}
 use lib.Dec.{T, leb, ltb, eqb}
-use Rattle.laws.specs.Questions.{pick, both, Question, firstNo}
+use Rattle.laws.specs.Questions.{pick, both, Question, firstNo, onDone}
 use Rattle.laws.specs.Lists.{same}
 use Rattle.laws.proofs.Lists.{same-refl}
 
@@ -152,3 +152,7 @@ one-number v (q ∷ qs) h = go (q .yes?) (one-number v qs (h .1))
     go : (b : Bool) → (firstNo qs ≡ 0) ⊎ (firstNo qs ≡ v) → (pick b (firstNo qs) (q .number) ≡ 0) ⊎ (pick b (firstNo qs) (q .number) ≡ v)
     go true e = e
     go false e = inr (h .0)
+
+-- where an entry refused
+pub on-refused : {A : Type 0} (q : ℕ) (x y : A) → (q ≡ 0 → ⊥) → onDone q x y ≡ y
+on-refused q x y h = rw (ne-eqb q 0 h)

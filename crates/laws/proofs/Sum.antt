@@ -9,7 +9,7 @@ use lib.Pow.{pow-pos, pow-lt, mod-pow-add}
 use Rattle.laws.specs.Xor.{_⊕_, bit, sel}
 use Rattle.laws.specs.Sum.{sum}
 use Rattle.laws.proofs.Parity.{bit-same, bit-other}
-use Rattle.laws.proofs.Xor.{zero-⊕, ⊕-zero, ⊕-self, ⊕-assoc, ⊕-comm, ⊕-swap, ⊕-lt, ⊕-bit, ⊕-parts, sel-zero, sel-⊕}
+use Rattle.laws.proofs.Xor.{zero-⊕, ⊕-zero, ⊕-self, ⊕-assoc, ⊕-comm, ⊕-swap, ⊕-lt, ⊕-bit, ⊕-parts, sel-zero, sel-⊕, ⊕-cancel}
 
 pub sum-ext : (m : ℕ) {f g : ℕ → ℕ} → ((v : ℕ) → v < m → f v ≡ g v) → sum m f ≡ sum m g
 unfolding sum
@@ -76,6 +76,12 @@ sum-at (suc m) b f h z =
     (λ e. ap₂ _⊕_ (sum-none m f (λ j k. z j (omega arith))) (ap f (sym e)) ∙ zero-⊕ (f b))
     (λ l. ap₂ _⊕_ (sum-at m b f l z) (z m (omega arith)) ∙ ⊕-zero (f b))
     (eq-or-lt-of-le {n = b} {m = m} (omega arith))
+
+-- a sum of which only term x differs
+pub sum-changed : (m x : ℕ) (f g : ℕ → ℕ) → x < m → ((y : ℕ) → y ≢ x → f y ≡ g y) → sum m g ≡ sum m f ⊕ (f x ⊕ g x)
+sum-changed m x f g h e =
+    sym (⊕-cancel (sum m f) (sum m g))
+    ∙ ap (λ s. sum m f ⊕ s) (sym (sum-⊕ m f g) ∙ sum-at m x (λ y. f y ⊕ g y) h (λ y a. ap (λ z. z ⊕ g y) (e y a) ∙ ⊕-self (g y)))
 
 pub sum-lt : (m k : ℕ) (f : ℕ → ℕ) → ((v : ℕ) → f v < 2 ^ k) → sum m f < 2 ^ k
 unfolding sum

@@ -47,6 +47,9 @@ updated-all zero g (x ∷ xs) h = absurd (not-suc-le-zero h)
 updated-all (suc i) g [] h = refl
 updated-all (suc i) g (x ∷ xs) h = ap (λ (r : List ℕ). g 0 x ∷ r) (updated-all i (λ k. g (suc k)) xs (le-of-suc-le-suc h))
 
+pub updated-end : (g : ℕ → ℕ → ℕ) (k n : ℕ) (xs us : List ℕ) → length xs ≡ n → n ≤ k → us ≡ updated k g xs → us ≡ tab n (λ i. g i (at xs i))
+updated-end g k n xs us l h p = p ∙ updated-all k g xs (omega arith) ∙ ap (λ m. tab m (λ i. g i (at xs i))) l
+
 -- what a turn reads ahead is as it was
 pub updated-read : (v : ℕ) (g : ℕ → ℕ → ℕ) (xs ys : List ℕ) → ys ≡ updated v g xs → at ys v ≡ at xs v
 updated-read v g xs ys e = ap (λ l. at l v) e ∙ updated-at v v g xs 0 (le-refl v)

@@ -13,3 +13,4 @@ pub mod FoldLoop
 pub mod Phi
 pub mod Partials
 pub mod Tensor
+pub mod Indicator

@@ -1,5 +1,5 @@
 -- Bits and nibbles of a word by its halves, a value chosen by a bit, and phi by tables of nibbles. Rests on the windows of an additive
--- map (ForLaws) and on phi's laws in `multilinear`.
+-- map (laws, Windows) and on phi's laws in `multilinear`.
 use mathlib.Core.Path.{_≡_, refl, sym, ap, ap₂, _∙_}
 use mathlib.Core.List.{List}
 use Prim.Native.Nat.{ℕ, zero, suc, _+_, _-_, _*_, _/_, _%_, _^_, _≤_, _<_}

@@ -1,0 +1,3 @@
+pub mod Materialized
+pub mod Steps
+pub mod Sizes
