@@ -17,6 +17,18 @@ answer dequmlo_test_inv(word a);
 void dequmlo_test_scale(uint64_t *s, size_t length, word r);
 uint32_t dequmlo_test_eq_table(size_t n, const uint64_t *point, size_t point_length, uint64_t *out, size_t out_length);
 
+typedef struct {
+    uint32_t number;
+    uint8_t bytes[32];
+} digested;
+
+typedef struct {
+    uint8_t bytes[4][32];
+} four_digests;
+
+digested dequmlo_test_digest(const uint8_t *input, size_t length);
+four_digests dequmlo_test_four(const uint8_t *s0, size_t n0, const uint8_t *s1, size_t n1, const uint8_t *s2, size_t n2, const uint8_t *s3, size_t n3);
+
 enum { ROUNDS = 7 };
 
 static double now(void) {
@@ -120,9 +132,63 @@ static void equality(void) {
     free(t);
 }
 
+static uint8_t *bytes(size_t n) {
+    uint8_t *s = malloc(n);
+    if (!s) exit(2);
+    for (size_t i = 0; i < n; i++) s[i] = (uint8_t)next();
+    return s;
+}
+
+static void long_digest(void) {
+    enum { N = 1 << 24 };
+    double ours, plain;
+    uint8_t *s = bytes(N), digest[32];
+    digested d;
+    BEST(ours, 1, d = dequmlo_test_digest(s, N));
+    BEST(plain, 1, plain_blake3(s, N, digest));
+    must(d.number == 0 && memcmp(d.bytes, digest, 32) == 0, "digest of 16 MiB");
+    line("digest of 16 MiB", "blake3_16MiB", ours, plain);
+    free(s);
+}
+
+/* Messages of one length: one at a time, and four at once. Returns the time of a message in the four. */
+static double messages(size_t n, const char *one, const char *four, const char *rust) {
+    enum { COUNT = 4096 };
+    double ours, plain, lanes;
+    uint8_t *s = bytes(COUNT * n), digest[32], folded = 0;
+    for (size_t i = 0; i < 64; i += 4) {
+        const uint8_t *m = s + i * n;
+        four_digests f = dequmlo_test_four(m, n, m + n, n, m + 2 * n, n, m + 3 * n, n);
+        for (size_t l = 0; l < 4; l++) {
+            plain_blake3(m + l * n, n, digest);
+            must(memcmp(f.bytes[l], digest, 32) == 0, four);
+            must(memcmp(dequmlo_test_digest(m + l * n, n).bytes, digest, 32) == 0, one);
+        }
+    }
+    BEST(ours, COUNT, folded ^= dequmlo_test_digest(s + (size_t)i * n, n).bytes[0]);
+    BEST(plain, COUNT, (plain_blake3(s + (size_t)i * n, n, digest), folded ^= digest[0]));
+    BEST(lanes, COUNT / 4, {
+        const uint8_t *m = s + 4 * (size_t)i * n;
+        folded ^= dequmlo_test_four(m, n, m + n, n, m + 2 * n, n, m + 3 * n, n).bytes[3][0];
+    });
+    line(one, rust, ours, plain);
+    line(four, rust, lanes / 4, plain);
+    if (folded == 1) fputs("", stderr);
+    free(s);
+    return lanes / 4 / ours;
+}
+
 int main(void) {
     products();
     runs();
     equality();
+    long_digest();
+    double leaf = messages(253, "message of 253 bytes", "the same, four at once", "leaf_width8_domain20");
+    double node = messages(164, "message of 164 bytes", "the same, four at once", "node_domain20");
+    /* Nothing in the proofs notices when the compiler no longer makes the four lanes one vector. */
+    if (leaf > 0.75 || node > 0.75) {
+        fputs("bench: FAILED: four messages at once are no faster than one by one, so the lanes are not vectorised\n", stderr);
+        return 1;
+    }
     return 0;
 }

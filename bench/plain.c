@@ -1,5 +1,6 @@
 /* See plain.h. */
 #include "plain.h"
+#include <string.h>
 
 static word add(word a, word b) {
     return (word){a.lo ^ b.lo, a.hi ^ b.hi};
@@ -111,4 +112,91 @@ void plain_eq_table(size_t n, const uint64_t *point, uint64_t *out) {
             out[2 * v + 1] ^= p.hi;
         }
     }
+}
+
+/* ---- BLAKE3 */
+
+static const uint32_t IV[8] = {0x6A09E667, 0xBB67AE85, 0x3C6EF372, 0xA54FF53A, 0x510E527F, 0x9B05688C, 0x1F83D9AB, 0x5BE0CD19};
+static const uint8_t ORDER[7][16] = {
+    {0, 1, 2, 3, 4, 5, 6, 7, 8, 9, 10, 11, 12, 13, 14, 15},
+    {2, 6, 3, 10, 7, 0, 4, 13, 1, 11, 12, 5, 9, 14, 15, 8},
+    {3, 4, 10, 12, 13, 2, 7, 14, 6, 5, 9, 0, 11, 15, 8, 1},
+    {10, 7, 12, 9, 14, 3, 13, 15, 4, 0, 11, 2, 5, 8, 1, 6},
+    {12, 13, 9, 11, 15, 10, 14, 8, 7, 2, 5, 3, 0, 1, 6, 4},
+    {9, 14, 11, 5, 8, 12, 15, 1, 13, 3, 0, 10, 2, 6, 4, 7},
+    {11, 15, 5, 0, 1, 9, 8, 6, 14, 10, 2, 12, 3, 4, 7, 13},
+};
+
+enum { CHUNK_START = 1, CHUNK_END = 2, PARENT = 4, ROOT = 8 };
+
+static uint32_t rotr(uint32_t x, int n) {
+    return x >> n | x << (32 - n);
+}
+
+static inline void mix(uint32_t s[16], int a, int b, int c, int d, uint32_t x, uint32_t y) {
+    s[a] += s[b] + x;
+    s[d] = rotr(s[d] ^ s[a], 16);
+    s[c] += s[d];
+    s[b] = rotr(s[b] ^ s[c], 12);
+    s[a] += s[b] + y;
+    s[d] = rotr(s[d] ^ s[a], 8);
+    s[c] += s[d];
+    s[b] = rotr(s[b] ^ s[c], 7);
+}
+
+static inline void round_of(uint32_t s[16], const uint32_t m[16], const uint8_t o[16]) {
+    mix(s, 0, 4, 8, 12, m[o[0]], m[o[1]]);
+    mix(s, 1, 5, 9, 13, m[o[2]], m[o[3]]);
+    mix(s, 2, 6, 10, 14, m[o[4]], m[o[5]]);
+    mix(s, 3, 7, 11, 15, m[o[6]], m[o[7]]);
+    mix(s, 0, 5, 10, 15, m[o[8]], m[o[9]]);
+    mix(s, 1, 6, 11, 12, m[o[10]], m[o[11]]);
+    mix(s, 2, 7, 8, 13, m[o[12]], m[o[13]]);
+    mix(s, 3, 4, 9, 14, m[o[14]], m[o[15]]);
+}
+
+/* The rounds are written out, so that the orders are constants to the compiler. */
+static void compressed(uint32_t h[8], const uint32_t m[16], uint64_t counter, uint32_t length, uint32_t flags) {
+    uint32_t s[16] = {h[0], h[1], h[2], h[3], h[4], h[5], h[6], h[7], IV[0], IV[1], IV[2], IV[3], (uint32_t)counter, (uint32_t)(counter >> 32), length, flags};
+    round_of(s, m, ORDER[0]);
+    round_of(s, m, ORDER[1]);
+    round_of(s, m, ORDER[2]);
+    round_of(s, m, ORDER[3]);
+    round_of(s, m, ORDER[4]);
+    round_of(s, m, ORDER[5]);
+    round_of(s, m, ORDER[6]);
+    for (int i = 0; i < 8; i++) h[i] = s[i] ^ s[i + 8];
+}
+
+static void chunk(uint32_t h[8], const uint8_t *input, size_t length, uint64_t counter, uint32_t last) {
+    memcpy(h, IV, sizeof IV);
+    for (size_t from = 0;; from += 64) {
+        size_t left = length - from, size = left < 64 ? left : 64;
+        uint32_t block[16] = {0};
+        memcpy(block, input + from, size);
+        uint32_t flags = (from ? 0 : CHUNK_START) | (left <= 64 ? CHUNK_END | last : 0);
+        compressed(h, block, counter, (uint32_t)size, flags);
+        if (left <= 64) return;
+    }
+}
+
+/* The left subtree is the largest power of two of chunks that leaves something. */
+static void tree(uint32_t h[8], const uint8_t *input, size_t length, uint64_t counter, uint32_t last) {
+    if (length <= 1024) {
+        chunk(h, input, length, counter, last);
+        return;
+    }
+    size_t left = 1024;
+    while (2 * left < length) left *= 2;
+    uint32_t pair[16];
+    tree(pair, input, left, counter, 0);
+    tree(pair + 8, input + left, length - left, counter + left / 1024, 0);
+    memcpy(h, IV, sizeof IV);
+    compressed(h, pair, 0, 64, PARENT | last);
+}
+
+void plain_blake3(const uint8_t *input, size_t length, uint8_t digest[32]) {
+    uint32_t h[8];
+    tree(h, input, length, 0, ROOT);
+    memcpy(digest, h, 32);
 }
