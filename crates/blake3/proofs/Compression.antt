@@ -1,11 +1,11 @@
 -- The rounds by their orders are the rounds of the definition; the chaining value of a chaining value is itself.
 use mathlib.Core.Path.{_≡_, refl, ap, ap₂, _∙_}
-use mathlib.Core.List.{List, [], _∷_}
+use mathlib.Core.List.{List}
 use Prim.Native.Nat.{ℕ, zero, suc, _+_, _<_}
 use native.Mathlib.Numerals.{add-one}
 use lib.ListN.{length, drop, getD}
 use lib.Seq.{drop-cons}
-use Rattle.laws.specs.Table.{tab, at}
+use Rattle.laws.specs.Table.{tab}
 use Rattle.blake3.specs.Compression.{columns, diagonals, round, rounds, permutation, permuted, cv}
 use Rattle.blake3.specs.Orders.{powers, orders, ordered, roundsBy}
 

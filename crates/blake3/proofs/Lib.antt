@@ -2,3 +2,4 @@ pub mod Compression
 pub mod Words
 pub mod Tree
 pub mod Stack
+pub mod HashMode

@@ -1,5 +1,5 @@
 -- The words of a block and the bytes of words, place by place, as code reads and writes them.
-use mathlib.Core.Path.{_≡_, refl, sym, ap, ap₂, _∙_}
+use mathlib.Core.Path.{_≡_, refl, sym, ap, _∙_}
 use mathlib.Core.Logic.{⊎-elim}
 use mathlib.Core.List.{List, [], _∷_, _++_, map, append-nil}
 use Prim.Native.Nat.{ℕ, zero, suc, _+_, _*_, _-_, _/_, _%_, _^_, _<_, _≤_}
@@ -7,7 +7,7 @@ use native.Mathlib.Nat.{add-zero}
 use native.Mathlib.Omega.{arith}
 use lib.ListN.{length, take, drop, getD, replicate, length-map, List·getD-append, List·getD-eq-default, drop-of-length-le}
 use lib.Seq.{drop-cons, getD-append-add}
-use Rattle.laws.specs.Table.{tab, at}
+use Rattle.laws.specs.Table.{at}
 use Rattle.laws.specs.Lists.{part, runs, flat, leBytes, leValue}
 use Rattle.laws.proofs.Table.{tab-ext}
 use Rattle.laws.proofs.Lists.{getD-part, AllLong, length-flat, runs-flat, getD-runs, length-leBytes, leBytes-at}

@@ -3,21 +3,21 @@
 use mathlib.Core.Path.{_≡_, refl, sym, ap, _∙_, subst}
 use mathlib.Core.Logic.{⊎-elim}
 use mathlib.Core.List.{List, [], _∷_, _++_, append-assoc, append-nil}
-use Prim.Native.Nat.{ℕ, zero, suc, _+_, _*_, _-_, _<_, _≤_, min}
-use native.Mathlib.Nat.{add-zero, eq-or-lt-of-le}
+use Prim.Native.Nat.{ℕ, suc, _+_, _*_, _-_, _<_, _≤_, min}
+use native.Mathlib.Nat.{eq-or-lt-of-le}
 use native.Mathlib.Omega.{arith}
 use native.Mathlib.Numerals.{add-one}
-use lib.ListN.{length, take, drop, set, replicate, length-append, length-take, length-set}
+use lib.ListN.{length, take, set, length-append, length-take, length-set}
 use lib.Seq.{take-at, drop-at, take-all, take-suc-set}
 use Rattle.blake3.specs.Flags.{startFlag, rootNode}
 use Rattle.blake3.specs.Compression.{cv}
-use Rattle.blake3.specs.Chunk.{next, last, chunkFrom, chunk}
+use Rattle.blake3.specs.Chunk.{next, chunkFrom, chunk}
 use Rattle.blake3.specs.Digest.{wordBytes, root, digest}
 use Rattle.blake3.proofs.Tree.{tree-one}
 use Rattle.chunk.specs.declared.state.ChunkState.{ChunkState}
-use Rattle.chunk.specs.State.{started, compressed, roomy, withBlock, fedByte, fed, lastOf, finished, Fits}
+use Rattle.chunk.specs.State.{started, compressed, withBlock, fedByte, fed, lastOf, finished, Fits}
 use Rattle.chunk.proofs.Chunk.{chunk-step, chunk-last, start-next}
-use Rattle.chunk.proofs.Feed.{roomy-full, roomy-not, fed-append}
+use Rattle.chunk.proofs.Feed.{roomy-full, roomy-not}
 
 -- the state s stands for the bytes bs of chunk t: its counters agree, and whatever bytes follow, the same chunk comes of both
 pub record Stands (key : List ℕ) (d t : ℕ) (s : ChunkState) (bs : List ℕ) : Type 0 where

@@ -1,6 +1,6 @@
 -- What the functions over a chunk's state do, for every state. That feeding a new state gives the chunk of the specification, and
 -- the digest where it is the whole message, are laws (proofs/Stands).
-use Prim.Native.Nat.{ℕ, zero, suc, _+_, _*_, _≤_}
+use Prim.Native.Nat.{ℕ, _+_, _*_, _≤_}
 use mathlib.Core.List.{List, [], _∷_}
 use lib.Dec.{eqb}
 use lib.ListN.{take, set, replicate}

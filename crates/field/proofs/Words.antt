@@ -4,12 +4,13 @@ use mathlib.Core.List.{List, [], _∷_, _++_}
 use Prim.Native.Nat.{ℕ, zero, suc, _+_, _*_, _/_, _%_, _^_, _≤_, _<_}
 use native.Mathlib.Numerals.{add-one}
 use native.Mathlib.Omega.{arith}
-use lib.Arith.{digits-div, digits-mod}
+use lib.Arith.{digits-div, digits-mod, digits-lt}
 use lib.ListN.{length, getD, set, take, drop, replicate}
 use Rattle.laws.specs.Table.{tab, at}
 use Rattle.laws.proofs.Table.{is-tab}
 use Rattle.laws.proofs.Updates.{fill-step}
 use Rattle.field.specs.Words.{joined, words}
+use lib.Seq.{take-nil, drop-nil}
 
 two-more : (p : ℕ) → 2 * suc p ≡ suc (suc (2 * p))
 two-more p = omega arith
@@ -39,6 +40,36 @@ length-words (a ∷ b ∷ l) = omega (arith, length-words l)
 pub length-words-even : (l : List ℕ) (m : ℕ) → length l ≡ 2 * m → length (words l) ≡ m
 length-words-even l m h = omega (arith, length-words l)
 
+-- a run of words out of a slice
+pub take-words : (n : ℕ) (l : List ℕ) → words (take (2 * n) l) ≡ take n (words l)
+unfolding words
+take-words zero l = refl
+take-words (suc n) [] = rw two-more
+take-words (suc n) (x ∷ []) = rw two-more (ap (λ (r : List ℕ). x ∷ r) (sym (take-nil n)))
+take-words (suc n) (x ∷ y ∷ l) = rw two-more (ap (λ (r : List ℕ). joined y x ∷ r) (take-words n l))
+
+pub drop-words : (n : ℕ) (l : List ℕ) → words (drop (2 * n) l) ≡ drop n (words l)
+unfolding words
+drop-words zero l = refl
+drop-words (suc n) [] = rw two-more
+drop-words (suc n) (x ∷ []) = rw two-more (sym (drop-nil n))
+drop-words (suc n) (x ∷ y ∷ l) = rw two-more (drop-words n l)
+
+-- every half is a u64
+abbrev pub Halves : List ℕ → Type 0
+Halves l = (k : ℕ) → at l k < 2 ^ 64
+
+-- the words of a slice are words, and those of slices end to end
+pub words-lt : (l : List ℕ) → Halves l → (v : ℕ) → at (words l) v < 2 ^ 128
+words-lt l h v = rw (at-words l v) (digits-lt {m = 2 ^ 64} {c = 2 ^ 64} (h (2 * v + 1)) (h (2 * v)))
+
+pub words-append : (l m : List ℕ) (n : ℕ) → length l ≡ 2 * n → words (l ++ m) ≡ words l ++ words m
+unfolding words
+words-append [] m n e = refl
+words-append (a ∷ []) m n e = absurd (omega arith)
+words-append (a ∷ b ∷ l) m zero e = absurd (omega arith)
+words-append (a ∷ b ∷ l) m (suc n) e = ap (λ (r : List ℕ). joined b a ∷ r) (words-append l m n (omega arith))
+
 -- words of a slice of zeros
 zeros-at : (n k : ℕ) → at (replicate n 0) k ≡ 0
 zeros-at zero k = refl
@@ -49,10 +80,6 @@ pub at-zeros : (n k : ℕ) → at (words (replicate n 0)) k ≡ 0
 at-zeros n k = at-words (replicate n 0) k ∙ ap₂ (λ h l. joined h l) (zeros-at n (2 * k + 1)) (zeros-at n (2 * k))
 
 -- ---- the words settle the slice
-
--- every half is a u64
-abbrev pub Halves : List ℕ → Type 0
-Halves l = (k : ℕ) → at l k < 2 ^ 64
 
 same-joined : (a b c d : ℕ) → b < 2 ^ 64 → d < 2 ^ 64 → joined a b ≡ joined c d → (a ≡ c) × (b ≡ d)
 same-joined a b c d hb hd e = (

@@ -2,11 +2,11 @@
 use mathlib.Core.Path.{_≡_, refl, sym, ap, ap₂, _∙_, fun-ext}
 use mathlib.Core.Bool.{Bool, true, false}
 use mathlib.Core.List.{List, [], _∷_, _++_}
-use Prim.Native.Nat.{ℕ, zero, suc, _+_, _*_, _-_, _^_, _<_, _≤_, min}
+use Prim.Native.Nat.{ℕ, suc, _+_, _*_, _-_, _<_, _≤_}
 use native.Mathlib.Nat.{add-zero}
 use native.Mathlib.Omega.{arith}
 use borrow.Author.Tests.{eq-eqb, ne-eqb}
-use lib.Count.{ones, trailingZeros}
+use lib.Count.{trailingZeros}
 use lib.Dec.{eqb}
 use lib.ListN.{length, take, drop, replicate, length-drop}
 use Rattle.laws.specs.Lists.{part}
@@ -21,7 +21,6 @@ use Rattle.blake3.specs.Stack.{entries, fold}
 use Rattle.stack.specs.Push.{pushed, pushedDepth}
 use Rattle.stack.proofs.Tower.{tower-depth}
 use Rattle.hash.specs.declared.hasher.Hasher.{Hasher}
-use Rattle.hash.specs.Whole.{mostBytes}
 use Rattle.hash.specs.Hasher.{Counts, chunkOf, withChunk, nextChunk, roomy, taken, absorbed, finished}
 
 -- the two cases of making room

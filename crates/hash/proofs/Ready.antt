@@ -1,21 +1,15 @@
 -- Question 13: the number 0 says that the counters agree and that there is room.
-use mathlib.Core.Path.{_≡_, refl, sym, ap, _∙_}
+use mathlib.Core.Path.{_≡_, refl, sym}
 use mathlib.Core.Logic.{_⊎_, ⊎-elim}
 use mathlib.Core.List.{List}
-use Prim.Native.Nat.{ℕ, _+_, _*_, _<_, _≤_, min}
-use native.Mathlib.Omega.{arith}
-use borrow.Author.Tests.{leb-true, eqb-true, le-leb, lt-leb, eq-eqb, ne-eqb}
+use Prim.Native.Nat.{ℕ, _+_, _*_, min}
+use borrow.Author.Tests.{leb-true, eqb-true, le-leb, eq-eqb, ne-eqb}
 use lib.Count.{ones}
-use lib.Dec.{eqb}
 use lib.ListN.{length, replicate}
-use Rattle.laws.specs.Questions.{pick, firstNo}
 use Rattle.laws.proofs.Questions.{all-yes, one-number}
-use Rattle.blake3.specs.Digest.{digest}
 use Rattle.hash.specs.declared.hasher.Hasher.{Hasher}
-use Rattle.hash.specs.declared.hasher.Updated.{Updated}
-use Rattle.hash.specs.declared.whole.Digested.{Digested}
-use Rattle.hash.specs.Whole.{mostBytes, answered, digestOf}
-use Rattle.hash.specs.Hasher.{questions, numberOf, Counts, Ready, absorbed, updateOf, finished, finalizeOf}
+use Rattle.hash.specs.Whole.{mostBytes, answered}
+use Rattle.hash.specs.Hasher.{questions, numberOf, Ready, absorbed, updateOf}
 
 pub ready : (s : Hasher) (n : ℕ) → numberOf s n ≡ 0 → Ready s n
 unfolding numberOf

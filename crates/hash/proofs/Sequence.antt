@@ -2,12 +2,11 @@
 use mathlib.Core.Path.{_≡_, refl, sym, ap, ap₂, _∙_, subst}
 use mathlib.Core.Logic.{⊎-elim}
 use mathlib.Core.List.{List, [], _∷_, _++_, append-nil, append-assoc}
-use Prim.Native.Nat.{ℕ, zero, suc, _+_, _*_, _-_, _^_, _<_, _≤_, min}
-use native.Mathlib.Nat.{add-zero, zero-add}
+use Prim.Native.Nat.{ℕ, _+_, _*_, _-_, _<_, _≤_, min}
 use native.Mathlib.Omega.{arith}
 use borrow.Author.Tests.{le-leb, lt-leb}
 use lib.Count.{ones, onesIn}
-use lib.ListN.{length, take, drop, replicate, length-append, length-drop, drop-of-length-le}
+use lib.ListN.{length, take, drop, length-append, length-drop, drop-of-length-le}
 use lib.Seq.{take-all, take-append-le, drop-append-le}
 use Rattle.laws.specs.Lists.{part, flat}
 use Rattle.laws.proofs.Lists.{length-stored}
@@ -23,9 +22,8 @@ use Rattle.chunk.proofs.Stands.{Stands, stands-started, stands-byte, stands-las
 use Rattle.stack.specs.Push.{pushed, pushedDepth}
 use Rattle.stack.proofs.Tower.{merges, tower-depth, tower-step, tower-root}
 use Rattle.hash.specs.declared.hasher.Hasher.{Hasher}
-use Rattle.hash.specs.declared.whole.Digested.{Digested}
-use Rattle.hash.specs.Whole.{mostBytes, answered, digestOf}
-use Rattle.hash.specs.Hasher.{newOf, numberOf, Counts, Ready, chunkOf, withChunk, nextChunk, roomy, taken, absorbed, updateOf, finished, finalizeOf}
+use Rattle.hash.specs.Whole.{mostBytes, digestOf}
+use Rattle.hash.specs.Hasher.{newOf, numberOf, Ready, chunkOf, withChunk, nextChunk, taken, absorbed, updateOf, finished, finalizeOf}
 use Rattle.hash.specs.Sequence.{run, done}
 use Rattle.hash.proofs.Ready.{ready-number}
 use Rattle.hash.proofs.Absorb.{roomy-full, roomy-not}

@@ -1,6 +1,6 @@
 -- What the hasher's calls answer, for every state: also for one whose counters agree but whose contents nobody made. That a state which
 -- was made by `new` and any sequence of updates gives the digest of all the bytes is a law (proofs/Sequence).
-use Prim.Native.Nat.{ℕ, zero, suc, _+_, _*_, _≤_, min}
+use Prim.Native.Nat.{ℕ, _+_, _*_, _≤_, min}
 use mathlib.Core.Path.{_≡_}
 use mathlib.Core.List.{List, [], _∷_}
 use lib.Count.{ones, trailingZeros}

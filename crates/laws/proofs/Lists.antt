@@ -1,5 +1,5 @@
 -- Parts, runs, stores, little-endian numbers and the test of equality.
-use Prim.Native.Nat.{ℕ, zero, suc, _+_, _-_, _*_, _/_, _%_, _^_, _<_, _≤_}
+use Prim.Native.Nat.{ℕ, zero, suc, _+_, _-_, _*_, _/_, _%_, _^_, _<_, _≤_, zero-le}
 use mathlib.Core.Path.{_≡_, refl, sym, _∙_, ap, ap₂}
 use mathlib.Core.Bool.{Bool, true, false}
 use mathlib.Core.List.{List, [], _∷_, _++_, append-nil, append-assoc}
@@ -14,6 +14,7 @@ use lib.ListN.{length, getD, take, drop, set, length-append, length-take, length
 use lib.Seq.{drop-drop, getD-drop, getD-take, sets, sets-eq, length-sets, take-set-le, take-take, take-add, take-at, drop-at, drop-nil, take-nil, set-set, set-comm, set-getD, drop-cons, length-take-le}
 use Rattle.laws.specs.Questions.{both}
 use Rattle.laws.specs.Lists.{part, runs, flat, stored, leBytes, leValue, same}
+use Rattle.laws.specs.Table.{at}
 
 -- ---- parts
 
@@ -30,6 +31,29 @@ pub take-drop : (n i : ℕ) (l : List ℕ) → take n (drop i l) ≡ drop i (tak
 take-drop n zero l = ap (λ (k : ℕ). take k l) (let e : n ≡ 0 + n = omega arith in e)
 take-drop n (suc i) [] = take-nil n ∙ sym (ap (drop (suc i)) (take-nil (suc i + n)))
 take-drop n (suc i) (x ∷ l) = take-drop n i l ∙ ap (λ (k : ℕ). drop (suc i) (take k (x ∷ l))) (let e : suc (i + n) ≡ suc i + n = omega arith in e)
+
+pub part-cons : (m i : ℕ) (l : List ℕ) → i < length l → part (suc m) i l ≡ at l i ∷ part m (suc i) l
+unfolding part
+part-cons m i l h = ap (take (suc m)) (drop-cons l i 0 h)
+
+pub part-add : (m n i : ℕ) (l : List ℕ) → part (m + n) i l ≡ part m i l ++ part n (i + m) l
+unfolding part
+part-add m n i l = take-add m n (drop i l) ∙ ap (λ (r : List ℕ). take m (drop i l) ++ take n r) (drop-drop m i l)
+
+-- a part of bytes is bytes
+pub part-at-le : (m i : ℕ) (l : List ℕ) (k : ℕ) → at (part m i l) k ≤ at l (i + k)
+unfolding part
+part-at-le m i l k = rw (← getD-drop i l k 0) (front m (drop i l) k)
+  where
+    front : (m : ℕ) (l : List ℕ) (k : ℕ) → at (take m l) k ≤ at l k
+    front zero l k = zero-le
+    front (suc m) [] k = zero-le
+    front (suc m) (x ∷ l) zero = omega arith
+    front (suc m) (x ∷ l) (suc k) = front m l k
+
+pub length-part-le : (m i : ℕ) (l : List ℕ) → length (part m i l) ≤ m
+unfolding part
+length-part-le m i l = simp length-take (omega arith)
 
 -- two lists with one beginning have the same parts in it
 pub part-same : (k n i : ℕ) (t u : List ℕ) → take k t ≡ take k u → i + n ≤ k → part n i t ≡ part n i u
@@ -72,6 +96,19 @@ pub length-flat : (n : ℕ) (xs : List (List ℕ)) → AllLong n xs → length (
 unfolding flat
 length-flat n [] h = omega arith
 length-flat n (x ∷ xs) h = rw (length-append x (flat xs), length-flat n xs (h .1), h .0) (omega arith)
+
+pub flat-append : (xs ys : List (List ℕ)) → flat (xs ++ ys) ≡ flat xs ++ flat ys
+unfolding flat
+flat-append [] ys = refl
+flat-append (x ∷ xs) ys = ap (λ (r : List ℕ). x ++ r) (flat-append xs ys) ∙ sym (append-assoc x (flat xs) (flat ys))
+
+pub drop-runs : (n c k : ℕ) (l : List ℕ) → k ≤ c → drop k (runs n c l) ≡ runs n (c - k) (drop (n * k) l)
+unfolding runs
+drop-runs n c zero l h = ap₂ (λ i j. runs n i (drop j l)) (let e : c ≡ c - 0 = omega arith in e) (let e : 0 ≡ n * 0 = omega arith in e)
+drop-runs n zero (suc k) l h = absurd (omega arith)
+drop-runs n (suc c) (suc k) l h =
+    drop-runs n c k (drop n l) (omega arith)
+    ∙ ap₂ (λ (i : ℕ) (x : List ℕ). runs n i x) (let e : c - k ≡ suc c - suc k = omega arith in e) (drop-drop (n * k) n l ∙ ap (λ i. drop i l) (let e : n + n * k ≡ n * suc k = omega arith in e))
 
 pub getD-long : (n k : ℕ) (xs : List (List ℕ)) → AllLong n xs → k < length xs → length (getD xs k []) ≡ n
 getD-long n k [] a h = absurd (omega arith)

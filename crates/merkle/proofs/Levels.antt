@@ -2,14 +2,14 @@
 use Prim.Native.Nat.{ℕ, zero, suc, _+_, _*_, _-_, _/_, _%_, _^_, _≤_, _<_}
 use mathlib.Core.Path.{_≡_, refl, sym, _∙_, ap, ap₂}
 use mathlib.Core.Bool.{Bool, true, false}
-use mathlib.Core.List.{List, [], _∷_, _++_, append-nil}
+use mathlib.Core.List.{List, [], _∷_, append-nil}
 use native.Mathlib.Nat.{div-one}
 use native.Mathlib.Omega.{arith}
-use borrow.Author.Tests.{eqb-true, eqb-false, eq-eqb, ne-eqb}
+use borrow.Author.Tests.{eqb-true, eqb-false}
 use lib.Dec.{eqb}
 use lib.Pow.{pow-pos, pow-mono}
-use lib.ListN.{length, getD, take, drop, length-append, length-drop}
-use lib.Seq.{take-at, drop-at, drop-drop, getD-take, getD-drop, length-take-le}
+use lib.ListN.{length, getD, drop, length-append, length-drop}
+use lib.Seq.{take-at, drop-at, getD-take, getD-drop}
 use Rattle.laws.specs.Questions.{pick}
 use Rattle.laws.specs.Places.{flip}
 use Rattle.laws.proofs.Lists.{AllLong, getD-long, append-long, drop-long}

@@ -1,16 +1,14 @@
 -- What the answers 'yes' to questions 8, 9 and 10 settle.
-use Prim.Native.Nat.{ℕ, _*_, _%_, _^_, _≤_, _<_}
+use Prim.Native.Nat.{ℕ, _*_, _^_, _≤_, _<_}
 use mathlib.Core.Path.{_≡_}
-use mathlib.Core.Bool.{Bool, true}
 use native.Mathlib.Omega.{arith}
 use native.Mathlib.Nat.{mul-le-mul-left, div-le-self}
 use native.Mathlib.Decide.{decLe}
-use lib.Dec.{eqb}
 use lib.Pow.{pow-lt}
 use Rattle.laws.proofs.Questions.{AllYes}
 use Rattle.merkle.specs.Tree.{depthOf}
-use Rattle.merkle.specs.Shape.{Shape, Bounded}
-use Rattle.merkle.specs.Questions.{isPow, shape}
+use Rattle.merkle.specs.Shape.{Bounded}
+use Rattle.merkle.specs.Questions.{shape}
 use Rattle.merkle.proofs.Sizes.{shape-of, isPow-yes, power-le}
 
 depth-within : (m h width count : ℕ) → 0 < width → count ≡ 2 ^ h * width → count ≤ 2 ^ m → h ≤ m

@@ -1,8 +1,8 @@
 -- Powers of two and their logarithms: the test, the depth of a tree, and the shape that questions 8, 9 and 10 settle.
 use Prim.Native.Nat.{ℕ, zero, suc, _+_, _*_, _-_, _/_, _%_, _^_, _≤_, _<_}
-use mathlib.Core.Path.{_≡_, refl, sym, _∙_, ap, subst}
+use mathlib.Core.Path.{_≡_, refl, sym, _∙_, ap}
 use mathlib.Core.Bool.{Bool, true, false}
-use mathlib.Core.Logic.{_⊎_, inl, inr, ⊎-elim}
+use mathlib.Core.Logic.{_⊎_, ⊎-elim}
 use native.Mathlib.Nat.{mod-eq-of-lt, eq-or-lt-of-le, div-add-mod', mul-le-mul-right, mul-comm}
 use native.Mathlib.Decide.{decLe}
 use native.Mathlib.Omega.{arith}
@@ -128,3 +128,27 @@ pub group-room : (count width g : ℕ) → Shape count width → g < count / wid
 group-room count width g s h =
     let e : suc g * width ≡ width * g + width = omega (arith, mul-comm width g) in
     omega (arith, s .whole, s .groups, mul-le-mul-right width (let k : suc g ≤ count / width = h in k), ap (λ k. k * width) (s .groups))
+
+-- ---- the size of a level, as a loop over the levels halves it
+
+pub power-begin : (groups depth : ℕ) → groups ≡ 2 ^ depth → groups ≡ 2 ^ (depth - 0)
+power-begin groups depth e = e ∙ ap (λ i. 2 ^ i) (let s : depth ≡ depth - 0 = omega arith in s)
+
+pub next-power : (depth level m : ℕ) → level < depth → m ≡ 2 ^ (depth - level) → m / 2 ≡ 2 ^ (depth - (level + 1))
+next-power depth level m lt e =
+    let s : depth - level ≡ suc (depth - (level + 1)) = omega arith in
+    let z : m ≡ 2 * 2 ^ (depth - (level + 1)) = e ∙ rw s (omega arith) in
+    omega arith
+
+pub half-even : (depth level m : ℕ) → level < depth → m ≡ 2 ^ (depth - level) → 2 * (m / 2) ≡ m
+half-even depth level m lt e =
+    let s : depth - level ≡ suc (depth - (level + 1)) = omega arith in
+    let z : m ≡ 2 * 2 ^ (depth - (level + 1)) = e ∙ rw s (omega arith) in
+    omega arith
+
+pub half-some : (depth level m : ℕ) → level < depth → m ≡ 2 ^ (depth - level) → 1 ≤ m / 2
+half-some depth level m lt e = rw (next-power depth level m lt e) (pow-pos (depth - (level + 1)))
+
+-- the bytes of 2 × groups − 1 digests
+pub tree-fits : (count width tree : ℕ) → Shape count width → tree ≡ 32 * treeSize count width → tree + 32 ≡ 64 * (count / width)
+tree-fits count width tree s e = omega (arith, s .some)

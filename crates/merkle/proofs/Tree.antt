@@ -1,16 +1,16 @@
 -- A tree over a list of values: its leaves, its size, and the path of a place that leads to its root, over the width as a variable.
-use Prim.Native.Nat.{ℕ, zero, suc, _+_, _*_, _-_, _/_, _%_, _^_, _≤_, _<_}
+use Prim.Native.Nat.{ℕ, zero, suc, _+_, _*_, _-_, _/_, _^_, _≤_, _<_}
 use mathlib.Core.Path.{_≡_, refl, sym, _∙_, ap, ap₂}
-use mathlib.Core.List.{List, [], _∷_, _++_, append-nil}
-use native.Mathlib.Nat.{div-self, mod-lt, div-eq-of-lt}
+use mathlib.Core.List.{List, [], _∷_, append-nil}
+use native.Mathlib.Nat.{div-self}
 use native.Mathlib.Omega.{arith}
 use lib.Pow.{pow-pos}
-use lib.ListN.{length, getD, take, drop}
+use lib.ListN.{length, getD}
 use lib.Seq.{take-all}
 use Rattle.laws.specs.Lists.{part, runs, flat}
-use Rattle.laws.proofs.Lists.{AllLong, length-runs, getD-runs, runs-flat, length-flat, getD-long, append-long, drop-long, runs-long}
+use Rattle.laws.proofs.Lists.{AllLong, length-runs, getD-runs, runs-flat, length-flat}
 use Rattle.merkle.specs.Message.{leafMessage}
-use Rattle.merkle.specs.Tree.{groupOf, log2, depthOf, treeSize, root, path, endToEnd, levelsOf, leafDigest, leavesFrom, leaves, levelsFrom, levels, climb, leafOf, treeOf, rootOf, rootOfPath, pathOf}
+use Rattle.merkle.specs.Tree.{groupOf, log2, depthOf, treeSize, root, path, endToEnd, leafDigest, leavesFrom, leaves, levelsFrom, levels, climb, leafOf, treeOf, rootOf, rootOfPath, pathOf}
 use Rattle.merkle.specs.Shape.{Shape}
 use Rattle.merkle.proofs.Sizes.{group-lt, log2-end}
 use Rattle.merkle.proofs.Levels.{length-path, path-long, path-leads-to-root, length-endToEnd, levelsOf-endToEnd, endToEnd-long, root-last}
@@ -121,6 +121,21 @@ pathOf-long count width place t shape h a n =
     let p : 1 ≤ 2 ^ depthOf count width = pow-pos (depthOf count width) in
     let e : suc (length t) ≡ 2 ^ suc (depthOf count width) = rw n (rw (shape .groups) (omega arith)) in
     path-long 32 (depthOf count width) t (groupOf place width) a e (group-lt count width place shape h)
+
+-- the same law on bytes, as they are lent: build, open, and the root of a path
+pub opened-bytes-lead-to-root : (H : List ℕ → List ℕ) (domain : List ℕ) (count width : ℕ) → ((m : List ℕ) → length (H m) ≡ 32) → Shape count width → (values : List ℕ) (place : ℕ) → place < count
+    → rootOfPath H domain count width place (groupValues width place values)
+    (runs 32 (depthOf count width) (flat (pathOf count width place (runs 32 (treeSize count width) (flat (treeOf H domain count width values))))))
+    ≡ rootOf H domain count width values
+opened-bytes-lead-to-root H domain count width sized shape values place h =
+    let t : List (List ℕ) = treeOf H domain count width values in
+    let ss : List (List ℕ) = pathOf count width place t in
+    let long = pathOf-long count width place t shape h (treeOf-long H domain count width sized values) (length-treeOf H domain count width shape values) in
+    let e : runs 32 (depthOf count width) (flat ss) ≡ ss =
+    ap₂ (λ (n : ℕ) (bs : List ℕ). runs 32 n bs) (sym (length-pathOf count width place t)) (sym (append-nil (flat ss))) ∙ runs-flat 32 ss [] long in
+    ap (λ (l : List (List ℕ)). rootOfPath H domain count width place (groupValues width place values) (runs 32 (depthOf count width) (flat (pathOf count width place l)))) (runs-tree H domain count width sized shape values)
+    ∙ ap (rootOfPath H domain count width place (groupValues width place values)) e
+    ∙ path-of-tree-leads-to-root H domain count width shape values place h
 
 -- ---- a tree of one group
 module _ (width : ℕ) (filled : 0 < width) where

@@ -2,7 +2,7 @@
 -- A domain, and what is lent, come in by their lengths. Words are lent two halves each, digests 32 bytes each.
 use Prim.Native.Nat.{ℕ, zero, suc, _*_, _%_, _^_}
 use mathlib.Core.List.{List, [], _∷_, _++_}
-use mathlib.Core.Bool.{Bool, true, false}
+use mathlib.Core.Bool.{Bool, true}
 use lib.Dec.{eqb, leb, ltb}
 use Rattle.laws.specs.Questions.{pick, Question, _asks_}
 use Rattle.merkle.specs.Tree.{depthOf, treeSize}

@@ -1,15 +1,15 @@
 -- The flat array of the stack: what its loops leave, and that pushing is merging.
-use mathlib.Core.Path.{_≡_, refl, sym, ap, ap₂, _∙_, fun-ext}
-use mathlib.Core.List.{List, [], _∷_, _++_, append-assoc}
+use mathlib.Core.Path.{_≡_, refl, ap, ap₂, _∙_, fun-ext}
+use mathlib.Core.List.{List, _∷_, _++_, append-assoc}
 use Prim.Native.Nat.{ℕ, zero, suc, _+_, _*_, _-_, _<_, _≤_}
-use native.Mathlib.Nat.{not-suc-le-zero, add-zero}
+use native.Mathlib.Nat.{not-suc-le-zero}
 use native.Mathlib.Omega.{arith}
 use native.Mathlib.Numerals.{add-one}
-use lib.ListN.{length, take, drop, getD, List·getD-append}
+use lib.ListN.{length, take, drop, List·getD-append}
 use lib.Seq.{getD-take, length-take-le, getD-append-add, sets-eq}
-use Rattle.laws.specs.Table.{tab, at}
+use Rattle.laws.specs.Table.{at}
 use Rattle.laws.specs.Lists.{stored}
-use Rattle.laws.proofs.Table.{tab-ext, is-tab, length-tab}
+use Rattle.laws.proofs.Table.{tab-ext, length-tab}
 use Rattle.blake3.specs.Compression.{cv}
 use Rattle.blake3.specs.Tree.{pair, parent}
 use Rattle.blake3.specs.Stack.{entry, entries, merge, fold}

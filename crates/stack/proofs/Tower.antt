@@ -1,8 +1,8 @@
 -- The array of a stack that stands for the finished chunks: one chunk more, and the root over the last one.
 use mathlib.Core.Path.{_≡_, refl, sym, ap, _∙_, fun-ext}
 use mathlib.Core.Logic.{⊎-elim}
-use mathlib.Core.List.{List, [], _∷_, _++_}
-use Prim.Native.Nat.{ℕ, zero, suc, _+_, _*_, _-_, _^_, _<_, _≤_, min}
+use mathlib.Core.List.{List, [], _∷_}
+use Prim.Native.Nat.{ℕ, _+_, _*_, _-_, _^_, _<_, _≤_, min}
 use native.Mathlib.Nat.{zero-add}
 use native.Mathlib.Omega.{arith}
 use lib.Count.{trailingZeros, ones, ones-le}
@@ -13,7 +13,7 @@ use Rattle.laws.proofs.Lists.{length-part}
 use Rattle.blake3.specs.Compression.{cv}
 use Rattle.blake3.specs.Chunk.{chunk}
 use Rattle.blake3.specs.Tree.{tree}
-use Rattle.blake3.specs.Stack.{stack, entries, merge, fold}
+use Rattle.blake3.specs.Stack.{stack, entries, fold}
 use Rattle.blake3.proofs.Compression.{cv-cv}
 use Rattle.blake3.proofs.Tree.{tree-nil}
 use Rattle.blake3.proofs.Stack.{push-stack, fold-tree, stack-nil}

@@ -1,3 +1,4 @@
+-- `compress::diagonals` meets its contract.
 use Rattle.blake3.specs.Compression as C
 use Rattle.blake3.specs.Orders as O
 use Rattle.laws.specs.Table.{tab}
@@ -5,60 +6,43 @@ use Rattle.compress.proofs.Laws.{four}
 use borrow.Author.Needs.{needs}
 use Rattle.compress.proofs.diagonals.Statement.{statement}
 use Rattle.compress.proofs.diagonals.Tie as tie
-use Rattle.compress.proofs.diagonals.Reads as reads
-use Rattle.compress.proofs.diagonals.Lts as lts
-use Rattle.compress.proofs.mix.Reads as mix-reads
-use Rattle.compress.proofs.word_in.Reads as word-in-reads
 
--- src/lib.rt:105:26
 word-in-requires : tie.Need-word-in-requires
 word-in-requires c κs = search needs
 
--- src/lib.rt:105:44
 word-in-requires-2 : tie.Need-word-in-requires-2
 word-in-requires-2 c κs = search needs
 
--- src/lib.rt:105:5
 mix-requires : tie.Need-mix-requires
 mix-requires c κs = search needs
 
--- src/lib.rt:106:26
 word-in-requires-3 : tie.Need-word-in-requires-3
 word-in-requires-3 c κs = search needs
 
--- src/lib.rt:106:45
 word-in-requires-4 : tie.Need-word-in-requires-4
 word-in-requires-4 c κs = search needs
 
--- src/lib.rt:106:5
 mix-requires-2 : tie.Need-mix-requires-2
 mix-requires-2 c κs = search needs
 
--- src/lib.rt:107:25
 word-in-requires-5 : tie.Need-word-in-requires-5
 word-in-requires-5 c κs = search needs
 
--- src/lib.rt:107:44
 word-in-requires-6 : tie.Need-word-in-requires-6
 word-in-requires-6 c κs = search needs
 
--- src/lib.rt:107:5
 mix-requires-3 : tie.Need-mix-requires-3
 mix-requires-3 c κs = search needs
 
--- src/lib.rt:108:25
 word-in-requires-7 : tie.Need-word-in-requires-7
 word-in-requires-7 c κs = search needs
 
--- src/lib.rt:108:44
 word-in-requires-8 : tie.Need-word-in-requires-8
 word-in-requires-8 c κs = search needs
 
--- src/lib.rt:108:5
 mix-requires-4 : tie.Need-mix-requires-4
 mix-requires-4 c κs = search needs
 
--- src/lib.rt:101:1
 returns : tie.Need-returns
 unfolding C.diagonals O.ordered tab
 returns c =

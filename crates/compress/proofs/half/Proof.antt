@@ -1,129 +1,96 @@
+-- `compress::half` meets its contract.
 use Rattle.compress.proofs.Laws.{half-law}
 use borrow.Author.Needs.{needs}
 use Rattle.compress.proofs.half.Statement.{statement}
 use Rattle.compress.proofs.half.Tie as tie
-use Rattle.compress.proofs.half.Reads as reads
-use Rattle.compress.proofs.half.Lts as lts
-use Rattle.compress.proofs.add.Reads as add-reads
-use Rattle.compress.proofs.rotr.Reads as rotr-reads
 
--- src/lib.rt:65:20
 mul-add : tie.Need-mul-add
 mul-add c = search needs
 
--- src/lib.rt:65:20
 element-copy-out-add : tie.Need-element-copy-out-add
 element-copy-out-add c = search needs
 
--- src/lib.rt:65:26
 mul-add-2 : tie.Need-mul-add-2
 mul-add-2 c = search needs
 
--- src/lib.rt:65:26
 element-copy-out-add-2 : tie.Need-element-copy-out-add-2
 element-copy-out-add-2 c = search needs
 
--- src/lib.rt:65:16
 add-requires : tie.Need-add-requires
 add-requires c κs = search needs
 
--- src/lib.rt:65:12
 add-requires-2 : tie.Need-add-requires-2
 add-requires-2 c κs = search needs
 
--- src/lib.rt:65:5
 mul-s : tie.Need-mul-s
 mul-s c = search needs
 
--- src/lib.rt:65:5
 element-write-s : tie.Need-element-write-s
 element-write-s c = search needs
 
--- src/lib.rt:66:17
 mul-rotr : tie.Need-mul-rotr
 mul-rotr c = search needs
 
--- src/lib.rt:66:17
 element-copy-out-rotr : tie.Need-element-copy-out-rotr
 element-copy-out-rotr c = search needs
 
--- src/lib.rt:66:24
 mul-rotr-2 : tie.Need-mul-rotr-2
 mul-rotr-2 c = search needs
 
--- src/lib.rt:66:24
 element-copy-out-rotr-2 : tie.Need-element-copy-out-rotr-2
 element-copy-out-rotr-2 c = search needs
 
--- src/lib.rt:66:12
 rotr-requires : tie.Need-rotr-requires
 rotr-requires c κs = search needs
 
--- src/lib.rt:66:5
 mul-s-2 : tie.Need-mul-s-2
 mul-s-2 c = search needs
 
--- src/lib.rt:66:5
 element-write-s-2 : tie.Need-element-write-s-2
 element-write-s-2 c = search needs
 
--- src/lib.rt:67:16
 mul-add-3 : tie.Need-mul-add-3
 mul-add-3 c = search needs
 
--- src/lib.rt:67:16
 element-copy-out-add-3 : tie.Need-element-copy-out-add-3
 element-copy-out-add-3 c = search needs
 
--- src/lib.rt:67:22
 mul-add-4 : tie.Need-mul-add-4
 mul-add-4 c = search needs
 
--- src/lib.rt:67:22
 element-copy-out-add-4 : tie.Need-element-copy-out-add-4
 element-copy-out-add-4 c = search needs
 
--- src/lib.rt:67:12
 add-requires-3 : tie.Need-add-requires-3
 add-requires-3 c κs = search needs
 
--- src/lib.rt:67:5
 mul-s-3 : tie.Need-mul-s-3
 mul-s-3 c = search needs
 
--- src/lib.rt:67:5
 element-write-s-3 : tie.Need-element-write-s-3
 element-write-s-3 c = search needs
 
--- src/lib.rt:68:17
 mul-rotr-3 : tie.Need-mul-rotr-3
 mul-rotr-3 c = search needs
 
--- src/lib.rt:68:17
 element-copy-out-rotr-3 : tie.Need-element-copy-out-rotr-3
 element-copy-out-rotr-3 c = search needs
 
--- src/lib.rt:68:24
 mul-rotr-4 : tie.Need-mul-rotr-4
 mul-rotr-4 c = search needs
 
--- src/lib.rt:68:24
 element-copy-out-rotr-4 : tie.Need-element-copy-out-rotr-4
 element-copy-out-rotr-4 c = search needs
 
--- src/lib.rt:68:12
 rotr-requires-2 : tie.Need-rotr-requires-2
 rotr-requires-2 c κs = search needs
 
--- src/lib.rt:68:5
 mul-s-4 : tie.Need-mul-s-4
 mul-s-4 c = search needs
 
--- src/lib.rt:68:5
 element-write-s-4 : tie.Need-element-write-s-4
 element-write-s-4 c = search needs
 
--- src/lib.rt:61:1
 returns : tie.Need-returns
 returns c =
     half-law _ _ _ _ _ _ _ _ (c .before .before .before .before .before .before .before .before .before .before .add .ensures) (c .before .before .before .before .before .before .before .before .before .add2 .ensures) (c .before .before .before .before .before .before .rotr .ensures) (c .before .before .before .add3 .ensures) (c .rotr2 .ensures)

@@ -1,53 +1,40 @@
+-- `compress::initial` meets its contract.
 use Rattle.blake3.specs.Compression as C
 use Rattle.laws.specs.Table.{tab}
 use borrow.Author.Needs.{needs}
 use Rattle.compress.proofs.initial.Statement.{statement}
 use Rattle.compress.proofs.initial.Tie as tie
-use Rattle.compress.proofs.initial.Reads as reads
-use Rattle.compress.proofs.initial.Lts as lts
-use Rattle.compress.proofs.low.Reads as low-reads
 
--- src/lib.rt:146:9
 low-requires : tie.Need-low-requires
 low-requires c κs = search needs
 
--- src/lib.rt:147:14
 cast-hi : tie.Need-cast-hi
 cast-hi c = search needs
 
--- src/lib.rt:149:9
 array-read-t11 : tie.Need-array-read-t11
 array-read-t11 c = search needs
 
--- src/lib.rt:150:9
 array-read-t14 : tie.Need-array-read-t14
 array-read-t14 c = search needs
 
--- src/lib.rt:151:9
 array-read-t17 : tie.Need-array-read-t17
 array-read-t17 c = search needs
 
--- src/lib.rt:152:9
 array-read-t20 : tie.Need-array-read-t20
 array-read-t20 c = search needs
 
--- src/lib.rt:153:9
 array-read-t23 : tie.Need-array-read-t23
 array-read-t23 c = search needs
 
--- src/lib.rt:154:9
 array-read-t26 : tie.Need-array-read-t26
 array-read-t26 c = search needs
 
--- src/lib.rt:155:9
 array-read-t29 : tie.Need-array-read-t29
 array-read-t29 c = search needs
 
--- src/lib.rt:156:9
 array-read-t32 : tie.Need-array-read-t32
 array-read-t32 c = search needs
 
--- src/lib.rt:143:1
 returns : tie.Need-returns
 unfolding C.initial C.iv C.cv tab
 returns c = rw (c .low .ensures)

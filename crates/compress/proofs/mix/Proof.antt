@@ -1,20 +1,15 @@
+-- `compress::mix` meets its contract.
 use Rattle.blake3.specs.Compression as C
 use borrow.Author.Needs.{needs}
 use Rattle.compress.proofs.mix.Statement.{statement}
 use Rattle.compress.proofs.mix.Tie as tie
-use Rattle.compress.proofs.mix.Reads as reads
-use Rattle.compress.proofs.mix.Lts as lts
-use Rattle.compress.proofs.half.Reads as half-reads
 
--- src/lib.rt:76:5
 half-requires : tie.Need-half-requires
 half-requires c κs = search needs
 
--- src/lib.rt:77:5
 half-requires-2 : tie.Need-half-requires-2
 half-requires-2 c κs = search needs
 
--- src/lib.rt:72:1
 returns : tie.Need-returns
 unfolding C.mix
 returns c = cc

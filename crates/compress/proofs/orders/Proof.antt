@@ -1,13 +1,11 @@
+-- `compress::orders` meets its contract.
 use Rattle.blake3.specs.Compression as C
 use Rattle.blake3.specs.Orders as O
 use Rattle.laws.specs.Table.{tab}
 use mathlib.Core.Path.{refl}
 use Rattle.compress.proofs.orders.Statement.{statement}
 use Rattle.compress.proofs.orders.Tie as tie
-use Rattle.compress.proofs.orders.Reads as reads
-use Rattle.compress.proofs.orders.Lts as lts
 
--- src/lib.rt:39:1
 returns : tie.Need-returns
 unfolding O.orders O.powers C.permuted C.permutation tab
 returns c = refl

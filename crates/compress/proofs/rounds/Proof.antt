@@ -1,3 +1,4 @@
+-- `compress::rounds` meets its contract.
 use mathlib.Core.List.{[]}
 use mathlib.Core.Path.{_≡_, refl, _∙_}
 use Prim.Native.Nat.{_≤_, _-_}
@@ -9,10 +10,6 @@ use Rattle.blake3.proofs.Compression.{rounds-step}
 use Rattle.compress.proofs.Laws.{small-orders, rounds-all}
 use Rattle.compress.proofs.rounds.Statement.{statement}
 use Rattle.compress.proofs.rounds.Tie as tie
-use Rattle.compress.proofs.rounds.Reads as reads
-use Rattle.compress.proofs.rounds.Lts as lts
-use Rattle.compress.proofs.orders.Reads as orders-reads
-use Rattle.compress.proofs.round.Reads as round-reads
 
 abbrev Inv-loop : tie.InvT-loop
 Inv-loop m order s₀ r₀ s r = (r ≤ 7) × (order ≡ O.orders) × (length order ≡ 7) × (O.roundsBy (drop r order) s m ≡ O.roundsBy order s₀ m)
@@ -20,44 +17,35 @@ Inv-loop m order s₀ r₀ s r = (r ≤ 7) × (order ≡ O.orders) × (length or
 abbrev μ-loop : tie.MeasureT-loop
 μ-loop m order s₀ r₀ s r = 7 - r
 
--- src/lib.rt:124:17
 orders-requires : tie.Need-orders-requires Inv-loop μ-loop
 orders-requires c κs = search needs
 
--- src/lib.rt:127:5
 loop-holds : tie.Need-loop-holds Inv-loop μ-loop
 unfolding O.orders O.powers
 loop-holds c = (omega arith, c .orders .ensures, rw (c .orders .ensures), refl)
 
--- src/lib.rt:128:17
 mul-o : tie.Need-mul-o Inv-loop μ-loop
 mul-o c = omega arith
 
--- src/lib.rt:128:17
 array-copy-out-o : tie.Need-array-copy-out-o Inv-loop μ-loop
 array-copy-out-o c = omega arith
 
--- src/lib.rt:129:9
 round-requires : tie.Need-round-requires Inv-loop μ-loop
 round-requires c κs =
     let l = c .before .before .before .before .loop in
     rw (l .inv .1) (small-orders (l .r) (omega arith))
 
--- src/lib.rt:130:9
 add-r : tie.Need-add-r Inv-loop μ-loop
 add-r c = omega arith
 
--- src/lib.rt:127:5
 loop-less : tie.Need-loop-less Inv-loop μ-loop
 loop-less c = omega arith
 
--- src/lib.rt:127:5
 loop-again : tie.Need-loop-again Inv-loop μ-loop
 loop-again c =
     let l = c .before .before .before .before .before .loop in
     (omega arith, l .inv .1, l .inv .2, rounds-step (l .s) _ _ _ (l .r) [] (omega arith) (c .round .ensures) ∙ l .inv .3)
 
--- src/lib.rt:121:1
 returns : tie.Need-returns Inv-loop μ-loop
 returns c =
     let l = c .before .loop in

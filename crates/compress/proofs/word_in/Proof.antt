@@ -1,31 +1,25 @@
+-- `compress::word_in` meets its contract.
 use Rattle.blake3.specs.Orders as O
 use native.Mathlib.Omega.{arith}
 use borrow.Author.Needs.{needs}
 use Rattle.compress.proofs.word_in.Statement.{statement}
 use Rattle.compress.proofs.word_in.Tie as tie
-use Rattle.compress.proofs.word_in.Reads as reads
-use Rattle.compress.proofs.word_in.Lts as lts
 
--- src/lib.rt:85:13
 element-copy-out-k : tie.Need-element-copy-out-k
 element-copy-out-k c = search needs
 
--- src/lib.rt:85:13
 cast-k : tie.Need-cast-k
 unfolding O.Small
 cast-k c = omega (arith, c .before .pre .0 (c .before .args .i) (c .before .pre .1))
 
--- src/lib.rt:86:5
 mul-result : tie.Need-mul-result
 unfolding O.Small
 mul-result c = omega (arith, c .before .pre .0 (c .before .args .i) (c .before .pre .1))
 
--- src/lib.rt:86:5
 element-copy-out-result : tie.Need-element-copy-out-result
 unfolding O.Small
 element-copy-out-result c = c .before .pre .0 (c .before .args .i) (c .before .pre .1)
 
--- src/lib.rt:81:1
 returns : tie.Need-returns
 returns c = search needs
 

@@ -1,3 +1,4 @@
+-- `node::bytes_of` meets its contract.
 use mathlib.Core.Path.{_≡_, refl}
 use Prim.Native.Nat.{ℕ, _≤_, _<_, _-_, _*_}
 use native.Mathlib.Omega.{arith}
@@ -8,10 +9,6 @@ use Rattle.blake3.specs.Digest.{wordBytes}
 use Rattle.node.proofs.Laws.{bytes-step, bytes-all}
 use Rattle.node.proofs.bytes_of.Statement.{statement}
 use Rattle.node.proofs.bytes_of.Tie as tie
-use Rattle.node.proofs.bytes_of.Reads as reads
-use Rattle.node.proofs.bytes_of.Lts as lts
-use Rattle.node.proofs.long.Reads as long-reads
-use Rattle.node.proofs.low_byte.Reads as low-byte-reads
 
 abbrev Inv-loop : tie.InvT-loop
 Inv-loop w b₀ k₀ b k = (k ≤ 8) × (length b ≡ 32) × ((i : ℕ) → i < 4 * k → at b i ≡ at (wordBytes w) i)
@@ -19,91 +16,69 @@ Inv-loop w b₀ k₀ b k = (k ≤ 8) × (length b ≡ 32) × ((i : ℕ) → i < 
 abbrev μ-loop : tie.MeasureT-loop
 μ-loop w b₀ k₀ b k = 8 - k
 
--- src/lib.rt:110:5
 loop-holds : tie.Need-loop-holds Inv-loop μ-loop
 loop-holds c = (omega arith, refl, λ i h. absurd (omega arith))
 
--- src/lib.rt:111:22
 mul-long : tie.Need-mul-long Inv-loop μ-loop
 mul-long c = omega arith
 
--- src/lib.rt:111:22
 array-read-long : tie.Need-array-read-long Inv-loop μ-loop
 array-read-long c = omega arith
 
--- src/lib.rt:111:13
 long-requires : tie.Need-long-requires Inv-loop μ-loop
 long-requires c κs = search needs
 
--- src/lib.rt:112:20
 low-byte-requires : tie.Need-low-byte-requires Inv-loop μ-loop
 low-byte-requires c κs = search needs
 
--- src/lib.rt:112:11
 mul-b : tie.Need-mul-b Inv-loop μ-loop
 mul-b c = omega arith
 
--- src/lib.rt:112:9
 array-write-b : tie.Need-array-write-b Inv-loop μ-loop
 array-write-b c = omega arith
 
--- src/lib.rt:113:24
 low-byte-requires-2 : tie.Need-low-byte-requires-2 Inv-loop μ-loop
 low-byte-requires-2 c κs = search needs
 
--- src/lib.rt:113:11
 mul-b-2 : tie.Need-mul-b-2 Inv-loop μ-loop
 mul-b-2 c = omega arith
 
--- src/lib.rt:113:11
 add-b : tie.Need-add-b Inv-loop μ-loop
 add-b c = omega arith
 
--- src/lib.rt:113:9
 array-write-b-2 : tie.Need-array-write-b-2 Inv-loop μ-loop
 array-write-b-2 c = omega arith
 
--- src/lib.rt:114:24
 low-byte-requires-3 : tie.Need-low-byte-requires-3 Inv-loop μ-loop
 low-byte-requires-3 c κs = search needs
 
--- src/lib.rt:114:11
 mul-b-3 : tie.Need-mul-b-3 Inv-loop μ-loop
 mul-b-3 c = omega arith
 
--- src/lib.rt:114:11
 add-b-2 : tie.Need-add-b-2 Inv-loop μ-loop
 add-b-2 c = omega arith
 
--- src/lib.rt:114:9
 array-write-b-3 : tie.Need-array-write-b-3 Inv-loop μ-loop
 array-write-b-3 c = omega arith
 
--- src/lib.rt:115:24
 low-byte-requires-4 : tie.Need-low-byte-requires-4 Inv-loop μ-loop
 low-byte-requires-4 c κs = search needs
 
--- src/lib.rt:115:11
 mul-b-4 : tie.Need-mul-b-4 Inv-loop μ-loop
 mul-b-4 c = omega arith
 
--- src/lib.rt:115:11
 add-b-3 : tie.Need-add-b-3 Inv-loop μ-loop
 add-b-3 c = omega arith
 
--- src/lib.rt:115:9
 array-write-b-4 : tie.Need-array-write-b-4 Inv-loop μ-loop
 array-write-b-4 c = omega arith
 
--- src/lib.rt:116:9
 add-k : tie.Need-add-k Inv-loop μ-loop
 add-k c = omega arith
 
--- src/lib.rt:110:5
 loop-less : tie.Need-loop-less Inv-loop μ-loop
 loop-less c = omega arith
 
--- src/lib.rt:110:5
 loop-again : tie.Need-loop-again Inv-loop μ-loop
 loop-again c =
     let l = c .before .before .before .before .before .before .loop in
@@ -113,7 +88,6 @@ loop-again c =
       bytes-step w (l .b) (l .k) _ (omega arith) (omega arith) (l .inv .1) (c .before .before .before .before .long .ensures) (c .before .before .before .low-byte .ensures) (c .before .before .low-byte2 .ensures) (c .before .low-byte3 .ensures) (c .low-byte4 .ensures) (l .inv .2),
     )
 
--- src/lib.rt:105:1
 returns : tie.Need-returns Inv-loop μ-loop
 returns c =
     let l = c .before .loop in

@@ -1,45 +1,35 @@
+-- `node::first_eight` meets its contract.
 use Rattle.blake3.specs.Compression.{cv}
 use Rattle.laws.specs.Table.{tab}
 use mathlib.Core.Path.{refl}
 use borrow.Author.Needs.{needs}
 use Rattle.node.proofs.first_eight.Statement.{statement}
 use Rattle.node.proofs.first_eight.Tie as tie
-use Rattle.node.proofs.first_eight.Reads as reads
-use Rattle.node.proofs.first_eight.Lts as lts
 
--- src/lib.rt:118:6
 array-read-t5 : tie.Need-array-read-t5
 array-read-t5 c = search needs
 
--- src/lib.rt:118:12
 array-read-t8 : tie.Need-array-read-t8
 array-read-t8 c = search needs
 
--- src/lib.rt:118:18
 array-read-t11 : tie.Need-array-read-t11
 array-read-t11 c = search needs
 
--- src/lib.rt:118:24
 array-read-t14 : tie.Need-array-read-t14
 array-read-t14 c = search needs
 
--- src/lib.rt:118:30
 array-read-t17 : tie.Need-array-read-t17
 array-read-t17 c = search needs
 
--- src/lib.rt:118:36
 array-read-t20 : tie.Need-array-read-t20
 array-read-t20 c = search needs
 
--- src/lib.rt:118:42
 array-read-t23 : tie.Need-array-read-t23
 array-read-t23 c = search needs
 
--- src/lib.rt:118:48
 array-read-t26 : tie.Need-array-read-t26
 array-read-t26 c = search needs
 
--- src/lib.rt:115:1
 returns : tie.Need-returns
 unfolding cv tab
 returns c = refl

@@ -1,26 +1,19 @@
+-- `node::last_words` meets its contract.
 use Prim.Native.Nat.{_-_}
 use Rattle.node.proofs.Laws.{padded-words}
 use borrow.Author.Needs.{needs}
 use Rattle.node.proofs.last_words.Statement.{statement}
 use Rattle.node.proofs.last_words.Tie as tie
-use Rattle.node.proofs.last_words.Reads as reads
-use Rattle.node.proofs.last_words.Lts as lts
-use Rattle.node.proofs.padded_at.Reads as padded-at-reads
-use Rattle.node.proofs.words_at.Reads as words-at-reads
 
--- src/lib.rt:79:13
 padded-at-requires : tie.Need-padded-at-requires
 padded-at-requires c κs = search needs
 
--- src/lib.rt:80:14
 slice-aggregate-words-at : tie.Need-slice-aggregate-words-at
 slice-aggregate-words-at c = search needs
 
--- src/lib.rt:80:5
 words-at-requires : tie.Need-words-at-requires
 words-at-requires c κs = search needs
 
--- src/lib.rt:75:1
 returns : tie.Need-returns
 returns c = padded-words _ (64 - c .before .before .before .before .args .n) (c .words-at .ensures) (c .before .before .padded-at .ensures)
 

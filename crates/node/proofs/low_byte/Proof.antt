@@ -1,14 +1,11 @@
+-- `node::low_byte` meets its contract.
 use lib.Bits.{and-mask, mask-lt}
 use Rattle.node.proofs.low_byte.Statement.{statement}
 use Rattle.node.proofs.low_byte.Tie as tie
-use Rattle.node.proofs.low_byte.Reads as reads
-use Rattle.node.proofs.low_byte.Lts as lts
 
--- src/lib.rt:94:5
 cast-result : tie.Need-cast-result
 cast-result c = record { fits = mask-lt (c .args .x) 8 }
 
--- src/lib.rt:91:1
 returns : tie.Need-returns
 returns c = and-mask (c .args .x) 8
 

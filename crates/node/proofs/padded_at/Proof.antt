@@ -1,3 +1,4 @@
+-- `node::padded_at` meets its contract.
 use mathlib.Core.Path.{_≡_, refl}
 use mathlib.Core.List.{_++_}
 use Prim.Native.Nat.{_≤_, _-_}
@@ -8,8 +9,6 @@ use Rattle.laws.specs.Lists.{part}
 use Rattle.node.proofs.Laws.{padded-step}
 use Rattle.node.proofs.padded_at.Statement.{statement}
 use Rattle.node.proofs.padded_at.Tie as tie
-use Rattle.node.proofs.padded_at.Reads as reads
-use Rattle.node.proofs.padded_at.Lts as lts
 
 abbrev Inv-loop : tie.InvT-loop
 Inv-loop s from n b₀ i₀ b i = (i ≤ n) × (length b ≡ 64) × (b ≡ part i from s ++ replicate (64 - i) 0)
@@ -17,39 +16,31 @@ Inv-loop s from n b₀ i₀ b i = (i ≤ n) × (length b ≡ 64) × (b ≡ part 
 abbrev μ-loop : tie.MeasureT-loop
 μ-loop s from n b₀ i₀ b i = n - i
 
--- src/lib.rt:67:5
 loop-holds : tie.Need-loop-holds Inv-loop μ-loop
 unfolding part
 loop-holds c = (omega arith, refl, refl)
 
--- src/lib.rt:68:18
 add-b : tie.Need-add-b Inv-loop μ-loop
 add-b c = omega arith
 
--- src/lib.rt:68:16
 shared-slice-read-b : tie.Need-shared-slice-read-b Inv-loop μ-loop
 shared-slice-read-b c = omega arith
 
--- src/lib.rt:68:9
 array-write-b : tie.Need-array-write-b Inv-loop μ-loop
 array-write-b c = omega arith
 
--- src/lib.rt:69:9
 add-i : tie.Need-add-i Inv-loop μ-loop
 add-i c = omega arith
 
--- src/lib.rt:67:5
 loop-less : tie.Need-loop-less Inv-loop μ-loop
 loop-less c = omega arith
 
--- src/lib.rt:67:5
 loop-again : tie.Need-loop-again Inv-loop μ-loop
 loop-again c =
     let l = c .before .before .loop in
     let a = c .before .before .before .args in
     (omega arith, simp length-set (l .inv .1), padded-step (now (a .s)) (a .from) (a .n) (l .i) (l .b) (omega arith) (omega arith) (omega arith) (l .inv .2))
 
--- src/lib.rt:61:1
 returns : tie.Need-returns Inv-loop μ-loop
 returns c =
     let l = c .before .loop in

@@ -1,3 +1,4 @@
+-- `node::pair` meets its contract.
 use Rattle.blake3.specs.Compression.{cv}
 use Rattle.laws.specs.Table.{tab}
 use mathlib.Core.Path.{refl}
@@ -5,74 +6,55 @@ use Rattle.blake3.specs.Tree as P
 use borrow.Author.Needs.{needs}
 use Rattle.node.proofs.pair.Statement.{statement}
 use Rattle.node.proofs.pair.Tie as tie
-use Rattle.node.proofs.pair.Reads as reads
-use Rattle.node.proofs.pair.Lts as lts
 
--- src/lib.rt:145:9
 array-read-t7 : tie.Need-array-read-t7
 array-read-t7 c = search needs
 
--- src/lib.rt:146:9
 array-read-t10 : tie.Need-array-read-t10
 array-read-t10 c = search needs
 
--- src/lib.rt:147:9
 array-read-t13 : tie.Need-array-read-t13
 array-read-t13 c = search needs
 
--- src/lib.rt:148:9
 array-read-t16 : tie.Need-array-read-t16
 array-read-t16 c = search needs
 
--- src/lib.rt:149:9
 array-read-t19 : tie.Need-array-read-t19
 array-read-t19 c = search needs
 
--- src/lib.rt:150:9
 array-read-t22 : tie.Need-array-read-t22
 array-read-t22 c = search needs
 
--- src/lib.rt:151:9
 array-read-t25 : tie.Need-array-read-t25
 array-read-t25 c = search needs
 
--- src/lib.rt:152:9
 array-read-t28 : tie.Need-array-read-t28
 array-read-t28 c = search needs
 
--- src/lib.rt:153:9
 array-read-t31 : tie.Need-array-read-t31
 array-read-t31 c = search needs
 
--- src/lib.rt:154:9
 array-read-t34 : tie.Need-array-read-t34
 array-read-t34 c = search needs
 
--- src/lib.rt:155:9
 array-read-t37 : tie.Need-array-read-t37
 array-read-t37 c = search needs
 
--- src/lib.rt:156:9
 array-read-t40 : tie.Need-array-read-t40
 array-read-t40 c = search needs
 
--- src/lib.rt:157:9
 array-read-t43 : tie.Need-array-read-t43
 array-read-t43 c = search needs
 
--- src/lib.rt:158:9
 array-read-t46 : tie.Need-array-read-t46
 array-read-t46 c = search needs
 
--- src/lib.rt:159:9
 array-read-t49 : tie.Need-array-read-t49
 array-read-t49 c = search needs
 
--- src/lib.rt:160:9
 array-read-t52 : tie.Need-array-read-t52
 array-read-t52 c = search needs
 
--- src/lib.rt:141:1
 returns : tie.Need-returns
 unfolding P.pair cv tab
 returns c = refl

@@ -1,15 +1,12 @@
+-- `node::start_flag` meets its contract.
 use Rattle.node.proofs.Laws.{start-later}
 use borrow.Author.Needs.{needs}
 use Rattle.node.proofs.start_flag.Statement.{statement}
 use Rattle.node.proofs.start_flag.Tie as tie
-use Rattle.node.proofs.start_flag.Reads as reads
-use Rattle.node.proofs.start_flag.Lts as lts
 
--- src/lib.rt:84:1
 returns : tie.Need-returns
 returns c = search needs
 
--- src/lib.rt:84:1
 returns-2 : tie.Need-returns-2
 returns-2 c = start-later _ (c .if1 .left)
 

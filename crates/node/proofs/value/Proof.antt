@@ -1,23 +1,17 @@
+-- `node::value` meets its contract.
 use mathlib.Core.Path.{_∙_, ap}
 use Rattle.blake3.specs.Compression.{cv}
 use Rattle.node.specs.Node.{outOf}
 use borrow.Author.Needs.{needs}
 use Rattle.node.proofs.value.Statement.{statement}
 use Rattle.node.proofs.value.Tie as tie
-use Rattle.node.proofs.value.Reads as reads
-use Rattle.node.proofs.value.Lts as lts
-use Rattle.compress.proofs.compress.Reads as compress-reads
-use Rattle.node.proofs.first_eight.Reads as first-eight-reads
 
--- src/lib.rt:136:9
 compress-requires : tie.Need-compress-requires
 compress-requires c κs = search needs
 
--- src/lib.rt:137:5
 first-eight-requires : tie.Need-first-eight-requires
 first-eight-requires c κs = search needs
 
--- src/lib.rt:131:1
 returns : tie.Need-returns
 unfolding outOf
 returns c = c .first-eight .ensures ∙ ap cv (c .before .compress .ensures)

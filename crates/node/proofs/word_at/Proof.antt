@@ -1,61 +1,45 @@
+-- `node::word_at` meets its contract.
 use Rattle.node.proofs.Laws.{word-read}
 use borrow.Author.Needs.{needs}
 use Rattle.node.proofs.word_at.Statement.{statement}
 use Rattle.node.proofs.word_at.Tie as tie
-use Rattle.node.proofs.word_at.Reads as reads
-use Rattle.node.proofs.word_at.Lts as lts
-use Rattle.node.proofs.wide.Reads as wide-reads
-use Rattle.node.proofs.word_of.Reads as word-of-reads
 
--- src/lib.rt:38:14
 shared-slice-read-wide : tie.Need-shared-slice-read-wide
 shared-slice-read-wide c = search needs
 
--- src/lib.rt:38:9
 wide-requires : tie.Need-wide-requires
 wide-requires c κs = search needs
 
--- src/lib.rt:39:16
 add-wide : tie.Need-add-wide
 add-wide c = search needs
 
--- src/lib.rt:39:14
 shared-slice-read-wide-2 : tie.Need-shared-slice-read-wide-2
 shared-slice-read-wide-2 c = search needs
 
--- src/lib.rt:39:9
 wide-requires-2 : tie.Need-wide-requires-2
 wide-requires-2 c κs = search needs
 
--- src/lib.rt:40:16
 add-wide-2 : tie.Need-add-wide-2
 add-wide-2 c = search needs
 
--- src/lib.rt:40:14
 shared-slice-read-wide-3 : tie.Need-shared-slice-read-wide-3
 shared-slice-read-wide-3 c = search needs
 
--- src/lib.rt:40:9
 wide-requires-3 : tie.Need-wide-requires-3
 wide-requires-3 c κs = search needs
 
--- src/lib.rt:41:16
 add-wide-3 : tie.Need-add-wide-3
 add-wide-3 c = search needs
 
--- src/lib.rt:41:14
 shared-slice-read-wide-4 : tie.Need-shared-slice-read-wide-4
 shared-slice-read-wide-4 c = search needs
 
--- src/lib.rt:41:9
 wide-requires-4 : tie.Need-wide-requires-4
 wide-requires-4 c κs = search needs
 
--- src/lib.rt:37:5
 word-of-requires : tie.Need-word-of-requires
 word-of-requires c κs = search needs
 
--- src/lib.rt:33:1
 returns : tie.Need-returns
 returns c =
     word-read _ (c .before .before .before .before .before .before .before .before .before .before .args .from) (c .word-of .ensures) (c .before .before .before .before .before .before .before .wide .ensures .0) (c .before .before .before .before .before .wide2 .ensures .0) (c .before .before .before .wide3 .ensures .0) (c .before .wide4 .ensures .0)

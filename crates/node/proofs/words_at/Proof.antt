@@ -1,3 +1,4 @@
+-- `node::words_at` meets its contract.
 use mathlib.Core.Path.{_≡_, refl, sym, _∙_}
 use Prim.Native.Nat.{ℕ, _≤_, _<_, _-_}
 use native.Mathlib.Omega.{arith}
@@ -11,9 +12,6 @@ use Rattle.blake3.proofs.Words.{word-of-part}
 use Rattle.node.proofs.Laws.{words-all}
 use Rattle.node.proofs.words_at.Statement.{statement}
 use Rattle.node.proofs.words_at.Tie as tie
-use Rattle.node.proofs.words_at.Reads as reads
-use Rattle.node.proofs.words_at.Lts as lts
-use Rattle.node.proofs.word_at.Reads as word-at-reads
 
 abbrev Inv-loop : tie.InvT-loop
 Inv-loop s from m₀ i₀ m i = (i ≤ 16) × (length m ≡ 16) × ((k : ℕ) → k < i → at m k ≡ word (part 64 from s) k)
@@ -21,39 +19,30 @@ Inv-loop s from m₀ i₀ m i = (i ≤ 16) × (length m ≡ 16) × ((k : ℕ) �
 abbrev μ-loop : tie.MeasureT-loop
 μ-loop s from m₀ i₀ m i = 16 - i
 
--- src/lib.rt:52:5
 loop-holds : tie.Need-loop-holds Inv-loop μ-loop
 loop-holds c = (omega arith, refl, λ k h. absurd (omega arith))
 
--- src/lib.rt:53:35
 mul-word-at : tie.Need-mul-word-at Inv-loop μ-loop
 mul-word-at c = omega arith
 
--- src/lib.rt:53:28
 add-word-at : tie.Need-add-word-at Inv-loop μ-loop
 add-word-at c = omega arith
 
--- src/lib.rt:53:13
 word-at-requires : tie.Need-word-at-requires Inv-loop μ-loop
 word-at-requires c κs = omega arith
 
--- src/lib.rt:54:9
 mul-m : tie.Need-mul-m Inv-loop μ-loop
 mul-m c = omega arith
 
--- src/lib.rt:54:9
 array-write-m : tie.Need-array-write-m Inv-loop μ-loop
 array-write-m c = omega arith
 
--- src/lib.rt:55:9
 add-i : tie.Need-add-i Inv-loop μ-loop
 add-i c = omega arith
 
--- src/lib.rt:52:5
 loop-less : tie.Need-loop-less Inv-loop μ-loop
 loop-less c = omega arith
 
--- src/lib.rt:52:5
 loop-again : tie.Need-loop-again Inv-loop μ-loop
 loop-again c =
     let l = c .before .before .loop in
@@ -64,7 +53,6 @@ loop-again c =
       fill-step (word bs) (l .i) (l .m) _ (omega arith) (c .word-at .ensures ∙ sym (word-of-part (now (a .s)) (a .from) (l .i) (omega arith))) (l .inv .2),
     )
 
--- src/lib.rt:46:1
 returns : tie.Need-returns Inv-loop μ-loop
 returns c =
     let l = c .before .loop in

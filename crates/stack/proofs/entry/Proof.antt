@@ -1,109 +1,83 @@
+-- `stack::entry` meets its contract.
 use native.Mathlib.Nat.{add-zero}
 use Rattle.laws.specs.Table.{tab}
 use Rattle.blake3.specs.Stack as B
 use borrow.Author.Needs.{needs}
 use Rattle.stack.proofs.entry.Statement.{statement}
 use Rattle.stack.proofs.entry.Tie as tie
-use Rattle.stack.proofs.entry.Reads as reads
-use Rattle.stack.proofs.entry.Lts as lts
 
--- src/lib.rt:18:13
 mul-k : tie.Need-mul-k
 mul-k c = search needs
 
--- src/lib.rt:20:9
 mul-t4 : tie.Need-mul-t4
 mul-t4 c = search needs
 
--- src/lib.rt:20:9
 element-copy-out-t7 : tie.Need-element-copy-out-t7
 element-copy-out-t7 c = search needs
 
--- src/lib.rt:21:15
 add-t8 : tie.Need-add-t8
 add-t8 c = search needs
 
--- src/lib.rt:21:9
 mul-t9 : tie.Need-mul-t9
 mul-t9 c = search needs
 
--- src/lib.rt:21:9
 element-copy-out-t12 : tie.Need-element-copy-out-t12
 element-copy-out-t12 c = search needs
 
--- src/lib.rt:22:15
 add-t13 : tie.Need-add-t13
 add-t13 c = search needs
 
--- src/lib.rt:22:9
 mul-t14 : tie.Need-mul-t14
 mul-t14 c = search needs
 
--- src/lib.rt:22:9
 element-copy-out-t17 : tie.Need-element-copy-out-t17
 element-copy-out-t17 c = search needs
 
--- src/lib.rt:23:15
 add-t18 : tie.Need-add-t18
 add-t18 c = search needs
 
--- src/lib.rt:23:9
 mul-t19 : tie.Need-mul-t19
 mul-t19 c = search needs
 
--- src/lib.rt:23:9
 element-copy-out-t22 : tie.Need-element-copy-out-t22
 element-copy-out-t22 c = search needs
 
--- src/lib.rt:24:15
 add-t23 : tie.Need-add-t23
 add-t23 c = search needs
 
--- src/lib.rt:24:9
 mul-t24 : tie.Need-mul-t24
 mul-t24 c = search needs
 
--- src/lib.rt:24:9
 element-copy-out-t27 : tie.Need-element-copy-out-t27
 element-copy-out-t27 c = search needs
 
--- src/lib.rt:25:15
 add-t28 : tie.Need-add-t28
 add-t28 c = search needs
 
--- src/lib.rt:25:9
 mul-t29 : tie.Need-mul-t29
 mul-t29 c = search needs
 
--- src/lib.rt:25:9
 element-copy-out-t32 : tie.Need-element-copy-out-t32
 element-copy-out-t32 c = search needs
 
--- src/lib.rt:26:15
 add-t33 : tie.Need-add-t33
 add-t33 c = search needs
 
--- src/lib.rt:26:9
 mul-t34 : tie.Need-mul-t34
 mul-t34 c = search needs
 
--- src/lib.rt:26:9
 element-copy-out-t37 : tie.Need-element-copy-out-t37
 element-copy-out-t37 c = search needs
 
--- src/lib.rt:27:15
 add-t38 : tie.Need-add-t38
 add-t38 c = search needs
 
--- src/lib.rt:27:9
 mul-t39 : tie.Need-mul-t39
 mul-t39 c = search needs
 
--- src/lib.rt:27:9
 element-copy-out-t42 : tie.Need-element-copy-out-t42
 element-copy-out-t42 c = search needs
 
--- src/lib.rt:14:1
 returns : tie.Need-returns
 unfolding B.entry tab
 returns c = simp add-zero

@@ -1,3 +1,4 @@
+-- `stack::joined` meets its contract.
 use mathlib.Core.Path.{_≡_, refl}
 use Prim.Native.Nat.{_≤_}
 use native.Mathlib.Omega.{arith}
@@ -6,11 +7,6 @@ use Rattle.stack.specs.Push as S
 use Rattle.stack.proofs.Array.{joined-turn, joined-end}
 use Rattle.stack.proofs.joined.Statement.{statement}
 use Rattle.stack.proofs.joined.Tie as tie
-use Rattle.stack.proofs.joined.Reads as reads
-use Rattle.stack.proofs.joined.Lts as lts
-use Rattle.node.proofs.parent.Reads as parent-reads
-use Rattle.node.proofs.value.Reads as value-reads
-use Rattle.stack.proofs.entry.Reads as entry-reads
 
 abbrev Inv-loop : tie.InvT-loop
 Inv-loop key flags stack depth count u₀ top₀ left₀ u top left = (left ≤ top) × (top ≤ depth) × (S.joined key flags left stack top u ≡ S.joined key flags count stack depth u₀)
@@ -18,45 +14,35 @@ Inv-loop key flags stack depth count u₀ top₀ left₀ u top left = (left ≤ 
 abbrev μ-loop : tie.MeasureT-loop
 μ-loop key flags stack depth count u₀ top₀ left₀ u top left = left
 
--- src/lib.rt:58:5
 loop-holds : tie.Need-loop-holds Inv-loop μ-loop
 loop-holds c = (omega arith, omega arith, refl)
 
--- src/lib.rt:59:30
 sub-entry : tie.Need-sub-entry Inv-loop μ-loop
 sub-entry c = omega arith
 
--- src/lib.rt:59:13
 entry-requires : tie.Need-entry-requires Inv-loop μ-loop
 entry-requires c κs = omega arith
 
--- src/lib.rt:60:13
 parent-requires : tie.Need-parent-requires Inv-loop μ-loop
 parent-requires c κs = search needs
 
--- src/lib.rt:61:13
 value-requires : tie.Need-value-requires Inv-loop μ-loop
 value-requires c κs = search needs
 
--- src/lib.rt:63:9
 sub-top : tie.Need-sub-top Inv-loop μ-loop
 sub-top c = omega arith
 
--- src/lib.rt:64:9
 sub-left : tie.Need-sub-left Inv-loop μ-loop
 sub-left c = omega arith
 
--- src/lib.rt:58:5
 loop-less : tie.Need-loop-less Inv-loop μ-loop
 loop-less c = omega arith
 
--- src/lib.rt:58:5
 loop-again : tie.Need-loop-again Inv-loop μ-loop
 loop-again c =
     let l = c .before .before .before .before .loop in
     (omega arith, omega arith, joined-turn _ _ (l .left) (l .top) _ _ _ _ _ _ (omega arith) (c .before .before .entry .ensures) (c .before .parent .ensures 0) (c .value .ensures) (l .inv .2))
 
--- src/lib.rt:44:1
 returns : tie.Need-returns Inv-loop μ-loop
 returns c =
     let l = c .before .loop in

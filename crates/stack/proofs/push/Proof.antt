@@ -1,31 +1,23 @@
+-- `stack::push` meets its contract.
 use mathlib.Core.Path.{refl, ap, _∙_}
 use Rattle.laws.specs.Lists.{stored}
 use Rattle.stack.specs.Push as S
 use borrow.Author.Needs.{needs}
 use Rattle.stack.proofs.push.Statement.{statement}
 use Rattle.stack.proofs.push.Tie as tie
-use Rattle.stack.proofs.push.Reads as reads
-use Rattle.stack.proofs.push.Lts as lts
-use Rattle.stack.proofs.joined.Reads as joined-reads
-use Rattle.stack.proofs.put.Reads as put-reads
 
--- src/lib.rt:82:9
 joined-requires : tie.Need-joined-requires
 joined-requires c κs = search needs
 
--- src/lib.rt:83:13
 sub-i : tie.Need-sub-i
 sub-i c = search needs
 
--- src/lib.rt:84:5
 put-requires : tie.Need-put-requires
 put-requires c κs = search needs
 
--- src/lib.rt:85:5
 add-result : tie.Need-add-result
 add-result c = search needs
 
--- src/lib.rt:70:1
 returns : tie.Need-returns
 unfolding S.pushed S.pushedDepth
 returns c = (refl, c .put .ensures ∙ ap (stored _ _) (c .before .before .joined .ensures))

@@ -1,3 +1,4 @@
+-- `stack::put` meets its contract.
 use mathlib.Core.Path.{_≡_}
 use Prim.Native.Nat.{_≤_, _-_, _*_, _+_}
 use native.Mathlib.Omega.{arith}
@@ -6,8 +7,6 @@ use Rattle.laws.specs.Lists.{stored}
 use Rattle.laws.proofs.Lists.{put-begin, put-step, put-end}
 use Rattle.stack.proofs.put.Statement.{statement}
 use Rattle.stack.proofs.put.Tie as tie
-use Rattle.stack.proofs.put.Reads as reads
-use Rattle.stack.proofs.put.Lts as lts
 
 abbrev Inv-loop : tie.InvT-loop
 Inv-loop stack₀ i v j₀ stack j = (j ≤ 8) × (stored stack (8 * i + j) (drop j v) ≡ stored stack₀ (8 * i) v)
@@ -15,50 +14,39 @@ Inv-loop stack₀ i v j₀ stack j = (j ≤ 8) × (stored stack (8 * i + j) (dro
 abbrev μ-loop : tie.MeasureT-loop
 μ-loop stack₀ i v j₀ stack j = 8 - j
 
--- src/lib.rt:37:5
 loop-holds : tie.Need-loop-holds Inv-loop μ-loop
 loop-holds c = (omega arith, put-begin _ _ _)
 
--- src/lib.rt:38:28
 mul-stack : tie.Need-mul-stack Inv-loop μ-loop
 mul-stack c = omega arith
 
--- src/lib.rt:38:28
 array-read-stack : tie.Need-array-read-stack Inv-loop μ-loop
 array-read-stack c = omega arith
 
--- src/lib.rt:38:15
 mul-stack-2 : tie.Need-mul-stack-2 Inv-loop μ-loop
 mul-stack-2 c = omega arith
 
--- src/lib.rt:38:15
 add-stack : tie.Need-add-stack Inv-loop μ-loop
 add-stack c = omega arith
 
--- src/lib.rt:38:9
 mul-stack-3 : tie.Need-mul-stack-3 Inv-loop μ-loop
 mul-stack-3 c = omega arith
 
--- src/lib.rt:38:9
 element-write-stack : tie.Need-element-write-stack Inv-loop μ-loop
 element-write-stack c = omega arith
 
--- src/lib.rt:39:9
 add-j : tie.Need-add-j Inv-loop μ-loop
 add-j c = omega arith
 
--- src/lib.rt:37:5
 loop-less : tie.Need-loop-less Inv-loop μ-loop
 loop-less c = omega arith
 
--- src/lib.rt:37:5
 loop-again : tie.Need-loop-again Inv-loop μ-loop
 loop-again c =
     let l = c .before .loop in
     let a = c .before .before .args in
     (omega arith, put-step (l .stack) (8 * a .i) (a .t3) (l .j) _ (omega arith) (l .inv .1))
 
--- src/lib.rt:32:1
 returns : tie.Need-returns Inv-loop μ-loop
 returns c =
     let l = c .before .loop in

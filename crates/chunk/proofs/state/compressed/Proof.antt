@@ -1,3 +1,4 @@
+-- `chunk::state::compressed` meets its contract.
 use mathlib.Core.Path.{_∙_}
 use native.Mathlib.Omega.{arith}
 use Rattle.node.proofs.Laws.{block-whole}
@@ -6,38 +7,25 @@ use Rattle.chunk.proofs.Feed.{block-length, compressed-law}
 use borrow.Author.Needs.{needs}
 use Rattle.chunk.proofs.state.compressed.Statement.{statement}
 use Rattle.chunk.proofs.state.compressed.Tie as tie
-use Rattle.chunk.proofs.state.compressed.Reads as reads
-use Rattle.chunk.proofs.state.compressed.Lts as lts
-use Rattle.compress.proofs.compress.Reads as compress-reads
-use Rattle.node.proofs.first_eight.Reads as first-eight-reads
-use Rattle.node.proofs.start_flag.Reads as start-flag-reads
-use Rattle.node.proofs.words_at.Reads as words-at-reads
 
--- src/state.rt:55:22
 slice-aggregate-words-at : tie.Need-slice-aggregate-words-at
 slice-aggregate-words-at c = search needs
 
--- src/state.rt:55:9
 words-at-requires : tie.Need-words-at-requires
 words-at-requires c κs = omega (arith, block-length (c .before .before .before .args .s) _ (c .before .before .before .good .0))
 
--- src/state.rt:56:9
 start-flag-requires : tie.Need-start-flag-requires
 start-flag-requires c κs = search needs
 
--- src/state.rt:57:9
 compress-requires : tie.Need-compress-requires
 compress-requires c κs = search needs
 
--- src/state.rt:58:9
 first-eight-requires : tie.Need-first-eight-requires
 first-eight-requires c κs = search needs
 
--- src/state.rt:61:17
 add-t11 : tie.Need-add-t11
 add-t11 c = search needs
 
--- src/state.rt:49:1
 returns : tie.Need-returns
 returns c =
     let s = c .before .before .before .before .before .before .before .before .before .args .s in

@@ -1,3 +1,4 @@
+-- `chunk::state::feed` meets its contract.
 use mathlib.Core.Path.{_≡_, refl, _∙_}
 use mathlib.Core.Logic.{⊎-elim}
 use Prim.Native.Nat.{_≤_, _<_, _-_, _+_, _*_}
@@ -9,11 +10,6 @@ use Rattle.chunk.specs.State as S
 use Rattle.chunk.proofs.Feed.{Roomed, roomed-full, roomed-not, feed-turn}
 use Rattle.chunk.proofs.state.feed.Statement.{statement}
 use Rattle.chunk.proofs.state.feed.Tie as tie
-use Rattle.chunk.proofs.state.feed.Reads as reads
-use Rattle.chunk.proofs.state.feed.Lts as lts
-use Rattle.chunk.proofs.state.compressed.Reads as compressed-reads
-use Rattle.chunk.proofs.state.filled.Reads as filled-reads
-use Rattle.chunk.proofs.state.least.Reads as least-reads
 
 abbrev Inv-loop : tie.InvT-loop
 Inv-loop input s₀ i₀ s i =
@@ -22,15 +18,12 @@ Inv-loop input s₀ i₀ s i =
 abbrev μ-loop : tie.MeasureT-loop
 μ-loop input s₀ i₀ s i = length input - i
 
--- src/state.rt:98:5
 loop-holds : tie.Need-loop-holds Inv-loop μ-loop
 loop-holds c = (omega arith, c .before .pre .within, omega arith, refl)
 
--- src/state.rt:100:17
 compressed-requires : tie.Need-compressed-requires Inv-loop μ-loop
 compressed-requires c κs = omega arith
 
--- src/state.rt:104:23
 -- where the arms meet there is room for a byte
 joined : (c : tie.Joined1 Inv-loop μ-loop) → Roomed (c .before .before .before .loop .s) (c .if1 .s)
 joined c =
@@ -42,31 +35,24 @@ joined c =
 sub-least : tie.Need-sub-least Inv-loop μ-loop
 sub-least c = omega (arith, joined c .room)
 
--- src/state.rt:104:32
 sub-least-2 : tie.Need-sub-least-2 Inv-loop μ-loop
 sub-least-2 c = omega arith
 
--- src/state.rt:104:13
 least-requires : tie.Need-least-requires Inv-loop μ-loop
 least-requires c κs = search needs
 
--- src/state.rt:106:13
 filled-requires : tie.Need-filled-requires Inv-loop μ-loop
 filled-requires c κs = omega (arith, joined (c .before .before) .room)
 
--- src/state.rt:108:18
 add-s : tie.Need-add-s Inv-loop μ-loop
 add-s c = omega (arith, joined (c .before .before .before) .room)
 
--- src/state.rt:109:9
 add-i : tie.Need-add-i Inv-loop μ-loop
 add-i c = omega arith
 
--- src/state.rt:98:5
 loop-less : tie.Need-loop-less Inv-loop μ-loop
 loop-less c = omega (arith, joined (c .before .before .before) .room)
 
--- src/state.rt:98:5
 loop-again : tie.Need-loop-again Inv-loop μ-loop
 loop-again c =
     let l = c .before .before .before .before .before .before .loop in
@@ -82,7 +68,6 @@ loop-again c =
       feed-turn (l .s) u (now (a .input)) _ (l .i) n _ (j .same) p f (omega arith) (c .filled .ensures) (l .inv .3),
     )
 
--- src/state.rt:92:1
 returns : tie.Need-returns Inv-loop μ-loop
 unfolding S.fed
 returns c =

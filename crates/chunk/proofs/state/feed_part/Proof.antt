@@ -1,3 +1,4 @@
+-- `chunk::state::feed_part` meets its contract.
 use mathlib.Core.Path.{refl}
 use Prim.Native.Nat.{_+_}
 use lib.ListN.{length}
@@ -8,22 +9,15 @@ use Rattle.chunk.proofs.Feed.{fits-after, fed-then}
 use borrow.Author.Needs.{needs}
 use Rattle.chunk.proofs.state.feed_part.Statement.{statement}
 use Rattle.chunk.proofs.state.feed_part.Tie as tie
-use Rattle.chunk.proofs.state.feed_part.Reads as reads
-use Rattle.chunk.proofs.state.feed_part.Lts as lts
-use Rattle.chunk.proofs.state.feed.Reads as feed-reads
-use Rattle.chunk.proofs.state.feed_number.Reads as feed-number-reads
 
--- src/state.rt:144:9
 feed-number-requires : tie.Need-feed-number-requires
 feed-number-requires c κs = search needs
 
--- src/state.rt:145:5
 feed-requires : tie.Need-feed-requires
 feed-requires c κs =
     let a = c .before .before .args in
     fits-after (a .s) _ (leBytes 8 (length (now (a .bytes)))) 8 (length (now (a .bytes))) (8 + length (now (a .bytes))) (c .feed-number .ensures) (length-leBytes 8 (length (now (a .bytes)))) refl (c .before .before .pre)
 
--- src/state.rt:140:1
 returns : tie.Need-returns
 returns c = fed-then _ _ _ (c .before .feed-number .ensures) (c .feed .ensures)
 

@@ -1,3 +1,4 @@
+-- `chunk::state::feed_word` meets its contract.
 use mathlib.Core.Path.{refl, ap, sym, _∙_}
 use native.Mathlib.Omega.{arith}
 use Rattle.laws.specs.Lists.{leBytes}
@@ -7,22 +8,16 @@ use Rattle.chunk.proofs.Feed.{fits-after, fed-then}
 use borrow.Author.Needs.{needs}
 use Rattle.chunk.proofs.state.feed_word.Statement.{statement}
 use Rattle.chunk.proofs.state.feed_word.Tie as tie
-use Rattle.chunk.proofs.state.feed_word.Reads as reads
-use Rattle.chunk.proofs.state.feed_word.Lts as lts
-use Rattle.chunk.proofs.state.feed_number.Reads as feed-number-reads
 use Rattle.laws.proofs.Bytes.{leBytes-joined}
 
--- src/state.rt:153:9
 feed-number-requires : tie.Need-feed-number-requires
 feed-number-requires c κs = search needs
 
--- src/state.rt:154:5
 feed-number-requires-2 : tie.Need-feed-number-requires-2
 feed-number-requires-2 c κs =
     let a = c .before .args in
     fits-after (a .s) _ (leBytes 8 (a .lo)) 8 8 16 (c .feed-number .ensures) (length-leBytes 8 (a .lo)) refl (c .before .pre)
 
--- src/state.rt:149:1
 returns : tie.Need-returns
 returns c =
     let a = c .before .before .args in

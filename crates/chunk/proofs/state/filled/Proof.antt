@@ -1,3 +1,4 @@
+-- `chunk::state::filled` meets its contract.
 use mathlib.Core.Path.{_≡_}
 use Prim.Native.Nat.{_≤_, _+_, _-_}
 use native.Mathlib.Omega.{arith}
@@ -8,8 +9,6 @@ use Rattle.laws.proofs.Lists.{put-begin}
 use Rattle.chunk.proofs.Feed.{filled-step, filled-end}
 use Rattle.chunk.proofs.state.filled.Statement.{statement}
 use Rattle.chunk.proofs.state.filled.Tie as tie
-use Rattle.chunk.proofs.state.filled.Reads as reads
-use Rattle.chunk.proofs.state.filled.Lts as lts
 
 abbrev Inv-loop : tie.InvT-loop
 Inv-loop to input from n b₀ i₀ b i = (i ≤ n) × (length b ≡ 64) × (stored b (to + i) (drop i (part n from input)) ≡ stored b₀ to (part n from input))
@@ -17,42 +16,33 @@ Inv-loop to input from n b₀ i₀ b i = (i ≤ n) × (length b ≡ 64) × (stor
 abbrev μ-loop : tie.MeasureT-loop
 μ-loop to input from n b₀ i₀ b i = n - i
 
--- src/state.rt:76:5
 loop-holds : tie.Need-loop-holds Inv-loop μ-loop
 loop-holds c = (omega arith, omega arith, put-begin _ _ _)
 
--- src/state.rt:77:27
 add-b : tie.Need-add-b Inv-loop μ-loop
 add-b c = omega arith
 
--- src/state.rt:77:21
 shared-slice-read-b : tie.Need-shared-slice-read-b Inv-loop μ-loop
 shared-slice-read-b c = omega arith
 
--- src/state.rt:77:11
 add-b-2 : tie.Need-add-b-2 Inv-loop μ-loop
 add-b-2 c = omega arith
 
--- src/state.rt:77:9
 array-write-b : tie.Need-array-write-b Inv-loop μ-loop
 array-write-b c = omega arith
 
--- src/state.rt:78:9
 add-i : tie.Need-add-i Inv-loop μ-loop
 add-i c = omega arith
 
--- src/state.rt:76:5
 loop-less : tie.Need-loop-less Inv-loop μ-loop
 loop-less c = omega arith
 
--- src/state.rt:76:5
 loop-again : tie.Need-loop-again Inv-loop μ-loop
 loop-again c =
     let l = c .before .before .loop in
     let a = c .before .before .before .args in
     (omega arith, simp length-set (l .inv .1), filled-step (l .b) (now (a .input)) (a .to) (a .from) (a .n) (l .i) _ (omega arith) (omega arith) (l .inv .2))
 
--- src/state.rt:70:1
 returns : tie.Need-returns Inv-loop μ-loop
 returns c =
     let l = c .before .loop in

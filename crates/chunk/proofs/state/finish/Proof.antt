@@ -1,3 +1,4 @@
+-- `chunk::state::finish` meets its contract.
 use mathlib.Core.Path.{ap, _∙_}
 use Rattle.blake3.specs.Compression.{cv}
 use Rattle.blake3.specs.Digest.{wordBytes}
@@ -5,25 +6,16 @@ use Rattle.chunk.specs.State as S
 use borrow.Author.Needs.{needs}
 use Rattle.chunk.proofs.state.finish.Statement.{statement}
 use Rattle.chunk.proofs.state.finish.Tie as tie
-use Rattle.chunk.proofs.state.finish.Reads as reads
-use Rattle.chunk.proofs.state.finish.Lts as lts
-use Rattle.chunk.proofs.state.last.Reads as last-reads
-use Rattle.node.proofs.bytes_of.Reads as bytes-of-reads
-use Rattle.node.proofs.value.Reads as value-reads
 
--- src/state.rt:189:9
 last-requires : tie.Need-last-requires
 last-requires c κs = search needs
 
--- src/state.rt:190:9
 value-requires : tie.Need-value-requires
 value-requires c κs = search needs
 
--- src/state.rt:191:5
 bytes-of-requires : tie.Need-bytes-of-requires
 bytes-of-requires c κs = search needs
 
--- src/state.rt:185:1
 returns : tie.Need-returns
 unfolding S.finished
 returns c = c .bytes-of .ensures ∙ ap wordBytes (c .before .value .ensures ∙ ap cv (c .before .before .last .ensures 8))

@@ -1,31 +1,23 @@
+-- `chunk::state::last` meets its contract.
 use native.Mathlib.Omega.{arith}
 use Rattle.node.specs.Node.{outOf}
 use Rattle.chunk.proofs.Feed.{block-length, last-law}
 use borrow.Author.Needs.{needs}
 use Rattle.chunk.proofs.state.last.Statement.{statement}
 use Rattle.chunk.proofs.state.last.Tie as tie
-use Rattle.chunk.proofs.state.last.Reads as reads
-use Rattle.chunk.proofs.state.last.Lts as lts
-use Rattle.node.proofs.last_words.Reads as last-words-reads
-use Rattle.node.proofs.start_flag.Reads as start-flag-reads
 
--- src/state.rt:173:24
 slice-aggregate-last-words : tie.Need-slice-aggregate-last-words
 slice-aggregate-last-words c = search needs
 
--- src/state.rt:173:9
 last-words-requires : tie.Need-last-words-requires
 last-words-requires c κs = omega (arith, block-length (c .before .before .before .args .s) _ (c .before .before .before .good .0))
 
--- src/state.rt:174:9
 start-flag-requires : tie.Need-start-flag-requires
 start-flag-requires c κs = search needs
 
--- src/state.rt:179:14
 cast-t9 : tie.Need-cast-t9
 cast-t9 c = search needs
 
--- src/state.rt:166:1
 returns : tie.Need-returns
 unfolding outOf
 returns c =

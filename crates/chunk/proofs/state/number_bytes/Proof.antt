@@ -1,3 +1,4 @@
+-- `chunk::state::number_bytes` meets its contract.
 use mathlib.Core.Path.{_≡_, refl}
 use Prim.Native.Nat.{_≤_, _-_}
 use native.Mathlib.Omega.{arith}
@@ -7,9 +8,6 @@ use Rattle.laws.specs.Lists.{stored, leBytes}
 use Rattle.chunk.proofs.Feed.{number-begin, number-step, number-end}
 use Rattle.chunk.proofs.state.number_bytes.Statement.{statement}
 use Rattle.chunk.proofs.state.number_bytes.Tie as tie
-use Rattle.chunk.proofs.state.number_bytes.Reads as reads
-use Rattle.chunk.proofs.state.number_bytes.Lts as lts
-use Rattle.node.proofs.low_byte.Reads as low-byte-reads
 
 abbrev Inv-loop : tie.InvT-loop
 Inv-loop x b₀ left₀ i₀ b left i = (i ≤ 8) × (length b ≡ 8) × (stored b i (leBytes (8 - i) left) ≡ leBytes 8 left₀)
@@ -17,33 +15,26 @@ Inv-loop x b₀ left₀ i₀ b left i = (i ≤ 8) × (length b ≡ 8) × (stored
 abbrev μ-loop : tie.MeasureT-loop
 μ-loop x b₀ left₀ i₀ b left i = 8 - i
 
--- src/state.rt:121:5
 loop-holds : tie.Need-loop-holds Inv-loop μ-loop
 loop-holds c = (omega arith, refl, number-begin _ _ refl)
 
--- src/state.rt:122:13
 low-byte-requires : tie.Need-low-byte-requires Inv-loop μ-loop
 low-byte-requires c κs = search needs
 
--- src/state.rt:123:9
 array-write-b : tie.Need-array-write-b Inv-loop μ-loop
 array-write-b c = omega arith
 
--- src/state.rt:125:9
 add-i : tie.Need-add-i Inv-loop μ-loop
 add-i c = omega arith
 
--- src/state.rt:121:5
 loop-less : tie.Need-loop-less Inv-loop μ-loop
 loop-less c = omega arith
 
--- src/state.rt:121:5
 loop-again : tie.Need-loop-again Inv-loop μ-loop
 loop-again c =
     let l = c .before .before .loop in
     (omega arith, simp length-set (l .inv .1), number-step (l .b) (l .i) (l .left) _ _ (omega arith) (c .low-byte .ensures) (l .inv .2))
 
--- src/state.rt:115:1
 returns : tie.Need-returns Inv-loop μ-loop
 returns c =
     let l = c .before .loop in

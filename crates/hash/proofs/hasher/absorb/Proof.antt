@@ -1,3 +1,4 @@
+-- `hash::hasher::absorb` meets its contract.
 use mathlib.Core.Path.{_≡_, refl, _∙_}
 use mathlib.Core.Logic.{⊎-elim}
 use Prim.Native.Nat.{_≤_, _<_, _-_, _+_, _*_}
@@ -11,13 +12,6 @@ use Rattle.hash.specs.Hasher as S
 use Rattle.hash.proofs.Absorb.{Roomed, roomed-full, roomed-not, lent-fits, lent-fed, counts-same, absorb-turn, absorb-counts}
 use Rattle.hash.proofs.hasher.absorb.Statement.{statement}
 use Rattle.hash.proofs.hasher.absorb.Tie as tie
-use Rattle.hash.proofs.hasher.absorb.Reads as reads
-use Rattle.hash.proofs.hasher.absorb.Lts as lts
-use Rattle.chunk.proofs.state.feed.Reads as feed-reads
-use Rattle.chunk.proofs.state.least.Reads as least-reads
-use Rattle.hash.proofs.hasher.chunk_of.Reads as chunk-of-reads
-use Rattle.hash.proofs.hasher.next_chunk.Reads as next-chunk-reads
-use Rattle.hash.proofs.hasher.with_chunk.Reads as with-chunk-reads
 
 abbrev Inv-loop : tie.InvT-loop
 Inv-loop input s₀ i₀ s i =
@@ -26,25 +20,20 @@ Inv-loop input s₀ i₀ s i =
 abbrev μ-loop : tie.MeasureT-loop
 μ-loop input s₀ i₀ s i = length input - i
 
--- src/hasher.rt:176:5
 loop-holds : tie.Need-loop-holds Inv-loop μ-loop
 loop-holds c = (omega arith, counts-same (let e : length (now (c .before .args .input)) ≡ length (now (c .before .args .input)) - 0 = omega arith in e) (c .before .pre), refl)
 
--- src/hasher.rt:177:12
 mul-if1 : tie.Need-mul-if1 Inv-loop μ-loop
 mul-if1 c = omega (arith, c .before .before .loop .inv .1 .low)
 
--- src/hasher.rt:177:12
 add-if1 : tie.Need-add-if1 Inv-loop μ-loop
 add-if1 c = omega (arith, c .before .before .before .loop .inv .1 .low, c .before .before .before .loop .inv .1 .within)
 
--- src/hasher.rt:178:17
 next-chunk-requires : tie.Need-next-chunk-requires Inv-loop μ-loop
 next-chunk-requires c κs =
     let k = c .before .before .before .before .loop .inv .1 in
     (record { small = omega (arith, k .small); low = k .low; within = k .within; sum = k .sum; deep = k .deep }, c .if1 .taken)
 
--- src/hasher.rt:181:31
 -- where the arms meet there is room for a byte
 joined : (c : tie.Joined1 Inv-loop μ-loop) → Roomed (c .before .before .before .before .loop .s) (c .if1 .s) (length (now (c .before .before .before .before .before .before .args .input)) - c .before .before .before .before .loop .i)
 joined c =
@@ -56,58 +45,45 @@ joined c =
 mul-least : tie.Need-mul-least Inv-loop μ-loop
 mul-least c = omega (arith, joined (c .before) .counts .low)
 
--- src/hasher.rt:181:31
 add-least : tie.Need-add-least Inv-loop μ-loop
 add-least c = omega (arith, joined (c .before .before) .room)
 
--- src/hasher.rt:181:23
 sub-least : tie.Need-sub-least Inv-loop μ-loop
 sub-least c = omega (arith, joined (c .before .before) .room)
 
--- src/hasher.rt:181:56
 sub-least-2 : tie.Need-sub-least-2 Inv-loop μ-loop
 sub-least-2 c = omega arith
 
--- src/hasher.rt:181:13
 least-requires : tie.Need-least-requires Inv-loop μ-loop
 least-requires c κs = search needs
 
--- src/hasher.rt:182:19
 add-end : tie.Need-add-end Inv-loop μ-loop
 add-end c = omega arith
 
--- src/hasher.rt:183:13
 chunk-of-requires : tie.Need-chunk-of-requires Inv-loop μ-loop
 chunk-of-requires c κs = search needs
 
--- src/hasher.rt:184:27
 sub-feed : tie.Need-sub-feed Inv-loop μ-loop
 sub-feed c = omega arith
 
--- src/hasher.rt:184:27
 part-feed-start : tie.Need-part-feed-start Inv-loop μ-loop
 part-feed-start c = omega arith
 
--- src/hasher.rt:184:27
 part-feed-end : tie.Need-part-feed-end Inv-loop μ-loop
 part-feed-end c = omega arith
 
--- src/hasher.rt:184:13
 feed-requires : tie.Need-feed-requires Inv-loop μ-loop
 feed-requires c κs =
     let l = c .before .before .before .before .before .before .before .before .before .loop in
     let j = joined (c .before .before .before .before .before) in
     lent-fits (c .before .before .before .before .before .if1 .s) (now (c .before .before .before .before .before .before .before .before .before .before .before .args .input)) (l .i) (c .before .before .least .result) (c .before .chunk-of .ensures) (omega (arith, c .before .before .least .ensures)) (j .counts .within) (omega (arith, j .room, c .before .before .least .ensures))
 
--- src/hasher.rt:185:13
 with-chunk-requires : tie.Need-with-chunk-requires Inv-loop μ-loop
 with-chunk-requires c κs = omega (arith, joined (c .before .before .before .before .before .before) .counts .small)
 
--- src/hasher.rt:176:5
 loop-less : tie.Need-loop-less Inv-loop μ-loop
 loop-less c = omega (arith, joined (c .before .before .before .before .before .before .before) .room, c .before .before .before .before .least .ensures, c .before .before .before .before .before .before .before .before .before .before .loop-test .taken)
 
--- src/hasher.rt:176:5
 loop-again : tie.Need-loop-again Inv-loop μ-loop
 loop-again c =
     let l = c .before .before .before .before .before .before .before .before .before .before .before .loop in
@@ -127,7 +103,6 @@ loop-again c =
       absorb-turn (l .s) u (now (a .input)) (l .i) n (j .same) p (record { within = j .counts .within; small = f }) b g (c .with-chunk .ensures) (l .inv .2),
     )
 
--- src/hasher.rt:170:1
 returns : tie.Need-returns Inv-loop μ-loop
 unfolding S.absorbed
 returns c =

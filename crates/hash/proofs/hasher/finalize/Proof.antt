@@ -1,28 +1,21 @@
+-- `hash::hasher::finalize` meets its contract.
 use mathlib.Core.Path.{sym, _∙_}
 use Rattle.hash.specs.Hasher as S
 use Rattle.hash.proofs.Ready.{ready, answer-refused, answer-done}
 use borrow.Author.Needs.{needs}
 use Rattle.hash.proofs.hasher.finalize.Statement.{statement}
 use Rattle.hash.proofs.hasher.finalize.Tie as tie
-use Rattle.hash.proofs.hasher.finalize.Reads as reads
-use Rattle.hash.proofs.hasher.finalize.Lts as lts
-use Rattle.hash.proofs.hasher.finish.Reads as finish-reads
-use Rattle.hash.proofs.hasher.number.Reads as number-reads
 
--- src/hasher.rt:234:9
 number-requires : tie.Need-number-requires
 number-requires c κs = search needs
 
--- src/hasher.rt:236:9
 returns : tie.Need-returns
 unfolding S.finalizeOf
 returns c = answer-refused (S.numberOf (c .before .before .args .s) 0) _ _ (c .before .number .ensures) (c .if1 .taken)
 
--- src/hasher.rt:241:9
 finish-requires : tie.Need-finish-requires
 finish-requires c κs = ready _ 0 (sym (c .before .number .ensures) ∙ c .if1 .left)
 
--- src/hasher.rt:231:1
 returns-2 : tie.Need-returns-2
 unfolding S.finalizeOf
 returns-2 c = answer-done (S.numberOf (c .before .before .before .args .s) 0) _ _ (c .before .before .number .ensures) _ (c .before .if1 .left) (c .finish .ensures)

@@ -1,3 +1,4 @@
+-- `hash::hasher::new` meets its contract.
 use mathlib.Core.Path.{ap, _∙_}
 use mathlib.Core.List.{List}
 use Prim.Native.Nat.{ℕ}
@@ -5,20 +6,13 @@ use Rattle.hash.specs.Hasher as S
 use borrow.Author.Needs.{needs}
 use Rattle.hash.proofs.hasher.new.Statement.{statement}
 use Rattle.hash.proofs.hasher.new.Tie as tie
-use Rattle.hash.proofs.hasher.new.Reads as reads
-use Rattle.hash.proofs.hasher.new.Lts as lts
-use Rattle.compress.proofs.iv.Reads as iv-reads
-use Rattle.hash.proofs.hasher.new_with.Reads as new-with-reads
 
--- src/hasher.rt:59:9
 iv-requires : tie.Need-iv-requires
 iv-requires c κs = search needs
 
--- src/hasher.rt:60:5
 new-with-requires : tie.Need-new-with-requires
 new-with-requires c κs = search needs
 
--- src/hasher.rt:56:1
 returns : tie.Need-returns
 returns c = c .new-with .ensures ∙ ap (λ (k : List ℕ). S.newOf k 0) (c .before .iv .ensures)
 

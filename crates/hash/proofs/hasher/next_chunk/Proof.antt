@@ -1,3 +1,4 @@
+-- `hash::hasher::next_chunk` meets its contract.
 use Prim.Native.Nat.{_+_, _^_, _<_}
 use native.Mathlib.Omega.{arith}
 use lib.Count.{ones-le, trailing-le}
@@ -6,34 +7,22 @@ use Rattle.hash.proofs.Absorb.{next-law}
 use borrow.Author.Needs.{needs}
 use Rattle.hash.proofs.hasher.next_chunk.Statement.{statement}
 use Rattle.hash.proofs.hasher.next_chunk.Tie as tie
-use Rattle.hash.proofs.hasher.next_chunk.Reads as reads
-use Rattle.hash.proofs.hasher.next_chunk.Lts as lts
-use Rattle.chunk.proofs.state.last.Reads as last-reads
-use Rattle.hash.proofs.hasher.chunk_of.Reads as chunk-of-reads
-use Rattle.node.proofs.value.Reads as value-reads
-use Rattle.stack.proofs.push.Reads as push-reads
 
--- src/hasher.rt:148:9
 chunk-of-requires : tie.Need-chunk-of-requires
 chunk-of-requires c κs = search needs
 
--- src/hasher.rt:149:9
 last-requires : tie.Need-last-requires
 last-requires c κs = rw (c .chunk-of .ensures) (c .before .pre .0 .within)
 
--- src/hasher.rt:150:9
 value-requires : tie.Need-value-requires
 value-requires c κs = search needs
 
--- src/hasher.rt:153:37
 add-count : tie.Need-add-count
 add-count c = search needs
 
--- src/hasher.rt:153:17
 cast-count : tie.Need-cast-count
 cast-count c = omega (arith, trailing-le 64 (c .before .before .before .before .before .before .args .s .chunks + 1))
 
--- src/hasher.rt:154:9
 push-requires : tie.Need-push-requires
 push-requires c κs =
     let o = c .before .before .before .before .before .before .before in
@@ -42,11 +31,9 @@ push-requires c κs =
     let n : s .chunks + 1 < 2 ^ 14 = omega (arith, k .sum, k .small, o .pre .1) in
     (tower-merges (s .key) (s .flags) (s .chunks) (s .depth) (k .deep), omega (arith, k .deep, ones-le 14 (s .chunks) (omega arith)), tower-room (s .key) (s .flags) (s .chunks) (s .depth) (k .deep) n)
 
--- src/hasher.rt:162:17
 add-t9 : tie.Need-add-t9
 add-t9 c = search needs
 
--- src/hasher.rt:144:1
 returns : tie.Need-returns
 returns c = next-law (c .before .before .before .before .before .before .before .before .before .args .s) (c .before .push .ensures .0) (c .before .push .ensures .1) (c .before .before .before .before .before .before .value .ensures) (c .before .before .before .before .before .before .before .last .ensures 0) (c .before .before .before .before .before .before .before .before .chunk-of .ensures)
 

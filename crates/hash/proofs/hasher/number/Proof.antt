@@ -1,3 +1,4 @@
+-- `hash::hasher::number` meets its contract.
 use mathlib.Core.Path.{sym}
 use native.Mathlib.Omega.{arith}
 use lib.Count.{ones-le}
@@ -5,71 +6,52 @@ use Rattle.hash.proofs.Ready.{refused, ready-number}
 use borrow.Author.Needs.{needs}
 use Rattle.hash.proofs.hasher.number.Statement.{statement}
 use Rattle.hash.proofs.hasher.number.Tie as tie
-use Rattle.hash.proofs.hasher.number.Reads as reads
-use Rattle.hash.proofs.hasher.number.Lts as lts
-use Rattle.hash.proofs.hasher.some.Reads as some-reads
 
--- src/hasher.rt:75:9
 returns : tie.Need-returns
 returns c = refused (c .before .before .args .s) (c .before .before .args .n) (λ r. omega (arith, r .counts .small))
 
--- src/hasher.rt:78:9
 returns-2 : tie.Need-returns-2
 returns-2 c = refused (c .before .before .before .args .s) (c .before .before .before .args .n) (λ r. omega (arith, r .counts .small))
 
--- src/hasher.rt:81:9
 returns-3 : tie.Need-returns-3
 returns-3 c = refused (c .before .before .before .before .before .args .s) (c .before .before .before .before .before .args .n) (λ r. omega (arith, r .counts .small))
 
--- src/hasher.rt:84:9
 returns-4 : tie.Need-returns-4
 returns-4 c = refused (c .before .before .before .before .before .before .before .args .s) (c .before .before .before .before .before .before .before .args .n) (λ r. omega (arith, r .counts .low))
 
--- src/hasher.rt:87:9
 returns-5 : tie.Need-returns-5
 returns-5 c = refused (c .before .before .before .before .before .before .before .before .before .args .s) (c .before .before .before .before .before .before .before .before .before .args .n) (λ r. omega (arith, r .counts .within))
 
--- src/hasher.rt:90:9
 returns-6 : tie.Need-returns-6
 returns-6 c = refused (c .before .before .before .before .before .before .before .before .before .before .before .args .s) (c .before .before .before .before .before .before .before .before .before .before .before .args .n) (λ r. omega (arith, r .counts .small, r .counts .sum))
 
--- src/hasher.rt:92:17
 mul-if7 : tie.Need-mul-if7
 mul-if7 c = search needs
 
--- src/hasher.rt:92:35
 mul-if7-2 : tie.Need-mul-if7-2
 mul-if7-2 c = search needs
 
--- src/hasher.rt:92:17
 add-if7 : tie.Need-add-if7
 add-if7 c = search needs
 
--- src/hasher.rt:92:17
 add-if7-2 : tie.Need-add-if7-2
 add-if7-2 c = search needs
 
--- src/hasher.rt:93:9
 returns-7 : tie.Need-returns-7
 returns-7 c = refused (c .before .before .before .before .before .before .before .before .before .before .before .before .before .before .args .s) (c .before .before .before .before .before .before .before .before .before .before .before .before .before .before .args .n) (λ r. omega (arith, r .counts .sum))
 
--- src/hasher.rt:95:17
 some-requires : tie.Need-some-requires
 some-requires c κs = search needs
 
--- src/hasher.rt:96:9
 returns-8 : tie.Need-returns-8
 returns-8 c = refused (c .before .before .before .before .before .before .before .before .before .before .before .before .before .before .before .before .before .args .s) (c .before .before .before .before .before .before .before .before .before .before .before .before .before .before .before .before .before .args .n) (λ r. omega (arith, r .some))
 
--- src/hasher.rt:98:20
 cast-if9 : tie.Need-cast-if9
 cast-if9 c = omega (arith, ones-le 15 (c .before .before .before .before .before .before .before .before .before .before .before .before .before .before .before .before .before .before .args .s .chunks) (omega arith))
 
--- src/hasher.rt:99:9
 returns-9 : tie.Need-returns-9
 returns-9 c = refused (c .before .before .before .before .before .before .before .before .before .before .before .before .before .before .before .before .before .before .before .before .args .s) (c .before .before .before .before .before .before .before .before .before .before .before .before .before .before .before .before .before .before .before .before .args .n) (λ r. omega (arith, r .counts .deep))
 
--- src/hasher.rt:71:1
 returns-10 : tie.Need-returns-10
 returns-10 c =
     sym (ready-number (c .before .before .before .before .before .before .before .before .before .before .before .before .before .before .before .before .before .before .before .before .args .s) (c .before .before .before .before .before .before .before .before .before .before .before .before .before .before .before .before .before .before .before .before .args .n) (record { counts = record { small = omega (arith, c .before .before .before .before .before .before .before .before .before .before .before .before .before .before .before .before .before .before .if1 .left, c .before .before .before .before .before .before .before .before .before .before .before .before .before .before .before .before .before .if2 .left, c .before .before .before .before .before .before .before .before .before .before .before .before .before .before .before .if3 .left); low = omega arith; within = omega arith; sum = omega arith; deep = omega arith }; some = omega arith }))

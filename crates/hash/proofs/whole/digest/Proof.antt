@@ -1,3 +1,4 @@
+-- `hash::whole::digest` meets its contract.
 use mathlib.Core.Path.{ap, _∙_}
 use mathlib.Core.List.{List}
 use Prim.Native.Nat.{ℕ}
@@ -6,20 +7,13 @@ use Rattle.hash.specs.Whole as S
 use borrow.Author.Needs.{needs}
 use Rattle.hash.proofs.whole.digest.Statement.{statement}
 use Rattle.hash.proofs.whole.digest.Tie as tie
-use Rattle.hash.proofs.whole.digest.Reads as reads
-use Rattle.hash.proofs.whole.digest.Lts as lts
-use Rattle.compress.proofs.iv.Reads as iv-reads
-use Rattle.hash.proofs.whole.digest_with.Reads as digest-with-reads
 
--- src/whole.rt:67:9
 iv-requires : tie.Need-iv-requires
 iv-requires c κs = search needs
 
--- src/whole.rt:68:5
 digest-with-requires : tie.Need-digest-with-requires
 digest-with-requires c κs = search needs
 
--- src/whole.rt:64:1
 returns : tie.Need-returns
 returns c = c .digest-with .ensures ∙ ap (λ (k : List ℕ). S.digestOf k 0 (now (c .before .before .before .args .input))) (c .before .iv .ensures)
 

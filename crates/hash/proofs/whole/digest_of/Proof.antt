@@ -10,7 +10,7 @@ use lib.ListN.{length, length-take}
 use Rattle.blake3.specs.Stack as B
 use Rattle.blake3.proofs.Stack.{stack-nil}
 use Rattle.stack.proofs.Tower.{tower-merges, tower-room}
-use Rattle.hash.specs.Walk.{Walked, Four}
+use Rattle.hash.specs.Walk.{Walked}
 use Rattle.hash.proofs.OneCall.{walk-turn, walk-end}
 use Rattle.hash.proofs.whole.digest_of.Statement.{statement}
 use Rattle.hash.proofs.whole.digest_of.Tie as tie

@@ -1,6 +1,5 @@
 -- `hash::whole::four_chunks`: four parts that stand one after the other.
 use denote.Ref.{now}
-use mathlib.Core.Path.{_≡_}
 use borrow.Author.Needs.{needs}
 use Rattle.hash.proofs.OneCall.{four-values}
 use Rattle.hash.proofs.whole.four_chunks.Statement.{statement}

@@ -1,11 +1,9 @@
 -- `hash::whole::push_four`: the values go onto the stack in order, so that it stands for one chunk more after each.
-use denote.Ref.{now}
-use mathlib.Core.Path.{_≡_, refl, sym, ap, _∙_}
+use mathlib.Core.Path.{_≡_, sym, _∙_}
 use mathlib.Core.List.{List, []}
 use Prim.Native.Nat.{ℕ, _+_, _*_, _-_, _≤_}
 use native.Mathlib.Nat.{add-zero}
 use native.Mathlib.Omega.{arith}
-use borrow.Author.Needs.{needs}
 use lib.Count.{ones, ones-le, trailing-le}
 use Rattle.stack.proofs.Tower.{tower-merges, tower-room, tower-depth}
 use Rattle.hash.specs.Walk.{Walked, Four}

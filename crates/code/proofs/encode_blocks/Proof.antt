@@ -1,0 +1,115 @@
+-- `code::encode_blocks` meets its contract: the first eps blocks are made.
+use Prim.Native.Nat.{_+_, _-_, _*_, _^_, _≤_}
+use mathlib.Core.Path.{_≡_, refl, _∙_}
+use native.Mathlib.Omega.{arith}
+use lib.ListN.{length, take, length-take, length-drop}
+use Rattle.field.specs.Words.{words}
+use Rattle.code.proofs.Blocks.{firstBlocks, block-within, no-blocks, block-turn, blocks-made}
+use Rattle.code.proofs.encode_blocks.Statement.{statement}
+use Rattle.code.proofs.encode_blocks.Tie as tie
+
+abbrev Inv-loop : tie.InvT-loop
+Inv-loop n k table gammas out₀ multiples₀ size count eps₀ out multiples eps =
+    (eps ≤ count) × (length out ≡ length out₀) × (length multiples ≡ 8192) × (count ≡ 2 ^ k)
+    × (words (take (eps * size) out) ≡ firstBlocks n k (words gammas) (words table) eps)
+
+abbrev μ-loop : tie.MeasureT-loop
+μ-loop n k table gammas out₀ multiples₀ size count eps₀ out multiples eps = count - eps
+
+-- the block ends within the codeword
+within : (c : tie.In-loop Inv-loop μ-loop)
+    → c .before .loop .eps * length (c .before .before .before .before .before .before .args .table .now) + length (c .before .before .before .before .before .before .args .table .now)
+    ≤ length (c .before .loop .out)
+within c =
+    let a = c .before .before .before .before .before .before .args in
+    let p = c .before .before .before .before .before .before .pre in
+    rw (c .before .loop .inv .1) (block-within (a .n) (a .k) (c .before .loop .eps) _ _ (p .0 .table=) (p .1) (omega arith))
+
+power-requires : tie.Need-power-requires Inv-loop μ-loop
+power-requires c κs = omega arith
+
+loop-holds : tie.Need-loop-holds Inv-loop μ-loop
+loop-holds c =
+    let a = c .before .before .before .before .args in
+    (omega arith, refl, refl, c .power .ensures, no-blocks (a .n) (a .k) (length (a .table .now)) (words (a .gammas .now)) (words (a .table .now)) (a .out .now))
+
+mul-from : tie.Need-mul-from Inv-loop μ-loop
+mul-from c = omega (arith, within c)
+
+add-to : tie.Need-add-to Inv-loop μ-loop
+add-to c = omega (arith, within c)
+
+mul-encode-block : tie.Need-mul-encode-block Inv-loop μ-loop
+mul-encode-block c = omega (arith, within c)
+
+sub-encode-block : tie.Need-sub-encode-block Inv-loop μ-loop
+sub-encode-block c = omega (arith, within c)
+
+part-encode-block-start : tie.Need-part-encode-block-start Inv-loop μ-loop
+part-encode-block-start c = omega (arith, within c)
+
+part-encode-block-end : tie.Need-part-encode-block-end Inv-loop μ-loop
+part-encode-block-end c = omega (arith, within c)
+
+slice-aggregate-encode-block : tie.Need-slice-aggregate-encode-block Inv-loop μ-loop
+slice-aggregate-encode-block c = omega arith
+
+encode-block-requires : tie.Need-encode-block-requires Inv-loop μ-loop
+encode-block-requires c κs =
+    let here = c .before .before .before in
+    let p = here .before .before .before .before .before .pre in
+    (p .0, simp (length-take, length-drop) (omega (arith, within (c .before .before))), here .loop .inv .2)
+
+add-eps : tie.Need-add-eps Inv-loop μ-loop
+add-eps c = omega arith
+
+loop-less : tie.Need-loop-less Inv-loop μ-loop
+loop-less c = omega arith
+
+loop-again : tie.Need-loop-again Inv-loop μ-loop
+loop-again c =
+    let call = c .before .before .before .encode-block in
+    let turn = c .before .before .before .before .before .before in
+    let here = turn .before in
+    let a = here .before .before .before .before .before .args in
+    let p = here .before .before .before .before .before .pre in
+    let h = within turn in (
+      omega arith,
+      c .before .before .out .given .1 ∙ here .loop .inv .1,
+      call .kept .1 .1 .1 .1 .1 .1 .0 ∙ here .loop .inv .2,
+      here .loop .inv .3,
+      block-turn (a .n) (a .k) (here .loop .eps) (length (a .table .now)) (words (a .gammas .now)) (words (a .table .now)) (here .loop .out) (call .last .1 .1 .1 .1 .1 .0) _
+          (p .0 .table=) h (call .kept .1 .1 .1 .1 .1 .0 ∙ simp (length-take, length-drop) (omega arith)) (here .loop .inv .4) (call .ensures),
+    )
+
+same-length : tie.Need-same-length Inv-loop μ-loop
+same-length c = omega arith
+
+returns : tie.Need-returns Inv-loop μ-loop
+returns c =
+    let a = c .before .before .before .before .before .before .args in
+    let p = c .before .before .before .before .before .before .pre in
+    blocks-made (a .n) (a .k) (c .before .loop .eps) (length (a .table .now)) (words (a .gammas .now)) (words (a .table .now)) (c .before .loop .out)
+    (p .0 .table=) (c .before .loop .inv .1 ∙ p .1) (omega arith) (c .before .loop .inv .4)
+
+pub encode-blocks-spec : {M : Type 1} → statement M
+encode-blocks-spec =
+    tie.close
+    (tie.spec
+    Inv-loop
+    μ-loop
+    power-requires
+    loop-holds
+    mul-from
+    add-to
+    mul-encode-block
+    sub-encode-block
+    part-encode-block-start
+    part-encode-block-end
+    slice-aggregate-encode-block
+    encode-block-requires
+    add-eps
+    loop-less
+    loop-again
+    same-length
+    returns)

@@ -1,0 +1,2 @@
+pub mod Gammas
+pub mod Questions

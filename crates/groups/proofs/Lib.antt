@@ -1,0 +1,3 @@
+pub mod Loops
+pub mod Asked
+pub mod Yes
