@@ -1,0 +1,6 @@
+pub mod Stepwise
+pub mod Values
+pub mod Paths
+pub mod Levels
+pub mod Numbers
+pub mod Words

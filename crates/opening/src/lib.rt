@@ -1,0 +1,204 @@
+// The root that a group and a path of a record lead to, and the questions put to both. These are helpers for the crates above: each
+// requires that what it reads is in the record.
+use digests::hash_group;
+use digests::node_of;
+use gf128::Word;
+use groups::Group;
+use groups::Place;
+use groups::group_of;
+use levels::level_depth;
+use levels::level_domain;
+use levels::level_length;
+use levels::level_width;
+use messages::leaf_prefix;
+use reader::count_at;
+use reader::digest_at;
+use reader::word_at;
+ghost use mathlib.Core.Path.{_≡_};
+ghost use Prim.Native.Nat.{_+_, _*_, _≤_, _<_};
+ghost use lib.Dec.{eqb};
+ghost use lib.ListN.{length, take, drop};
+ghost use Rattle.laws.specs.Lists.{runs, same};
+ghost use Rattle.field.specs.Words.{words};
+ghost use Rattle.gf128.specs.Word.{word};
+ghost use Rattle.merkle.specs.Tree.{left, right, leafDigest, nodeDigest, climb, rootOfPath};
+ghost use Rattle.blake3.specs.Digest.{hash};
+ghost use Rattle.record.specs.Widths.{present};
+ghost use Rattle.record.specs.Trees.{leadsTo};
+ghost use Rattle.opening.specs.Opening.{valuesFrom, valuesAt, digestsAt, Readable, Sized, openingNumber};
+
+// The values that stand from a place on, two halves each.
+fn group_values(s: &[u8], from: usize, width: usize) -> [u64; 16]
+    requires { ⌜ (width ≤ 8) × (from + 16 * width ≤ length (now s)) ⌝ }
+    ensures { λ r. ⌜ words (take (2 * width) r) ≡ valuesFrom (now (s .entry)) from width ⌝ }
+{
+    let mut values = [0u64; 16];
+    let mut i: usize = 0;
+    while i < width {
+        let w = word_at(s, from + 16 * i);
+        words::put(&mut values, i, w);
+        i += 1;
+    }
+    values
+}
+
+// The digest of the group whose values stand from a place on.
+fn leaf_at(
+    domain: &[u8],
+    count: usize,
+    width: usize,
+    group: Group,
+    s: &[u8],
+    from: usize,
+) -> [u8; 32]
+    requires { ⌜ (length (now domain) ≤ 255) × (width ≤ 8) × (from + 16 * width ≤ length (now s)) ⌝ }
+    ensures { λ r. ⌜ r ≡ leafDigest hash (now (domain .entry)) count width (group .0) (valuesFrom (now (s .entry)) from width) ⌝ }
+{
+    let values = group_values(s, from, width);
+    let mut message = [0u8; 480];
+    let prefix = leaf_prefix(&mut message, domain, count, width);
+    hash_group(&mut message, prefix, width, group, &values[..2 * width])
+}
+
+// The parent of a digest, number g of its level, and its sibling.
+fn parent(domain: &[u8], level: usize, g: usize, d: [u8; 32], sibling: [u8; 32]) -> [u8; 32]
+    requires { ⌜ length (now domain) ≤ 255 ⌝ }
+    ensures { λ r. ⌜ r ≡ nodeDigest hash (now (domain .entry)) level (left g d sibling) (right g d sibling) ⌝ }
+{
+    if g % 2 == 0 {
+        return node_of(domain, level, d, sibling);
+    }
+    node_of(domain, level, sibling, d)
+}
+
+// Where a leaf, by its number, and the digests that stand from a place on lead to.
+fn climb_path(
+    domain: &[u8],
+    group: usize,
+    leaf: [u8; 32],
+    s: &[u8],
+    from: usize,
+    depth: usize,
+) -> [u8; 32]
+    requires { ⌜ (length (now domain) ≤ 255) × (from + 32 * depth ≤ length (now s)) ⌝ }
+    ensures { λ r. ⌜ r ≡ climb hash (now (domain .entry)) 0 group leaf (runs 32 depth (drop from (now (s .entry)))) ⌝ }
+{
+    let mut d = leaf;
+    let mut g = group;
+    let mut l: usize = 0;
+    while l < depth {
+        let e = digest_at(s, from + 32 * l);
+        let p = parent(domain, l, g, d, e);
+        d = p;
+        g = g / 2;
+        l += 1;
+    }
+    d
+}
+
+// The root that the group of a place, whose values stand from one place on, and the path from another lead to.
+fn root_from(
+    domain: &[u8],
+    count: usize,
+    width: usize,
+    place: Place,
+    s: &[u8],
+    from: usize,
+    path: usize,
+    depth: usize,
+) -> [u8; 32]
+    requires { ⌜ (length (now domain) ≤ 255) × (0 < width) × (width ≤ 8) × (from + 16 * width ≤ length (now s)) × (path + 32 * depth ≤ length (now s)) ⌝ }
+    ensures { λ r. ⌜ r ≡ rootOfPath hash (now (domain .entry)) count width (place .0) (valuesFrom (now (s .entry)) from width) (runs 32 depth (drop path (now (s .entry)))) ⌝ }
+{
+    let g = group_of(place, width);
+    let leaf = leaf_at(domain, count, width, g, s, from);
+    climb_path(domain, g.0, leaf, s, path, depth)
+}
+
+// The root that a place of level l, and the group and the path at these places of a record lead to.
+pub fn leads_to(
+    base: &[u8],
+    n: usize,
+    k: usize,
+    l: usize,
+    place: usize,
+    s: &[u8],
+    group: usize,
+    path: usize,
+) -> [u8; 32]
+    requires { ⌜ Sized (now base) n k l (now s) group path ⌝ }
+    ensures { λ r. ⌜ r ≡ leadsTo hash present (now (base .entry)) n k l place (valuesAt (now (s .entry)) group) (digestsAt (now (s .entry)) path) ⌝ }
+{
+    let mut domain = [0u8; 209];
+    let d = level_domain(&mut domain, base, l);
+    let count = level_length(n, k, l);
+    let width = level_width(n, k, l);
+    let depth = level_depth(n, k, l);
+    root_from(
+        &domain[..d],
+        count,
+        width,
+        Place(place),
+        s,
+        group + 4,
+        path + 4,
+        depth,
+    )
+}
+
+// Are two words the same?
+pub fn same_word(a: Word, b: Word) -> bool
+    ensures { λ r. ⌜ r ≡ eqb (word a) (word b) ⌝ }
+{
+    if a.lo != b.lo {
+        return false;
+    }
+    if a.hi != b.hi {
+        return false;
+    }
+    true
+}
+
+// Are two digests the same?
+fn same_digest(a: [u8; 32], b: [u8; 32]) -> bool
+    ensures { λ r. ⌜ r ≡ same a b ⌝ }
+{
+    let mut i: usize = 0;
+    while i < 32 {
+        if a[i] != b[i] {
+            return false;
+        }
+        i += 1;
+    }
+    true
+}
+
+// The number of the first of three questions that says no, of which the first has the number `first`: a group of the right width, a path
+// length, the root.
+pub fn opening_number(
+    base: &[u8],
+    n: usize,
+    k: usize,
+    l: usize,
+    place: usize,
+    s: &[u8],
+    group: usize,
+    path: usize,
+    root: [u8; 32],
+    first: u32,
+) -> u32
+    requires { ⌜ (Readable (now base) n k l (now s) group path) × (first < 100) ⌝ }
+    ensures { λ r. ⌜ r ≡ openingNumber (now (base .entry)) n k l place (valuesAt (now (s .entry)) group) (digestsAt (now (s .entry)) path) root first ⌝ }
+{
+    if count_at(s, group) != level_width(n, k, l) {
+        return first;
+    }
+    if count_at(s, path) != level_depth(n, k, l) {
+        return first + 1;
+    }
+    let d = leads_to(base, n, k, l, place, s, group, path);
+    if !same_digest(d, root) {
+        return first + 2;
+    }
+    0
+}

@@ -1,0 +1,5 @@
+pub mod Words
+pub mod Groups
+pub mod Level
+pub mod Numbers
+pub mod Loop
