@@ -29,7 +29,7 @@ typedef struct {
 digested dequmlo_test_digest(const uint8_t *input, size_t length);
 four_digests dequmlo_test_four(const uint8_t *s0, size_t n0, const uint8_t *s1, size_t n1, const uint8_t *s2, size_t n2, const uint8_t *s3, size_t n3);
 
-enum { ROUNDS = 7 };
+enum { ROUNDS = 15 };
 
 static double now(void) {
     struct timespec t;

@@ -1,5 +1,6 @@
 -- The tree: its cases, and the specification's wording of it (section 2.1).
 use mathlib.Core.Path.{_≡_, refl, ap, _∙_}
+use mathlib.Core.Logic.{⊎-elim}
 use mathlib.Core.List.{List, []}
 use Prim.Native.Nat.{ℕ, zero, suc, _+_, _-_, _^_, _<_, _≤_}
 use native.Mathlib.Nat.{add-zero, le-trans, mul-le-mul-left}
@@ -10,7 +11,19 @@ use borrow.Author.Tests.{le-leb, lt-leb}
 use Rattle.blake3.specs.Compression.{cv}
 use Rattle.blake3.specs.Chunk.{chunk}
 use Rattle.blake3.specs.Tree.{parent, tree, chunksBytes}
-use Rattle.laws.proofs.Numbers.{pow-two}
+use Rattle.laws.proofs.Numbers.{pow-two, lt-or-le}
+
+-- more than a chunk: there is a largest power of two of chunks that leaves something
+pub left-level : (bs : List ℕ) → 1024 < length bs → length bs ≤ chunksBytes 54
+    → (k : ℕ) × (k < 54) × (chunksBytes k < length bs) × (length bs ≤ chunksBytes (suc k))
+left-level bs l u = go 54 u
+  where
+    go : (n : ℕ) → length bs ≤ chunksBytes n → (k : ℕ) × (k < n) × (chunksBytes k < length bs) × (length bs ≤ chunksBytes (suc k))
+    go zero h = absurd (omega arith)
+    go (suc n) h = ⊎-elim (λ (a : chunksBytes n < length bs). (n, omega arith, a, h)) (λ (b : length bs ≤ chunksBytes n). lift n (go n b)) (lt-or-le (chunksBytes n) (length bs))
+      where
+        lift : (n : ℕ) → (k : ℕ) × (k < n) × (chunksBytes k < length bs) × (length bs ≤ chunksBytes (suc k)) → (k : ℕ) × (k < suc n) × (chunksBytes k < length bs) × (length bs ≤ chunksBytes (suc k))
+        lift n r = (r .0, omega (arith, r .1), r .2, r .3)
 
 module _ (key : List ℕ) (d : ℕ) where
   -- the tree's two cases
@@ -35,7 +48,7 @@ module _ (key : List ℕ) (d : ℕ) where
       let e : k + suc j ≡ suc (k + j) = omega arith in
       rw (e, tree-low (k + j) t bs x (le-trans h (mul-le-mul-left 1024 (pow-mono {i = k} {j = k + j} (omega arith))))) (tree-levels k j t bs x h)
 
-  -- where 2^k chunks do not hold the bytes, and 2^(k+1) do, the left part is 2^k chunks, which is the largest power of two that leaves a byte to the right
+  -- where 2^k chunks do not hold the bytes, and 2^(k+1) do, the left subtree is 2^k chunks, the largest power of two that leaves something
   pub tree-is : (k t : ℕ) (bs : List ℕ) (x : ℕ) → k < 54 → chunksBytes k < length bs → length bs ≤ chunksBytes (suc k)
       → tree key d 54 t bs x ≡ parent key d (cv (tree key d 54 t (take (chunksBytes k) bs) 0)) (cv (tree key d 54 (t + 2 ^ k) (drop (chunksBytes k) bs) 0)) x
   tree-is k t bs x h l u =

@@ -15,6 +15,7 @@ use Rattle.multilinear.specs.Codeword.{gamma, shiftAt, shift, block, inBlocks, 
 use Rattle.multilinear.specs.Points.{vertex, addPoint}
 use Rattle.multilinear.specs.Phi.{phi}
 use Rattle.multilinear.specs.Partials.{partial, partialEvals, materialize, indicator}
+use Rattle.record.specs.Widths.{widthFor}
 use Rattle.cases.specs.Cases.{one, codeword, cases, AllHold}
 
 inverse-of-2 : inverse 2 ≡ 0x80000000000000000000000000000043
@@ -22,5 +23,5 @@ unfolding reduction xtime mulBits _⊗_ sel _⊕_
 inverse-of-2 = sym (inverse-unique 2 0x80000000000000000000000000000043 (lit< tt) (lit< tt) refl)
 
 pub all-hold : AllHold cases
-unfolding codeword reduction xtime mulBits _⊗_ sq sel _⊕_ sum tab ins prod factor eqAt eqTable mle line foldAt foldList gamma shiftAt shift vertex addPoint block inBlocks encode phi partial partialEvals materialize indicator
-all-hold = (refl, (refl, (refl, (ap one inverse-of-2, (refl, (refl, (refl, (refl, (refl, (refl, tt))))))))))
+unfolding codeword reduction xtime mulBits _⊗_ sq sel _⊕_ sum tab ins prod factor eqAt eqTable mle line foldAt foldList gamma shiftAt shift vertex addPoint block inBlocks encode phi partial partialEvals materialize indicator widthFor
+all-hold = (refl, (refl, (refl, (ap one inverse-of-2, (refl, (refl, (refl, (refl, (refl, (refl, (refl, tt)))))))))))

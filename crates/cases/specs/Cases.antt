@@ -10,6 +10,7 @@ use Rattle.multilinear.specs.Equality.{eqTable}
 use Rattle.multilinear.specs.Fold.{foldList}
 use Rattle.multilinear.specs.Codeword.{encode}
 use Rattle.multilinear.specs.Partials.{partialEvals, indicator}
+use Rattle.record.specs.Widths.{present, widthFor}
 
 -- a case: the values that a definition gives, and those of the document
 pub record Case : Type 0 where
@@ -43,7 +44,8 @@ cases =
     ∷ (codeword gives (5 ∷ 9 ∷ 33 ∷ 45 ∷ []))
     -- folded by 2
     ∷ (foldList 0 2 codeword gives (29 ∷ 57 ∷ []))
-    -- the widths of lengths 1, 2, 8, 16 join here with the definition of the width
+    -- the widths of lengths 1, 2, 8, 16
+    ∷ ((widthFor present 1 ∷ widthFor present 2 ∷ widthFor present 8 ∷ widthFor present 16 ∷ []) gives (1 ∷ 2 ∷ 2 ∷ 8 ∷ []))
     ∷ []
 
 -- every case of a list gives what is expected

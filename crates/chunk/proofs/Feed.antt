@@ -12,16 +12,17 @@ use native.Mathlib.Nat.{add-zero, eq-or-lt-of-le}
 use native.Mathlib.Omega.{arith}
 use native.Mathlib.Numerals.{add-one}
 use lib.Dec.{eqb}
-use lib.ListN.{length, take, drop, set, length-map, length-drop, take-append-drop}
-use lib.Seq.{drop-drop, length-take-le}
+use lib.ListN.{length, drop, set, length-map, length-drop}
+use lib.Seq.{length-take-le}
 use borrow.Author.Tests.{eq-eqb, ne-eqb}
 use lib.Bits.{bitOr}
 use Rattle.laws.specs.Table.{at}
 use Rattle.laws.specs.Lists.{part, stored, leBytes}
-use Rattle.laws.proofs.Lists.{stored-nil, stored-cons, stored-all, put-step, put-end, length-part, getD-part, length-leBytes}
+use Rattle.laws.proofs.Lists.{stored-nil, stored-cons, stored-all, length-part, length-leBytes}
 use Rattle.blake3.specs.Flags.{startFlag}
 use Rattle.blake3.specs.Compression.{compress}
 use Rattle.blake3.specs.Chunk.{block, next, last}
+use Rattle.chunk.proofs.Parts.{part-then}
 use Rattle.chunk.specs.declared.state.ChunkState.{ChunkState}
 use Rattle.chunk.proofs.state.ChunkState as ChunkStateT
 use Rattle.chunk.proofs.state.ChunkState.Laws as ChunkStateL
@@ -71,28 +72,7 @@ fed-run s (b ∷ bs) h =
     (ap (λ (k : ℕ). stored (set (s .block) (s .fill) b) k bs) (add-one (s .fill)) ∙ sym (stored-cons (s .block) (s .fill) b bs))
     (let k : s .fill + 1 + length bs ≡ s .fill + suc (length bs) = omega arith in k)
 
--- a part, and what follows it
-pub part-then : (n i : ℕ) (l : List ℕ) → part n i l ++ drop (i + n) l ≡ drop i l
-unfolding part
-part-then n i l = ap (λ (x : List ℕ). take n (drop i l) ++ x) (sym (drop-drop n i l)) ∙ take-append-drop n (drop i l)
-
--- the part of a slice from i to i + n, as a caller lends it
-pub lent-part : (n i : ℕ) (l : List ℕ) → take (i + n - i) (drop i l) ≡ part n i l
-unfolding part
-lent-part n i l = ap (λ (k : ℕ). take k (drop i l)) (let e : i + n - i ≡ n = omega arith in e)
-
--- the loops of `filled` and `number_bytes`: what is left to store
-pub filled-step : (b input : List ℕ) (to from n i : ℕ) (r : List ℕ) → i < n → from + n ≤ length input → stored b (to + i) (drop i (part n from input)) ≡ r
-    → stored (set b (to + i) (at input (from + i))) (to + (i + 1)) (drop (i + 1) (part n from input)) ≡ r
-filled-step b input to from n i r h l e =
-    let w : length (part n from input) ≡ n = length-part n from input l in
-    rw (getD-part n from i input h) at (put-step b to (part n from input) i r (omega arith) e)
-
-pub filled-end : (b input : List ℕ) (to from n i : ℕ) (r : List ℕ) → n ≤ i → from + n ≤ length input → stored b (to + i) (drop i (part n from input)) ≡ r → b ≡ r
-filled-end b input to from n i r h l e =
-    let w : length (part n from input) ≡ n = length-part n from input l in
-    put-end b to (part n from input) i r (omega arith) e
-
+-- the loop of `number_bytes`: what is left to store
 pub number-begin : (x : ℕ) (b : List ℕ) → length b ≡ 8 → stored b 0 (leBytes (8 - 0) x) ≡ leBytes 8 x
 number-begin x b h = stored-all b (leBytes 8 x) (length-leBytes 8 x ∙ sym h)
 

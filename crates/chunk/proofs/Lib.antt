@@ -1,3 +1,4 @@
+pub mod Parts
 pub mod Chunk
 pub mod Feed
 pub mod Stands

@@ -4,6 +4,7 @@
 use compress::compress;
 use node::Node;
 use node::bytes_of;
+use node::filled;
 use node::first_eight;
 use node::last_words;
 use node::low_byte;
@@ -14,7 +15,7 @@ ghost use mathlib.Core.Path.{_≡_};
 ghost use mathlib.Core.List.{_++_};
 ghost use Prim.Native.Nat.{ℕ, _+_, _*_, _^_, _≤_, _<_, min};
 ghost use lib.ListN.{length};
-ghost use Rattle.laws.specs.Lists.{part, stored, leBytes};
+ghost use Rattle.laws.specs.Lists.{leBytes};
 ghost use Rattle.node.specs.Node.{outOf};
 ghost use Rattle.chunk.specs.State as S;
 
@@ -64,20 +65,6 @@ fn compressed(s: ChunkState) -> ChunkState
         counter: s.counter,
         flags: s.flags,
     }
-}
-
-// A block with n bytes of a slice put in at a place.
-fn filled(block: [u8; 64], to: usize, input: &[u8], from: usize, n: usize) -> [u8; 64]
-    requires { ⌜ (to + n ≤ 64) × (from + n ≤ length (now input)) ⌝ }
-    ensures { λ r. ⌜ r ≡ stored block to (part n from (now (input .entry))) ⌝ }
-{
-    let mut b = block;
-    let mut i: usize = 0;
-    while i < n {
-        b[to + i] = input[from + i];
-        i += 1;
-    }
-    b
 }
 
 // The smaller of two numbers.

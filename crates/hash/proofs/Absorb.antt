@@ -13,7 +13,8 @@ use Rattle.laws.specs.Lists.{part}
 use Rattle.laws.proofs.Lists.{length-part}
 use Rattle.chunk.specs.declared.state.ChunkState.{ChunkState}
 use Rattle.chunk.specs.State.{fedByte, fed, lastOf, Fits}
-use Rattle.chunk.proofs.Feed.{held-fed, fits-fed, part-then, lent-part}
+use Rattle.chunk.proofs.Parts.{part-then, lent-part}
+use Rattle.chunk.proofs.Feed.{held-fed, fits-fed}
 use Rattle.blake3.specs.Flags.{rootNode}
 use Rattle.blake3.specs.Compression.{cv}
 use Rattle.blake3.specs.Digest.{wordBytes}

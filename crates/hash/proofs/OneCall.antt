@@ -16,7 +16,7 @@ use Rattle.blake3.specs.Stack.{stack, entries, fold}
 use Rattle.laws.specs.Table.{at}
 use Rattle.lanes.specs.Lane.{lane}
 use Rattle.batch.specs.Batch.{which}
-use Rattle.chunk.proofs.Feed.{lent-part}
+use Rattle.chunk.proofs.Parts.{lent-part}
 use Rattle.stack.specs.Push.{pushed, pushedDepth}
 use Rattle.stack.proofs.Tower.{merges, tower-depth, tower-step, tower-root}
 use Rattle.hash.specs.Walk.{Walked, Four}

@@ -1,16 +1,15 @@
 -- What the loops of this crate leave: words and bytes place by place.
 use mathlib.Core.Path.{_≡_, refl, sym, ap, _∙_}
-use mathlib.Core.List.{List, _++_, append-assoc}
+use mathlib.Core.List.{List, _++_}
 use Prim.Native.Nat.{ℕ, zero, suc, _+_, _*_, _-_, _/_, _%_, _^_, _<_, _≤_}
 use native.Mathlib.Nat.{add-zero, zero-add}
-use native.Mathlib.Numerals.{add-one}
 use native.Mathlib.Omega.{arith}
-use lib.ListN.{length, set, take, drop, replicate, length-set, length-drop}
-use lib.Seq.{ext-getD, set-at, take-suc, getD-drop, length-take-le}
+use lib.ListN.{length, set, drop, replicate, length-set}
+use lib.Seq.{ext-getD, sets-eq}
 use Rattle.laws.specs.Table.{at}
-use Rattle.laws.specs.Lists.{part, leValue}
+use Rattle.laws.specs.Lists.{part, stored, leValue}
 use Rattle.laws.proofs.Table.{is-tab}
-use Rattle.laws.proofs.Lists.{getD-part}
+use Rattle.laws.proofs.Lists.{length-part, getD-part, put-step, put-end}
 use Rattle.laws.proofs.Updates.{fill-step}
 use Rattle.blake3.specs.Flags.{startFlag}
 use Rattle.blake3.specs.Chunk.{word, block}
@@ -27,22 +26,33 @@ pub words-all : (m bs : List ℕ) → length m ≡ 16 → ((k : ℕ) → k < 16 
 unfolding block
 words-all m bs e h = is-tab m 16 (word bs) e h
 
--- a turn of the loop that copies bytes into zeros
-pub padded-step : (s : List ℕ) (from n i : ℕ) (b : List ℕ) → i < n → n ≤ 64 → from + n ≤ length s → b ≡ part i from s ++ replicate (64 - i) 0
-    → set b i (at s (from + i)) ≡ part (i + 1) from s ++ replicate (64 - (i + 1)) 0
-unfolding part
-padded-step s from n i b h l f e =
-    let z : 64 - i ≡ suc (64 - (i + 1)) = omega arith in
-    let d : i < length (drop from s) = simp length-drop (omega arith) in
-    rw (e, z, set-at (take i (drop from s)) 0 (replicate (64 - (i + 1)) 0) (at s (from + i)) i (length-take-le i (drop from s) (omega arith)), add-one i, take-suc (drop from s) i 0 d, getD-drop from s i 0, append-assoc)
+-- the loop of `filled`: what is left to store
+pub filled-step : (b input : List ℕ) (to from n i : ℕ) (r : List ℕ) → i < n → from + n ≤ length input → stored b (to + i) (drop i (part n from input)) ≡ r
+    → stored (set b (to + i) (at input (from + i))) (to + (i + 1)) (drop (i + 1) (part n from input)) ≡ r
+filled-step b input to from n i r h l e =
+    let w : length (part n from input) ≡ n = length-part n from input l in
+    rw (getD-part n from i input h) at (put-step b to (part n from input) i r (omega arith) e)
+
+pub filled-end : (b input : List ℕ) (to from n i : ℕ) (r : List ℕ) → n ≤ i → from + n ≤ length input → stored b (to + i) (drop i (part n from input)) ≡ r → b ≡ r
+filled-end b input to from n i r h l e =
+    let w : length (part n from input) ≡ n = length-part n from input l in
+    put-end b to (part n from input) i r (omega arith) e
 
 -- a block is the 64 bytes at its own start
 pub block-whole : (b : List ℕ) → block (part 64 0 b) ≡ block b
 block-whole b = block-ext (part 64 0 b) b (λ i h. getD-part 64 0 i b h ∙ ap (at b) (zero-add i))
 
--- the words of a block that was padded with zeros
-pub padded-words : {m p : List ℕ} (bs : List ℕ) (n : ℕ) → m ≡ block (part 64 0 p) → p ≡ bs ++ replicate n 0 → m ≡ block bs
-padded-words {m} {p} bs n e f = e ∙ block-whole p ∙ ap block f ∙ block-padded bs n
+drop-zeros : (k n : ℕ) → _≡_ {A = List ℕ} (drop k (replicate n 0)) (replicate (n - k) 0)
+drop-zeros zero n = ap (λ (m : ℕ). replicate m 0) (let e : n ≡ n - 0 = omega arith in e)
+drop-zeros (suc k) zero = ap (λ (m : ℕ). replicate m 0) (let e : 0 ≡ 0 - suc k = omega arith in e)
+drop-zeros (suc k) (suc n) = drop-zeros k n ∙ ap (λ (m : ℕ). replicate m 0) (let e : n - k ≡ suc n - suc k = omega arith in e)
+
+-- the words of a block that was put into zeros
+pub padded-words : {m p : List ℕ} (bs : List ℕ) → length bs ≤ 64 → m ≡ block (part 64 0 p) → p ≡ stored (replicate 64 0) 0 bs → m ≡ block bs
+unfolding stored
+padded-words {m} {p} bs l e f =
+    let z : 0 + length bs ≤ length {A = ℕ} (replicate 64 0) = omega arith in
+    e ∙ block-whole p ∙ ap block (f ∙ sets-eq bs (replicate 64 0) 0 z ∙ ap (λ (r : List ℕ). bs ++ r) (drop-zeros (0 + length bs) 64)) ∙ block-padded bs (64 - (0 + length bs))
 
 -- four bytes of a word more
 pub bytes-step : (w b : List ℕ) (k x : ℕ) {v0 v1 v2 v3 : ℕ} → k < length w → length w ≡ 8 → length b ≡ 32 → x ≡ at w k

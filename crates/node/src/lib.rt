@@ -2,10 +2,9 @@
 // the crates above, and some require: they are not for export.
 use compress::compress;
 ghost use mathlib.Core.Path.{_≡_};
-ghost use mathlib.Core.List.{_++_};
-ghost use Prim.Native.Nat.{ℕ, _+_, _*_, _%_, _^_, _-_, _<_, _≤_};
-ghost use lib.ListN.{length, replicate};
-ghost use Rattle.laws.specs.Lists.{part, leValue};
+ghost use Prim.Native.Nat.{ℕ, _+_, _*_, _%_, _^_, _<_, _≤_};
+ghost use lib.ListN.{length};
+ghost use Rattle.laws.specs.Lists.{part, stored, leValue};
 ghost use Rattle.blake3.specs.Flags.{startFlag};
 ghost use Rattle.blake3.specs.Compression.{cv};
 ghost use Rattle.blake3.specs.Chunk.{block};
@@ -57,15 +56,15 @@ pub fn words_at(s: &[u8], from: usize) -> [u32; 16]
     m
 }
 
-// The n bytes from a place on, and zeros.
-fn padded_at(s: &[u8], from: usize, n: usize) -> [u8; 64]
-    requires { ⌜ (n ≤ 64) × (from + n ≤ length (now s)) ⌝ }
-    ensures { λ r. ⌜ r ≡ part n from (now (s .entry)) ++ replicate (64 - n) 0 ⌝ }
+// A block with n bytes of a slice put in at a place.
+pub fn filled(block: [u8; 64], to: usize, input: &[u8], from: usize, n: usize) -> [u8; 64]
+    requires { ⌜ (to + n ≤ 64) × (from + n ≤ length (now input)) ⌝ }
+    ensures { λ r. ⌜ r ≡ stored block to (part n from (now (input .entry))) ⌝ }
 {
-    let mut b = [0u8; 64];
-    let mut i = 0;
+    let mut b = block;
+    let mut i: usize = 0;
     while i < n {
-        b[i] = s[from + i];
+        b[to + i] = input[from + i];
         i += 1;
     }
     b
@@ -76,7 +75,8 @@ pub fn last_words(s: &[u8], from: usize, n: usize) -> [u32; 16]
     requires { ⌜ (n ≤ 64) × (from + n ≤ length (now s)) ⌝ }
     ensures { λ r. ⌜ r ≡ block (part n from (now (s .entry))) ⌝ }
 {
-    let b = padded_at(s, from, n);
+    let zeros = [0u8; 64];
+    let b = filled(zeros, 0, s, from, n);
     words_at(&b, 0)
 }
 

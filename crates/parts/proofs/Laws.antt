@@ -1,11 +1,11 @@
 -- What the loops over the parts leave: the sum of what is left of the lengths, and what is left to store.
 use mathlib.Core.Path.{_≡_, refl, sym, ap, ap₂, _∙_}
-use mathlib.Core.Bool.{Bool, true, false}
+use mathlib.Core.Bool.{Bool, false}
 use mathlib.Core.List.{List, [], _∷_, _++_, map}
 use Prim.Native.Nat.{ℕ, suc, _+_, _*_, _-_, _<_, _≤_}
 use native.Mathlib.Omega.{arith}
 use native.Mathlib.Numerals.{add-one}
-use borrow.Author.Tests.{eqb-true, eqb-false, eq-eqb, ne-eqb}
+use borrow.Author.Tests.{eqb-true, ne-eqb}
 use lib.Dec.{eqb}
 use lib.ListN.{length, take, drop, length-append, length-drop, drop-of-length-le}
 use lib.Seq.{drop-cons, drop-drop, length-take-le}
@@ -14,16 +14,9 @@ use Rattle.laws.specs.Table.{at}
 use Rattle.laws.specs.Lists.{stored, leBytes, flat}
 use Rattle.laws.proofs.Lists.{stored-nil, stored-append, stored-all, length-stored, length-leBytes}
 use Rattle.laws.proofs.Questions.{all-yes}
+use Rattle.parts.proofs.Tests.{eqb-iff}
 use Rattle.merkle.specs.Message.{prefixed, serializePrefix, serializeParts}
 use Rattle.parts.specs.Parts.{cut, serialized, total, questions, numberOf, Sized}
-
--- two tests of equality that hold together
-pub eqb-iff : (a b c d : ℕ) → (a ≡ b → c ≡ d) → (c ≡ d → a ≡ b) → eqb a b ≡ eqb c d
-eqb-iff a b c d f g = go (eqb a b) refl
-  where
-    go : (t : Bool) → eqb a b ≡ t → eqb a b ≡ eqb c d
-    go true e = e ∙ sym (eq-eqb c d (f (eqb-true a b e)))
-    go false e = e ∙ sym (ne-eqb c d (λ z. eqb-false a b e (g z)))
 
 -- ---- the sum of the lengths
 

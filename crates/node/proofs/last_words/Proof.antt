@@ -1,22 +1,37 @@
--- `node::last_words` meets its contract.
-use Prim.Native.Nat.{_-_}
+use mathlib.Core.Path.{_≡_}
+use native.Mathlib.Omega.{arith}
+use lib.ListN.{length}
+use denote.Ref.{now}
+use Rattle.laws.specs.Lists.{part}
+use Rattle.laws.proofs.Lists.{length-part}
 use Rattle.node.proofs.Laws.{padded-words}
 use borrow.Author.Needs.{needs}
 use Rattle.node.proofs.last_words.Statement.{statement}
 use Rattle.node.proofs.last_words.Tie as tie
+use Rattle.node.proofs.last_words.Reads as reads
+use Rattle.node.proofs.last_words.Lts as lts
+use Rattle.node.proofs.filled.Reads as filled-reads
+use Rattle.node.proofs.words_at.Reads as words-at-reads
 
-padded-at-requires : tie.Need-padded-at-requires
-padded-at-requires c κs = search needs
+-- src/lib.rt:79:13
+filled-requires : tie.Need-filled-requires
+filled-requires c κs = search needs
 
+-- src/lib.rt:80:14
 slice-aggregate-words-at : tie.Need-slice-aggregate-words-at
 slice-aggregate-words-at c = search needs
 
+-- src/lib.rt:80:5
 words-at-requires : tie.Need-words-at-requires
 words-at-requires c κs = search needs
 
+-- src/lib.rt:74:1
 returns : tie.Need-returns
-returns c = padded-words _ (64 - c .before .before .before .before .args .n) (c .words-at .ensures) (c .before .before .padded-at .ensures)
+returns c =
+    let a = c .before .before .before .before .args in
+    let l : length (part (a .n) (a .from) (now (a .s))) ≡ a .n = length-part (a .n) (a .from) (now (a .s)) (omega arith) in
+    padded-words (part (a .n) (a .from) (now (a .s))) (omega arith) (c .words-at .ensures) (c .before .before .filled .ensures)
 
 pub last-words-spec : {M : Type 1} → statement M
 last-words-spec =
-    tie.close (tie.spec padded-at-requires slice-aggregate-words-at words-at-requires returns)
+    tie.close (tie.spec filled-requires slice-aggregate-words-at words-at-requires returns)

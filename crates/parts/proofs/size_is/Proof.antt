@@ -3,7 +3,7 @@ use Prim.Native.Nat.{_+_, _*_, _-_}
 use mathlib.Core.Path.{sym}
 use native.Mathlib.Omega.{arith}
 use borrow.Author.Tests.{ne-eqb}
-use Rattle.parts.proofs.Laws.{eqb-iff}
+use Rattle.parts.proofs.Tests.{eqb-iff}
 use borrow.Author.Needs.{needs}
 use Rattle.parts.proofs.size_is.Statement.{statement}
 use Rattle.parts.proofs.size_is.Tie as tie

@@ -1,4 +1,4 @@
--- `chunk::state::filled` meets its contract.
+-- `node::filled` meets its contract.
 use mathlib.Core.Path.{_≡_}
 use Prim.Native.Nat.{_≤_, _+_, _-_}
 use native.Mathlib.Omega.{arith}
@@ -6,9 +6,9 @@ use lib.ListN.{length, drop, length-set}
 use denote.Ref.{now}
 use Rattle.laws.specs.Lists.{part, stored}
 use Rattle.laws.proofs.Lists.{put-begin}
-use Rattle.chunk.proofs.Feed.{filled-step, filled-end}
-use Rattle.chunk.proofs.state.filled.Statement.{statement}
-use Rattle.chunk.proofs.state.filled.Tie as tie
+use Rattle.node.proofs.Laws.{filled-step, filled-end}
+use Rattle.node.proofs.filled.Statement.{statement}
+use Rattle.node.proofs.filled.Tie as tie
 
 abbrev Inv-loop : tie.InvT-loop
 Inv-loop to input from n b₀ i₀ b i = (i ≤ n) × (length b ≡ 64) × (stored b (to + i) (drop i (part n from input)) ≡ stored b₀ to (part n from input))
