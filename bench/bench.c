@@ -29,6 +29,22 @@ typedef struct {
 digested dequmlo_test_digest(const uint8_t *input, size_t length);
 four_digests dequmlo_test_four(const uint8_t *s0, size_t n0, const uint8_t *s1, size_t n1, const uint8_t *s2, size_t n2, const uint8_t *s3, size_t n3);
 
+typedef struct {
+    uint32_t number;
+    size_t n;
+} folded;
+
+typedef struct {
+    word words[128];
+} coefficients;
+
+uint32_t dequmlo_test_derive(size_t n, size_t k, const uint8_t *domain, size_t domain_length, uint64_t *out, size_t out_length);
+uint32_t dequmlo_test_encode(size_t n, size_t k, const uint64_t *table, size_t table_length, const uint64_t *gammas, size_t gammas_length, uint64_t *out, size_t out_length);
+folded dequmlo_test_fold(size_t n, size_t k, size_t var, word r, const uint64_t *src, size_t src_length, uint64_t *out, size_t out_length);
+uint32_t dequmlo_test_partial_evals(size_t n, const uint64_t *packed, size_t packed_length, const uint64_t *eq, size_t eq_length, uint64_t *out, size_t out_length);
+answer dequmlo_test_eval_at(size_t n, const uint64_t *z, size_t z_length, coefficients rb, const uint64_t *point, size_t point_length);
+uint32_t dequmlo_test_build(const uint8_t *domain, size_t domain_length, size_t count, size_t width, const uint64_t *values, size_t values_length, uint8_t *tree, size_t tree_length);
+
 enum { ROUNDS = 15 };
 
 static double now(void) {
@@ -75,6 +91,18 @@ static uint64_t *words(size_t n) {
             double began = now();                                 \
             for (long i = 0; i < (count); i++) { body; }          \
             double took = (now() - began) / (double)(count);      \
+            if (took < best) best = took;                         \
+        }                                                         \
+    } while (0)
+
+/* As BEST, for what takes some tenths of a second: fewer rounds, and the body need only be timed once in each. */
+#define BEST_OF(best, rounds, body)                               \
+    do {                                                          \
+        best = 1e18;                                              \
+        for (int round = 0; round < (rounds); round++) {          \
+            double began = now();                                 \
+            body;                                                 \
+            double took = now() - began;                          \
             if (took < best) best = took;                         \
         }                                                         \
     } while (0)
@@ -178,13 +206,93 @@ static double messages(size_t n, const char *one, const char *four, const char *
     return lanes / 4 / ours;
 }
 
-int main(void) {
+/* Only ours: what they answer is proved, and compared with the Rust by differential/run. */
+static void alone(const char *what, const char *rust, double ours) {
+    printf("%s\t%s\t%.1f\t-\n", what, rust, ours);
+}
+
+static const uint8_t DOMAIN[] = "magnetar/pcs/default";
+
+enum { DOMAIN_LENGTH = sizeof DOMAIN - 1 };
+
+/* All n folds at variable 0, from one half of the room to the other and back. */
+static void fold_all(size_t n, size_t k, const uint64_t *point, const uint64_t *codeword, uint64_t *a, uint64_t *b) {
+    const uint64_t *src = codeword;
+    for (size_t i = 0; n > 0; i++) {
+        size_t length = (size_t)2 << (n + k);
+        word r = {point[2 * i], point[2 * i + 1]};
+        folded f = dequmlo_test_fold(n, k, 0, r, src, length, a, length / 2);
+        must(f.number == 0 && f.n == n - 1, "fold");
+        uint64_t *t = a;
+        src = a;
+        a = b;
+        b = t;
+        n = f.n;
+    }
+}
+
+static void code(size_t n, size_t k, int rounds) {
+    double ours;
+    char what[64], rust[64];
+    size_t length = (size_t)2 << n, all = length << k;
+    uint64_t *table = words(length / 2), *gammas = words(n * k), *codeword = words(all / 2), *room = words(all / 2), *point = words(n);
+    must(dequmlo_test_derive(n, k, DOMAIN, DOMAIN_LENGTH, gammas, 2 * n * k) == 0, "gammas");
+    BEST_OF(ours, rounds, must(dequmlo_test_encode(n, k, table, length, gammas, 2 * n * k, codeword, all) == 0, "encode"));
+    snprintf(what, sizeof what, "encode, n = %zu, k = %zu", n, k);
+    snprintf(rust, sizeof rust, "encode_n%zu_k%zu", n, k);
+    alone(what, rust, ours);
+    BEST_OF(ours, rounds, fold_all(n, k, point, codeword, room, room + all / 2));
+    snprintf(what, sizeof what, "all folds, n = %zu, k = %zu", n, k);
+    snprintf(rust, sizeof rust, "folds_n%zu_k%zu", n, k);
+    alone(what, rust, ours);
+    free(table);
+    free(gammas);
+    free(codeword);
+    free(room);
+    free(point);
+}
+
+static void ring(void) {
+    double ours;
+    enum { N = 16, M = 20 };
+    uint64_t *packed = words((size_t)1 << N), *eq = words((size_t)1 << N), *out = words(128), *z = words(M), *point = words(M);
+    coefficients rb;
+    for (size_t i = 0; i < 128; i++) rb.words[i] = next_word();
+    BEST(ours, 1, must(dequmlo_test_partial_evals(N, packed, (size_t)2 << N, eq, (size_t)2 << N, out, 256) == 0, "partial evaluations"));
+    alone("partial evaluations, n = 16", "partial_evals_n16", ours);
+    BEST(ours, 1, must(dequmlo_test_eval_at(M, z, 2 * M, rb, point, 2 * M).number == 0, "indicator"));
+    alone("indicator at a point, n = 20", "eval_at_n20", ours);
+    free(packed);
+    free(eq);
+    free(out);
+    free(z);
+    free(point);
+}
+
+static void tree(void) {
+    double ours;
+    enum { COUNT = 1 << 20, WIDTH = 8, LENGTH = 32 * (2 * (COUNT / WIDTH) - 1) };
+    uint64_t *values = words(COUNT);
+    uint8_t *digests = bytes(LENGTH);
+    BEST_OF(ours, 5, must(dequmlo_test_build(DOMAIN, DOMAIN_LENGTH, COUNT, WIDTH, values, 2 * COUNT, digests, LENGTH) == 0, "tree"));
+    alone("tree of 2^20 words, width 8", "tree_2^20_width8_domain20", ours);
+    free(values);
+    free(digests);
+}
+
+int main(int count, char **arguments) {
+    int large = count > 1 && strcmp(arguments[1], "--large") == 0;
     products();
     runs();
     equality();
     long_digest();
     double leaf = messages(253, "message of 253 bytes", "the same, four at once", "leaf_width8_domain20");
     double node = messages(164, "message of 164 bytes", "the same, four at once", "node_domain20");
+    tree();
+    code(16, 1, 7);
+    code(18, 2, 5);
+    if (large) code(20, 4, 3);
+    ring();
     /* Nothing in the proofs notices when the compiler no longer makes the four lanes one vector. */
     if (leaf > 0.75 || node > 0.75) {
         fputs("bench: FAILED: four messages at once are no faster than one by one, so the lanes are not vectorised\n", stderr);

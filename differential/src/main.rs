@@ -1,16 +1,19 @@
 //! Compares our functions with the published Rust's, layer by layer.
 //!
 //! A layer is a module like `field`: a struct of functions, and a list of
-//! comparisons on it. Its functions in the archive are declared in `ours`, its
-//! right and wrong stand-ins in `stand_in`; it joins by a line in `comparisons`
+//! comparisons on it. Its functions in the archive are declared under `ours`, its
+//! right and wrong stand-ins under `stand_in`; it joins by a line in `comparisons`
 //! and one in `self_test`.
 
+mod code;
 mod field;
 mod harness;
 #[cfg(archive)]
 mod ours;
 mod random;
+mod ring;
 mod stand_in;
+mod tree;
 
 use harness::{Bound, Comparison, Plan};
 use stand_in::Wrong;
@@ -53,7 +56,10 @@ fn main() -> ExitCode {
 #[cfg(archive)]
 fn comparisons() -> Vec<Bound> {
     let mut all = Vec::new();
-    all.extend(harness::bind(ours::FIELD, field::COMPARISONS));
+    all.extend(harness::bind(ours::field::FIELD, field::COMPARISONS));
+    all.extend(harness::bind(ours::tree::TREE, tree::COMPARISONS));
+    all.extend(harness::bind(ours::code::CODE, code::COMPARISONS));
+    all.extend(harness::bind(ours::ring::RING, ring::COMPARISONS));
     all
 }
 
@@ -80,7 +86,30 @@ fn compare_all(plan: &Plan) -> ExitCode {
 /// Tests the harness on every layer: a layer joins by a line here.
 fn self_test(seed: u64) -> ExitCode {
     let mut faults = 0;
-    faults += self_test_layer(seed, stand_in::RIGHT, stand_in::WRONG, field::COMPARISONS);
+    faults += self_test_layer(
+        seed,
+        stand_in::field::RIGHT,
+        stand_in::field::WRONG,
+        field::COMPARISONS,
+    );
+    faults += self_test_layer(
+        seed,
+        stand_in::tree::RIGHT,
+        stand_in::tree::WRONG,
+        tree::COMPARISONS,
+    );
+    faults += self_test_layer(
+        seed,
+        stand_in::code::RIGHT,
+        stand_in::code::WRONG,
+        code::COMPARISONS,
+    );
+    faults += self_test_layer(
+        seed,
+        stand_in::ring::RIGHT,
+        stand_in::ring::WRONG,
+        ring::COMPARISONS,
+    );
     println!("{faults} faults of the harness");
     ExitCode::from(u8::from(faults > 0))
 }

@@ -61,4 +61,14 @@ impl Random {
     pub fn bits(&mut self, count: usize) -> Vec<u8> {
         (0..count).map(|_| self.below(2) as u8).collect()
     }
+    pub fn bytes(&mut self, count: usize) -> Vec<u8> {
+        (0..count).map(|_| self.number() as u8).collect()
+    }
+
+    /// Printable characters, a byte each.
+    pub fn text(&mut self, count: usize) -> String {
+        (0..count)
+            .map(|_| char::from(b' ' + self.below(95) as u8))
+            .collect()
+    }
 }

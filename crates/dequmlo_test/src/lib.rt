@@ -2,6 +2,7 @@
 // people link. A helper that requires is called only where its requirement holds; elsewhere nothing is done.
 use gf128::Inverse;
 use gf128::Word;
+use groups::Place;
 use hash::whole::Digested;
 
 // 7 coordinates by value.
@@ -123,4 +124,164 @@ pub extern "C" fn dequmlo_test_four(s0: &[u8], s1: &[u8], s2: &[u8], s3: &[u8]) 
     let c = batch::lane_bytes(&v, 2);
     let d = batch::lane_bytes(&v, 3);
     FourDigests { a, b, c, d }
+}
+
+// A number, and a word that is 0 where the number is not.
+#[repr(C)]
+pub struct NumberedWord {
+    pub number: u32,
+    pub word: Word,
+}
+
+// A number, and the n of a folded codeword.
+#[repr(C)]
+pub struct NumberedN {
+    pub number: u32,
+    pub n: usize,
+}
+
+#[no_mangle]
+pub extern "C" fn dequmlo_test_derive(n: usize, k: usize, domain: &[u8], out: &mut [u64]) -> u32 {
+    gamma::derive(n, k, domain, out)
+}
+
+#[no_mangle]
+pub extern "C" fn dequmlo_test_l_of(
+    n: usize,
+    k: usize,
+    eps: usize,
+    gammas: &[u64],
+    out: &mut [u64],
+) -> u32 {
+    code::l_of(n, k, eps, gammas, out)
+}
+
+#[no_mangle]
+pub extern "C" fn dequmlo_test_encode(
+    n: usize,
+    k: usize,
+    table: &[u64],
+    gammas: &[u64],
+    out: &mut [u64],
+) -> u32 {
+    code::encode(n, k, table, gammas, out)
+}
+
+#[no_mangle]
+pub extern "C" fn dequmlo_test_fold(
+    n: usize,
+    k: usize,
+    var: usize,
+    r: Word,
+    src: &[u64],
+    out: &mut [u64],
+) -> NumberedN {
+    let a = code::fold(n, k, var, r, src, out);
+    NumberedN {
+        number: a.number,
+        n: a.n,
+    }
+}
+
+#[no_mangle]
+pub extern "C" fn dequmlo_test_partial_evals(
+    n: usize,
+    packed: &[u64],
+    eq: &[u64],
+    out: &mut [u64],
+) -> u32 {
+    partials::partial_evals(n, packed, eq, out)
+}
+
+#[no_mangle]
+pub extern "C" fn dequmlo_test_fold_partials(s: &[u64], rb: Coefficients) -> NumberedWord {
+    let words = rb.words;
+    let a = partials::fold_partials(s, words);
+    let word = a.word;
+    NumberedWord {
+        number: a.number,
+        word,
+    }
+}
+
+#[no_mangle]
+pub extern "C" fn dequmlo_test_materialize(
+    n: usize,
+    z: &[u64],
+    rb: Coefficients,
+    out: &mut [u64],
+) -> u32 {
+    let words = rb.words;
+    indicator::materialize(n, z, words, out)
+}
+
+#[no_mangle]
+pub extern "C" fn dequmlo_test_eval_at(
+    n: usize,
+    z: &[u64],
+    rb: Coefficients,
+    point: &[u64],
+) -> NumberedWord {
+    let words = rb.words;
+    let a = indicator::eval_at(n, z, words, point);
+    let word = a.word;
+    NumberedWord {
+        number: a.number,
+        word,
+    }
+}
+
+#[no_mangle]
+pub extern "C" fn dequmlo_test_build(
+    domain: &[u8],
+    count: usize,
+    width: usize,
+    values: &[u64],
+    tree: &mut [u8],
+) -> u32 {
+    tree::build(domain, count, width, values, tree)
+}
+
+#[no_mangle]
+pub extern "C" fn dequmlo_test_leaf_digest(
+    domain: &[u8],
+    count: usize,
+    width: usize,
+    place: usize,
+    values: &[u64],
+) -> Digested {
+    digests::leaf_digest(domain, count, width, Place(place), values)
+}
+
+#[no_mangle]
+pub extern "C" fn dequmlo_test_node_digest(
+    domain: &[u8],
+    level: usize,
+    left: &[u8],
+    right: &[u8],
+) -> Digested {
+    digests::node_digest(domain, level, left, right)
+}
+
+#[no_mangle]
+pub extern "C" fn dequmlo_test_open(
+    count: usize,
+    width: usize,
+    place: usize,
+    tree: &[u8],
+    path: &mut [u8],
+) -> u32 {
+    paths::open(count, width, Place(place), tree, path)
+}
+
+#[no_mangle]
+pub extern "C" fn dequmlo_test_root_of_path(
+    domain: &[u8],
+    count: usize,
+    width: usize,
+    place: usize,
+    values: &[u64],
+    path: &[u8],
+) -> Digested {
+    paths::root_of_path(domain, count, width, Place(place), values, path)
 }

@@ -1,38 +1,13 @@
-//! Our exported functions: every declaration of the archive stands here, and
-//! nothing checks it against the Rattle source.
-//!
-//! A word travels by value as lo and hi; a table of words is lent as u64s, lo
-//! then hi of each; a slice is a pointer, then a length. A number other than 0
-//! is a refusal.
+//! The field layer of the archive.
 
+use super::{coefficients, lowered, pair, raised, word, Answer, Coefficients, Pair};
 use crate::field::Field;
 use oracle::Word;
-
-/// A word as the archive has it.
-#[repr(C)]
-#[derive(Clone, Copy)]
-struct Pair {
-    lo: u64,
-    hi: u64,
-}
-
-/// A number, and a word that is 0 where the number is not.
-#[repr(C)]
-struct Answer {
-    number: u32,
-    word: Pair,
-}
 
 /// 7 coordinates by value.
 #[repr(C)]
 struct Point7 {
     words: [Pair; 7],
-}
-
-/// 128 coefficients by value.
-#[repr(C)]
-struct Coefficients {
-    words: [Pair; 128],
 }
 
 extern "C" {
@@ -61,7 +36,6 @@ extern "C" {
     fn dequmlo_test_axpy(y: *mut u64, y_length: usize, x: *const u64, x_length: usize, r: Pair);
 }
 
-/// The field layer of the archive.
 pub const FIELD: Field = Field {
     mul,
     square,
@@ -146,39 +120,4 @@ fn axpy_run(dst: &[Word], src: &[Word], r: Word) -> Vec<Word> {
     // SAFETY: both slices are whole, and live through the call.
     unsafe { dequmlo_test_axpy(y.as_mut_ptr(), y.len(), x.as_ptr(), x.len(), pair(r)) };
     raised(&y)
-}
-
-fn pair(word: Word) -> Pair {
-    Pair {
-        lo: word.0 as u64,
-        hi: (word.0 >> 64) as u64,
-    }
-}
-
-fn word(pair: Pair) -> Word {
-    Word(u128::from(pair.hi) << 64 | u128::from(pair.lo))
-}
-
-fn coefficients(c: &[Word; 128]) -> Coefficients {
-    Coefficients { words: c.map(pair) }
-}
-
-/// Words as u64s, lo then hi.
-fn lowered(words: &[Word]) -> Vec<u64> {
-    words
-        .iter()
-        .map(|&word| pair(word))
-        .flat_map(|pair| [pair.lo, pair.hi])
-        .collect()
-}
-
-/// u64s, lo then hi, as words.
-fn raised(halves: &[u64]) -> Vec<Word> {
-    let joined = |halves: &[u64]| {
-        word(Pair {
-            lo: halves[0],
-            hi: halves[1],
-        })
-    };
-    halves.chunks_exact(2).map(joined).collect()
 }

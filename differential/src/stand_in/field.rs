@@ -1,7 +1,6 @@
-//! Stand-ins for our functions, to test the harness: one that is right, written
-//! from document 01 alone, and wrong ones, each wrong in one function and as
-//! little as a likely slip would be.
+//! Stand-ins for the field layer.
 
+use super::Wrong;
 use crate::field::Field;
 use oracle::Word;
 
@@ -18,9 +17,6 @@ pub const RIGHT: Field = Field {
     mul_run: |src, r| src.iter().map(|&w| mul(w, r)).collect(),
     axpy_run: |dst, src, r| dst.iter().zip(src).map(|(&d, &s)| d + mul(s, r)).collect(),
 };
-
-/// The function that is wrong, what is wrong with it, and the wrong set.
-pub type Wrong<F> = (&'static str, &'static str, F);
 
 pub const WRONG: &[Wrong<Field>] = &[
     (
@@ -163,7 +159,7 @@ pub const WRONG: &[Wrong<Field>] = &[
     ),
 ];
 
-fn mul(a: Word, b: Word) -> Word {
+pub fn mul(a: Word, b: Word) -> Word {
     product(a, b, 0x87)
 }
 
@@ -200,7 +196,7 @@ fn pack_table(bytes: &[u8]) -> (u64, Vec<Word>) {
     (0, bytes.chunks_exact(128).map(pack).collect())
 }
 
-fn phi_c(p: Word, c: &[Word; 128]) -> Word {
+pub fn phi_c(p: Word, c: &[Word; 128]) -> Word {
     let set = (0..128).filter(|b| p.0 >> b & 1 == 1);
     set.fold(Word(0), |sum, b| sum + c[b])
 }
@@ -211,7 +207,7 @@ fn eq_coefficients(r: &[Word; 7]) -> [Word; 128] {
 
 /// Entry v: the product over j of r[j] where bit j of v is 1, else 1 + r[j].
 /// Each coordinate doubles the table: its bit is above those before it.
-fn eq_table(point: &[Word]) -> Vec<Word> {
+pub fn eq_table(point: &[Word]) -> Vec<Word> {
     let mut table = vec![Word(1)];
     for &r in point {
         let ones: Vec<Word> = table.iter().map(|&entry| mul(entry, r)).collect();

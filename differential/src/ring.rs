@@ -1,0 +1,81 @@
+//! The ring layer: partial evaluations and the indicator of ring.rs.
+
+use crate::harness::{done, hexes, same_word, same_words, Comparison, Verdict};
+use crate::random::Random;
+use oracle::{ring as rust, Word};
+
+/// The functions compared, as one implementation has them. A number other than
+/// 0 is a refusal.
+#[derive(Clone, Copy)]
+pub struct Ring {
+    /// n, equality table, packed words.
+    pub partial_evals: fn(usize, &[Word], &[Word]) -> (u64, Vec<Word>),
+    pub fold_partials: fn(&[Word; 128], &[Word; 128]) -> (u64, Word),
+    /// Equality point, row coefficients.
+    pub materialize: fn(&[Word], &[Word; 128]) -> (u64, Vec<Word>),
+    /// Equality point, row coefficients, point.
+    pub eval_at: fn(&[Word], &[Word; 128], &[Word]) -> (u64, Word),
+}
+
+pub const COMPARISONS: &[Comparison<Ring>] = &[
+    Comparison {
+        function: "partial_evals",
+        fixed: 11 * 20,
+        compare: partial_evals,
+    },
+    Comparison {
+        function: "fold_partials",
+        fixed: 500,
+        compare: fold_partials,
+    },
+    Comparison {
+        function: "materialize",
+        fixed: 11 * 10,
+        compare: materialize,
+    },
+    Comparison {
+        function: "eval_at",
+        fixed: 21 * 10,
+        compare: eval_at,
+    },
+];
+
+/// Every n up to 10 in turn, for what has 2^n entries.
+fn small_n(case: u64) -> usize {
+    (case % 11) as usize
+}
+
+fn partial_evals(ours: &Ring, case: u64, random: &mut Random) -> Verdict {
+    let n = small_n(case);
+    let (eq, packed) = (random.words(1 << n), random.words(1 << n));
+    let input = || format!("partial_evals {} {}", hexes(&eq), hexes(&packed));
+    let (number, sums) = (ours.partial_evals)(n, &eq, &packed);
+    done(number, input)?;
+    same_words(&rust::partial_evals(&eq, &packed), &sums, input)
+}
+
+fn fold_partials(ours: &Ring, _case: u64, random: &mut Random) -> Verdict {
+    let (s, rb) = (random.array(), random.array());
+    let input = || format!("fold_partials {} {}", hexes(&s), hexes(&rb));
+    let (number, sum) = (ours.fold_partials)(&s, &rb);
+    done(number, input)?;
+    same_word(rust::fold_partials(&s, &rb), sum, input)
+}
+
+fn materialize(ours: &Ring, case: u64, random: &mut Random) -> Verdict {
+    let (z, rb) = (random.words(small_n(case)), random.array());
+    let input = || format!("materialize {} {}", hexes(&z), hexes(&rb));
+    let (number, table) = (ours.materialize)(&z, &rb);
+    done(number, input)?;
+    same_words(&rust::materialize(&z, &rb), &table, input)
+}
+
+/// Every n up to 20 in turn.
+fn eval_at(ours: &Ring, case: u64, random: &mut Random) -> Verdict {
+    let n = (case % 21) as usize;
+    let (z, rb, point) = (random.words(n), random.array(), random.words(n));
+    let input = || format!("eval_at {} {} {}", hexes(&z), hexes(&rb), hexes(&point));
+    let (number, value) = (ours.eval_at)(&z, &rb, &point);
+    done(number, input)?;
+    same_word(rust::eval_at(&z, &rb, &point), value, input)
+}

@@ -1,0 +1,11 @@
+//! Stand-ins for our functions, to test the harness: for each layer one set that
+//! is right, written from document 01 alone, and wrong ones, each wrong in one
+//! function and as little as a likely slip would be.
+
+pub mod code;
+pub mod field;
+pub mod ring;
+pub mod tree;
+
+/// The function that is wrong, what is wrong with it, and the wrong set.
+pub type Wrong<F> = (&'static str, &'static str, F);
