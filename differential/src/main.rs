@@ -11,6 +11,7 @@ mod harness;
 #[cfg(archive)]
 mod ours;
 mod random;
+mod record;
 mod ring;
 mod stand_in;
 mod tree;
@@ -60,6 +61,7 @@ fn comparisons() -> Vec<Bound> {
     all.extend(harness::bind(ours::tree::TREE, tree::COMPARISONS));
     all.extend(harness::bind(ours::code::CODE, code::COMPARISONS));
     all.extend(harness::bind(ours::ring::RING, ring::COMPARISONS));
+    all.extend(harness::bind(ours::record::RECORD, record::COMPARISONS));
     all
 }
 
@@ -109,6 +111,12 @@ fn self_test(seed: u64) -> ExitCode {
         stand_in::ring::RIGHT,
         stand_in::ring::WRONG,
         ring::COMPARISONS,
+    );
+    faults += self_test_layer(
+        seed,
+        stand_in::record::RIGHT,
+        stand_in::record::WRONG,
+        record::COMPARISONS,
     );
     println!("{faults} faults of the harness");
     ExitCode::from(u8::from(faults > 0))

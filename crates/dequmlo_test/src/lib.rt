@@ -285,3 +285,50 @@ pub extern "C" fn dequmlo_test_root_of_path(
 ) -> Digested {
     paths::root_of_path(domain, count, width, Place(place), values, path)
 }
+
+// A number, and the level for 16 to 26.
+#[repr(C)]
+pub struct NumberedLevel {
+    pub number: u32,
+    pub level: u32,
+}
+
+#[no_mangle]
+pub extern "C" fn dequmlo_test_check_query(
+    base: &[u8],
+    n: usize,
+    k: usize,
+    position: usize,
+    challenges: &[u64],
+    roots: &[u8],
+    s: &[u8],
+) -> NumberedLevel {
+    let a = query::check_query(base, n, k, position, challenges, roots, s);
+    NumberedLevel {
+        number: a.number,
+        level: a.level,
+    }
+}
+
+#[no_mangle]
+pub extern "C" fn dequmlo_test_check_tail(
+    base: &[u8],
+    n: usize,
+    k: usize,
+    root: &[u8],
+    claim: Word,
+    s: &[u8],
+) -> u32 {
+    tail::check_tail(base, n, k, root, claim, s)
+}
+
+#[no_mangle]
+pub extern "C" fn dequmlo_test_build_tail(
+    out: &mut [u8],
+    level: &[u64],
+    tree: &[u8],
+    n: usize,
+    k: usize,
+) -> u32 {
+    tail_build::build_tail(out, level, tree, n, k)
+}

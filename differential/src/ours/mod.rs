@@ -7,6 +7,7 @@
 
 pub mod code;
 pub mod field;
+pub mod record;
 pub mod ring;
 pub mod tree;
 

@@ -4,6 +4,7 @@
 
 pub mod code;
 pub mod field;
+pub mod record;
 pub mod ring;
 pub mod tree;
 

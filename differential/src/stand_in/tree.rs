@@ -169,7 +169,7 @@ fn build_with(
     tree
 }
 
-fn open(count: usize, width: usize, place: usize, tree: &[Digest]) -> Vec<Digest> {
+pub fn open(count: usize, width: usize, place: usize, tree: &[Digest]) -> Vec<Digest> {
     open_with(count, width, place, tree, 1)
 }
 
