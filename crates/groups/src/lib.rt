@@ -1,4 +1,4 @@
-// Places and groups of a tree, its sizes, and the numbers that its entries answer.
+// Places and groups of a tree, its sizes, and the numbers that its entries answer. Helpers for the crates above: some require.
 ghost use mathlib.Core.Path.{_≡_};
 ghost use Prim.Native.Nat.{_*_, _^_, _<_};
 ghost use Rattle.merkle.specs.Tree.{groupOf, log2, depthOf, treeSize};

@@ -1,5 +1,5 @@
 // Record bytes, read from front to back: counts, words, digests, counted runs, and the levels and groups of records. Every byte of a record
-// is reached through `read`. Bytes may be anything, and a count whatever an enemy wrote.
+// is reached through `read`. Bytes may be anything, and a count whatever an enemy wrote. Helpers for the crates above: some require.
 use digests::load;
 use gf128::Word;
 ghost use mathlib.Core.Path.{_≡_};
