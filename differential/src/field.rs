@@ -1,7 +1,7 @@
 //! The field layer: gf128.rs, pack.rs, eq.rs, and runs of words by one word.
 //! Inputs are those that pass document 01's questions.
 
-use crate::harness::{done, hex, hexes, same_word, same_words, Comparison, Verdict};
+use crate::harness::{digits, done, hex, hexes, same_word, same_words, Comparison, Verdict};
 use crate::random::Random;
 use oracle::{field as rust, Word};
 
@@ -123,14 +123,10 @@ fn pack_table(ours: &Field, case: u64, random: &mut Random) -> Verdict {
             random.bits(128 * groups)
         }
     };
-    let input = || format!("pack_table of {} bytes: {}", bits.len(), joined(&bits));
+    let input = || format!("pack_table of {} bytes: {}", bits.len(), digits(&bits));
     let (number, words) = (ours.pack_table)(&bits);
     done(number, input)?;
     same_words(&rust::pack_table(&bits), &words, input)
-}
-
-fn joined(bits: &[u8]) -> String {
-    bits.iter().map(|bit| format!("{bit:02x}")).collect()
 }
 
 /// A power of x, each in turn, then any word; any coefficients.

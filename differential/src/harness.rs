@@ -209,3 +209,8 @@ pub fn hexes(words: &[Word]) -> String {
         .collect::<Vec<_>>()
         .join(",")
 }
+
+/// Bytes, two digits each.
+pub fn digits(bytes: &[u8]) -> String {
+    bytes.iter().map(|byte| format!("{byte:02x}")).collect()
+}
