@@ -9,7 +9,7 @@ ghost use lib.ListN.{length};
 ghost use Rattle.laws.specs.Lists.{flat};
 ghost use Rattle.field.specs.Words.{words};
 ghost use Rattle.blake3.specs.Digest.{hash};
-ghost use Rattle.record.specs.Widths.{present, levelLength, treeLength};
+ghost use Rattle.record.specs.Widths.{present, treeLength};
 ghost use Rattle.record.specs.Trees.{treeFor};
 ghost use Rattle.seal.specs.LevelTree.{LevelTree};
 
