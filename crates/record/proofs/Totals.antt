@@ -17,6 +17,11 @@ unfolding total
 total-ext zero f g h = refl
 total-ext (suc m) f g h = ap₂ _+_ (total-ext m f g (λ i k. h i (omega arith))) (h m (omega arith))
 
+pub endToEnd-ext : (m : ℕ) (f g : ℕ → List ℕ) → ((i : ℕ) → i < m → f i ≡ g i) → endToEnd m f ≡ endToEnd m g
+unfolding endToEnd
+endToEnd-ext zero f g h = refl
+endToEnd-ext (suc m) f g h = ap₂ (λ (xs ys : List ℕ). xs ++ ys) (endToEnd-ext m f g (λ i k. h i (omega arith))) (h m (omega arith))
+
 -- the first summand apart
 pub total-first : (m : ℕ) (f : ℕ → ℕ) → total (suc m) f ≡ f 0 + total m (λ i. f (suc i))
 unfolding total
