@@ -1,5 +1,4 @@
 -- `tree::put_leaves` meets its contract.
-use mathlib.Core.Path.{ap}
 use Rattle.fours.proofs.Walk.{byFours-le}
 use Rattle.tree.proofs.Leaves.{leaves-join}
 use native.Mathlib.Omega.{arith}
@@ -17,7 +16,9 @@ slice-aggregate-put-leaves-from : tie.Need-slice-aggregate-put-leaves-from
 slice-aggregate-put-leaves-from c = search needs
 
 put-leaves-from-requires : tie.Need-put-leaves-from-requires
-put-leaves-from-requires c κs = ?
+put-leaves-from-requires c κs =
+    let y = c .before .before .before .before .before .before .before .before .before .before .before .pre in
+    (record { domain-le = y .domain-le; shaped = y .shaped; values-is = y .values-is; tree-is = omega (arith, y .tree-is) }, byFours-le _ _ _ (c .before .before .before .before .before .put-leaves .ensures .0), omega arith)
 
 same-length : tie.Need-same-length
 same-length c = search needs
