@@ -423,6 +423,7 @@ def accepted():
         title = "n %d k %d domain of %d bytes" % (n, k, len(base))
         for position in positions:
             yield right("check_query %s position %d" % (title, position), check_query(deposit, position))
+            yield right("build_query %s position %d" % (title, position), build_query(deposit, position))
         yield right("check_tail " + title, check_tail(deposit))
         yield right("build_tail " + title, build_tail(deposit))
     for n, k, base, position in [(20, 4, b"deposit", (1 << 24) - 1), (12, 3, b"a" * 200, 12345)]:
@@ -470,7 +471,8 @@ def tail_cases():
 
 
 def build_cases():
-    for title, given in [("build_tail n 1 k 3", build_tail(Deposit(1, 3, b"a")))]:
+    given_query, given_tail = build_query(Deposit(2, 2, NOT_TEXT), 9), build_tail(Deposit(1, 3, b"a"))
+    for title, given in [("build_query n 2 k 2", given_query), ("build_tail n 1 k 3", given_tail)]:
         yield from alone_and_in_pairs(title, given, heads_of_build(given.kind, given.n, given.k))
         yield from alone(title, given, of_numbers(given))
         yield from alone(title, given, of_lengths([("words", 16), ("trees", 32), ("out", 1)]))

@@ -51,7 +51,14 @@ fn check(given: Given, base: &[u8], words: &[u64], digests: &[u8], s: &[u8]) -> 
 fn build(given: Given, words: &[u64], digests: &[u8], s: &mut [u8]) -> u32 {
     let kind = given.kind;
     match kind {
-        Kind::Query => 99,
+        Kind::Query => query_build::build_query(
+            s,
+            words,
+            digests,
+            given.n,
+            given.k,
+            given.position,
+        ),
         Kind::Tail => tail_build::build_tail(s, words, digests, given.n, given.k),
     }
 }
