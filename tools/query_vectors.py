@@ -21,6 +21,9 @@ CRATE = pathlib.Path(__file__).resolve().parent.parent / "crates" / "query_cases
 # what a buffer holds before it is lent
 FILL = b"\xa5"
 
+# the program's room for domain, words, digests, record, and for each of its two files
+ROOM, FILE_ROOM = (256, 8192, 8192, 24576), 262144
+
 # ---- what an entry is given, and what it answers
 
 
@@ -515,10 +518,13 @@ class Store:
 def files():
     store, script, printed = Store(), [], []
     for name, given, done, said in itertools.chain(accepted(), query_cases(), tail_cases(), build_cases()):
+        assert all(len(field) <= room for field, room in zip(given.fields(), ROOM)), name
         fields = " ".join(map(store.parts, given.fields()))
         script.append("%s: %s %s %d %d %d %s\n" % (name, given.kind, done, given.n, given.k, given.position, fields))
         printed.append("%s: %s\n" % (name, said))
-    return {"data/cases": "".join(script).encode(), "data/bytes": store.data, "stdout": "".join(printed).encode()}
+    data = {"data/cases": "".join(script).encode(), "data/bytes": store.data}
+    assert all(len(x) <= FILE_ROOM for x in data.values()) and max(map(len, script)) <= 4096
+    return {**data, "stdout": "".join(printed).encode()}
 
 
 def main():

@@ -9,31 +9,14 @@ ghost use Prim.Native.Nat.{_≤_};
 ghost use lib.ListN.{length};
 
 mod records;
-mod script;
 
 use records::Given;
 use records::Kind;
-use script::Gathered;
 
 fn room() -> [u8; 262144]
     ensures { λ r. ⌜ 262144 ≡ length r ⌝ }
 {
     [0; 262144]
-}
-
-// The numbers of 8 bytes each, little-endian, as many as are whole and have room, and how many.
-fn halves(bytes: &[u8], out: &mut [u64]) -> usize
-    ensures { λ r. ⌜ r ≤ length (now (out .exit)) ⌝ }
-{
-    let mut i: usize = 0;
-    while i < out.len() {
-        if bytes.len() / 8 <= i {
-            return i;
-        }
-        out[i] = le::half_at(bytes, 8 * i);
-        i += 1;
-    }
-    i
 }
 
 // A case, once what it is lent is put together.
@@ -62,6 +45,12 @@ fn kind_of(b: u8) -> Kind {
     Kind::Tail
 }
 
+// The numbers that an entry is given, and where they end.
+struct Numbers {
+    given: Given,
+    next: usize,
+}
+
 // The numbers of a line, whose kind of record stands at a place.
 fn given_at(line: &[u8], at: usize) -> Numbers {
     let n = script::number(line, at);
@@ -76,12 +65,6 @@ fn given_at(line: &[u8], at: usize) -> Numbers {
         },
         next: position.next,
     }
-}
-
-// The numbers that an entry is given, and where they end.
-struct Numbers {
-    given: Given,
-    next: usize,
 }
 
 // How many domain bytes, halves of words, digest bytes and record bytes a case is lent.
@@ -105,7 +88,7 @@ fn put_together(
     ensures { λ r. ⌜ (r .base ≤ length (now (base .exit))) × (r .words ≤ length (now (words .exit))) × (r .digests ≤ length (now (digests .exit))) × (r .s ≤ length (now (s .exit))) ⌝ }
 {
     let a = script::field(line, from, stored, base);
-    let b = put_words(line, a.next, stored, words);
+    let b = script::words(line, a.next, stored, words);
     let c = script::field(line, b.next, stored, digests);
     let d = script::field(line, c.next, stored, s);
     Lengths {
@@ -113,19 +96,6 @@ fn put_together(
         words: b.len,
         digests: c.len,
         s: d.len,
-    }
-}
-
-// Puts the halves of a field's words together.
-fn put_words(line: &[u8], from: usize, stored: &[u8], words: &mut [u64]) -> Gathered
-    ensures { λ r. ⌜ r .len ≤ length (now (words .exit)) ⌝ }
-{
-    let mut bytes = [0u8; 8192];
-    let b = script::field(line, from, stored, &mut bytes);
-    let n = b.len;
-    Gathered {
-        len: halves(&bytes[..n], words),
-        next: b.next,
     }
 }
 
@@ -196,8 +166,8 @@ fn main() {
     let n = io::read_full(file, &mut stored);
     libc::close(file);
     let mut cases = room();
-    let script = os::open_read(b"cases");
-    let m = io::read_full(script, &mut cases);
-    libc::close(script);
+    let lines = os::open_read(b"cases");
+    let m = io::read_full(lines, &mut cases);
+    libc::close(lines);
     run_cases(&cases[..m], &stored[..n]);
 }
