@@ -16,7 +16,7 @@ use Rattle.merkle.specs.Binding.{messages, messagesOf}
 use Rattle.chains.specs.Nodes.{nodesOf, Noted}
 
 -- the leaf's message, and the nodes'
-messages-nodes : (domain : List ℕ) (level g : ℕ) (m : List ℕ) (ss : List (List ℕ)) → messages hash domain level g m ss ≡ m ∷ nodesOf domain level g (hash m) ss
+pub messages-nodes : (domain : List ℕ) (level g : ℕ) (m : List ℕ) (ss : List (List ℕ)) → messages hash domain level g m ss ≡ m ∷ nodesOf domain level g (hash m) ss
 unfolding messages nodesOf
 messages-nodes domain level g m [] = refl
 messages-nodes domain level g m (s ∷ ss) = ap (λ (r : List (List ℕ)). m ∷ r) (messages-nodes domain (suc level) (g / 2) (nodeMessage domain level (left g (hash m) s) (right g (hash m) s)) ss)

@@ -1,0 +1,4 @@
+pub mod Chain
+pub mod Opening
+pub mod Level
+pub mod Levels
