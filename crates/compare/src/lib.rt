@@ -7,9 +7,8 @@ use query::check_query;
 ghost use mathlib.Core.Path.{_≡_};
 ghost use Rattle.blake3.specs.Digest.{hash};
 ghost use Rattle.record.specs.Widths.{present};
-ghost use Rattle.comparing.specs.Compare.{accepts, compareNumber, compared, firstMessage, secondMessage};
+ghost use Rattle.comparing.specs.Compare.{accepts, compared, firstMessage, secondMessage};
 ghost use Rattle.compare.specs.Numbers.{lentNumber, recordsNumber, comparison};
-ghost use lib.ListN.{length};
 
 // The number of the refusal, or 0 and the lengths of the two messages.
 pub struct Compared {

@@ -1,3 +1,4 @@
+use Rattle.compare.proofs.Records.{accepts-is}
 use borrow.Author.Needs.{needs}
 use Rattle.compare.proofs.accepted.Statement.{statement}
 use Rattle.compare.proofs.accepted.Tie as tie
@@ -5,13 +6,11 @@ use Rattle.compare.proofs.accepted.Reads as reads
 use Rattle.compare.proofs.accepted.Lts as lts
 use Rattle.query.proofs.check_query.Reads as check-query-reads
 
--- src/lib.rt:71:9
 check-query-requires : tie.Need-check-query-requires
 check-query-requires c κs = search needs
 
--- src/lib.rt:60:1
 returns : tie.Need-returns
-returns c = ?
+returns c = accepts-is _ _ _ _ _ _ _ _ (c .before .check-query .ensures)
 
 pub accepted-spec : {M : Type 1} → statement M
 accepted-spec = tie.close (tie.spec check-query-requires returns)

@@ -1,3 +1,4 @@
+use Rattle.compare.proofs.Answer.{lent-refused, records-refused, comparable, picked-answer}
 use borrow.Author.Needs.{needs}
 use Rattle.compare.proofs.compare.Statement.{statement}
 use Rattle.compare.proofs.compare.Tie as tie
@@ -7,37 +8,29 @@ use Rattle.compare.proofs.lent_number.Reads as lent-number-reads
 use Rattle.compare.proofs.records_number.Reads as records-number-reads
 use Rattle.compare_levels.proofs.pick_levels.Reads as pick-levels-reads
 
--- src/lib.rt:118:9
 lent-number-requires : tie.Need-lent-number-requires
 lent-number-requires c κs = search needs
 
--- src/lib.rt:129:9
 returns : tie.Need-returns
-returns c = ?
+returns c = let a = lent-refused _ _ _ _ _ _ _ _ _ _ _ (c .before .lent-number .ensures) (c .if1 .taken) in (a .answer-is, (a .first-is, a .second-is))
 
--- src/lib.rt:135:9
 records-number-requires : tie.Need-records-number-requires
 records-number-requires c κs = search needs
 
--- src/lib.rt:137:9
 returns-2 : tie.Need-returns-2
-returns-2 c = ?
+returns-2 c = let a = records-refused _ _ _ _ _ _ _ _ _ _ _ (c .before .before .before .lent-number .ensures) (c .before .before .if1 .left) _ (c .before .records-number .ensures) (c .if2 .taken) in (a .answer-is, (a .first-is, a .second-is))
 
--- src/lib.rt:143:9
 pick-levels-requires : tie.Need-pick-levels-requires
-pick-levels-requires c κs = ?
+pick-levels-requires c κs = comparable _ _ _ _ _ _ _ _ _ _ _ (c .before .before .before .before .before .lent-number .ensures) (c .before .before .before .before .if1 .left) _ (c .before .before .before .records-number .ensures) (c .before .before .if2 .left)
 
--- src/lib.rt:102:1
 same-length : tie.Need-same-length
 same-length c = search needs
 
--- src/lib.rt:102:1
 same-length-2 : tie.Need-same-length-2
 same-length-2 c = search needs
 
--- src/lib.rt:102:1
 returns-3 : tie.Need-returns-3
-returns-3 c = ?
+returns-3 c = let a = picked-answer _ _ _ _ _ _ _ _ _ _ _ (c .before .before .before .before .before .before .before .before .before .before .lent-number .ensures) (c .before .before .before .before .before .before .before .before .before .if1 .left) _ (c .before .before .before .before .before .before .before .before .records-number .ensures) (c .before .before .before .before .before .before .before .if2 .left) _ _ _ (c .before .before .before .before .pick-levels .ensures) in (a .answer-is, (a .first-is, a .second-is))
 
 pub compare-spec : {M : Type 1} → statement M
 compare-spec =
