@@ -1,7 +1,7 @@
 -- A level of two records: its groups and paths are in the records, and what is found at their places is what is found of the levels read there.
-use Prim.Native.Nat.{ℕ, suc, _+_, _-_, _<_, _≤_}
+use Prim.Native.Nat.{ℕ, suc, _+_, _-_, _*_, _<_, _≤_}
 use mathlib.Core.Path.{_≡_, sym, _∙_}
-use mathlib.Core.Bool.{true}
+use mathlib.Core.Bool.{Bool, true, false}
 use mathlib.Core.List.{List}
 use native.Mathlib.Omega.{arith}
 use native.Mathlib.Numerals.{add-one}
@@ -19,16 +19,29 @@ use Rattle.opening.proofs.Numbers.{length-values, length-digests}
 use Rattle.query.specs.Level.{Allowed, Whole}
 use Rattle.query.proofs.Level.{pair-small, level-room}
 use Rattle.query.proofs.Loop.{begin-within, begin-whole, level-there, rest-there}
-use Rattle.comparing.specs.Compare.{pairFound}
-use Rattle.compare_levels.specs.Levels.{aFound, cFound, placesFound, LevelSized}
+use Rattle.comparing.specs.Compare.{openingFound, pairFound}
+use Rattle.differing.specs.Chains.{Picked}
+use Rattle.compare_levels.specs.Levels.{pathFound, placesFound, LevelSized}
 
 pub places-found : (base : List ℕ) (n k l q : ℕ) (s : List ℕ) (i : ℕ) (x : Level) (t : List ℕ) (j : ℕ) (y : Level) → x ≡ levelAt s i → y ≡ levelAt t j
     → placesFound base n k l q s x t y ≡ pairFound hash present base n k l q (levelOf (drop i s)) (levelOf (drop j t))
-unfolding placesFound aFound cFound pairFound valuesAt digestsAt levelOf
+unfolding placesFound pathFound pairFound valuesAt digestsAt levelOf
 places-found base n k l q s i x t j y ex ey =
     let p = level-places s i x ex in
     let r = level-places t j y ey in
     rw (add-one, p .a-group, p .a-path, p .c-group, p .c-path, r .a-group, r .a-path, r .c-group, r .c-path)
+
+-- path c, or path a
+module _ (base : List ℕ) (n k l q : ℕ) (next : Bool) (s : List ℕ) (x : Level) (t : List ℕ) (y : Level) (old old′ new new′ : List ℕ) (r : ℕ) where
+  pub path-c : next ≡ true → Picked (openingFound hash present base n k (l + 1) q (valuesAt s (x .«c_group»)) (digestsAt s (x .«c_path»)) (valuesAt t (y .«c_group»)) (digestsAt t (y .«c_path»))) old old′ new new′ r
+      → Picked (pathFound base n k l q next s x t y) old old′ new new′ r
+  unfolding pathFound
+  path-c e p = rw e p
+
+  pub path-a : next ≡ false → Picked (openingFound hash present base n k l (2 * q) (valuesAt s (x .«a_group»)) (digestsAt s (x .«a_path»)) (valuesAt t (y .«a_group»)) (digestsAt t (y .«a_path»))) old old′ new new′ r
+      → Picked (pathFound base n k l q next s x t y) old old′ new new′ r
+  unfolding pathFound
+  path-a e p = rw e p
 
 -- what is left of an accepted record, from level l on, which starts at this place: it is there, and 16 to 26 hold of each level
 pub record Rest (base : List ℕ) (n k position l : ℕ) (s : List ℕ) (i : ℕ) : Type 0 where

@@ -1,4 +1,2 @@
-pub mod Chain
-pub mod Opening
 pub mod Level
 pub mod Levels

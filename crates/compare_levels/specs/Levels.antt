@@ -2,32 +2,28 @@
 -- what comparing finds of a group and a path.
 use Prim.Native.Nat.{ℕ, _+_, _*_}
 use mathlib.Core.Path.{_≡_}
+use mathlib.Core.Bool.{Bool, true, false}
 use mathlib.Core.List.{List}
 use lib.ListN.{length}
+use Rattle.laws.specs.Questions.{pick}
 use Rattle.blake3.specs.Digest.{hash}
-use Rattle.merkle.specs.Binding.{Found, orElse, messagesOf}
-use Rattle.record.specs.Domain.{levelDomain}
-use Rattle.record.specs.Widths.{present, levelLength, levelWidth}
+use Rattle.merkle.specs.Binding.{Found, orElse}
+use Rattle.record.specs.Widths.{present}
 use Rattle.record.proofs.Query.{QueryAccepted}
 use Rattle.reader.specs.declared.Level.{Level}
 use Rattle.opening.specs.Opening.{valuesAt, digestsAt, Sized}
 use Rattle.comparing.specs.Compare.{openingFound}
 
--- the messages from the group of a place of level l to the root
-unfoldable pub levelMessages : List ℕ → ℕ → ℕ → ℕ → ℕ → List ℕ → List (List ℕ) → List (List ℕ)
-levelMessages base n k l place values path = messagesOf hash (levelDomain base l) (levelLength n k l) (levelWidth present n k l) place values path
+-- of level l of the records s and t: path c, which is of the next level, or else path a
+unfoldable pub pathFound : List ℕ → ℕ → ℕ → ℕ → ℕ → Bool → List ℕ → Level → List ℕ → Level → Found
+pathFound base n k l q next s x t y =
+    pick next
+    (openingFound hash present base n k (l + 1) q (valuesAt s (x .«c_group»)) (digestsAt s (x .«c_path»)) (valuesAt t (y .«c_group»)) (digestsAt t (y .«c_path»)))
+    (openingFound hash present base n k l (2 * q) (valuesAt s (x .«a_group»)) (digestsAt s (x .«a_path»)) (valuesAt t (y .«a_group»)) (digestsAt t (y .«a_path»)))
 
--- path a, path c, and path a before path c, of level l of the records s and t
-unfoldable pub aFound : List ℕ → ℕ → ℕ → ℕ → ℕ → List ℕ → Level → List ℕ → Level → Found
-aFound base n k l q s x t y =
-    openingFound hash present base n k l (2 * q) (valuesAt s (x .«a_group»)) (digestsAt s (x .«a_path»)) (valuesAt t (y .«a_group»)) (digestsAt t (y .«a_path»))
-
-unfoldable pub cFound : List ℕ → ℕ → ℕ → ℕ → ℕ → List ℕ → Level → List ℕ → Level → Found
-cFound base n k l q s x t y =
-    openingFound hash present base n k (l + 1) q (valuesAt s (x .«c_group»)) (digestsAt s (x .«c_path»)) (valuesAt t (y .«c_group»)) (digestsAt t (y .«c_path»))
-
+-- path a before path c
 unfoldable pub placesFound : List ℕ → ℕ → ℕ → ℕ → ℕ → List ℕ → Level → List ℕ → Level → Found
-placesFound base n k l q s x t y = orElse (aFound base n k l q s x t y) (cFound base n k l q s x t y)
+placesFound base n k l q s x t y = orElse (pathFound base n k l q false s x t y) (pathFound base n k l q true s x t y)
 
 -- the groups and paths of level l at their places in s
 pub record LevelSized (base : List ℕ) (n k l : ℕ) (s : List ℕ) (v : Level) : Type 0 where

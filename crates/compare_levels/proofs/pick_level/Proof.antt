@@ -5,11 +5,10 @@ use Rattle.compare_levels.proofs.pick_level.Statement.{statement}
 use Rattle.compare_levels.proofs.pick_level.Tie as tie
 use Rattle.compare_levels.proofs.pick_level.Reads as reads
 use Rattle.compare_levels.proofs.pick_level.Lts as lts
-use Rattle.compare_levels.proofs.pick_a.Reads as pick-a-reads
-use Rattle.compare_levels.proofs.pick_c.Reads as pick-c-reads
+use Rattle.compare_levels.proofs.pick_path.Reads as pick-path-reads
 
-pick-a-requires : tie.Need-pick-a-requires
-pick-a-requires c κs = c .before .before .before .before .before .before .before .pre
+pick-path-requires : tie.Need-pick-path-requires
+pick-path-requires c κs = c .before .before .before .before .before .before .before .pre
 
 same-length : tie.Need-same-length
 same-length c = search needs
@@ -19,10 +18,10 @@ same-length-2 c = search needs
 
 returns : tie.Need-returns
 unfolding placesFound
-returns c = picked-first _ _ _ _ _ _ _ (c .before .before .before .before .before .pick-a .ensures) (c .if1 .taken)
+returns c = picked-first _ _ _ _ _ _ _ (c .before .before .before .before .before .pick-path .ensures) (c .if1 .taken)
 
-pick-c-requires : tie.Need-pick-c-requires
-pick-c-requires c κs = (c .before .before .before .before .before .before .before .before .before .before .before .before .before .before .before .pre .0, c .before .before .before .before .before .before .before .before .before .before .before .before .before .before .before .pre .1, c .before .before .before .before .before .before .before .before .before .before .before .before .before .before .before .pre .2, search needs, search needs)
+pick-path-requires-2 : tie.Need-pick-path-requires-2
+pick-path-requires-2 c κs = (c .before .before .before .before .before .before .before .before .before .before .before .before .before .before .before .pre .0, c .before .before .before .before .before .before .before .before .before .before .before .before .before .before .before .pre .1, c .before .before .before .before .before .before .before .before .before .before .before .before .before .before .before .pre .2, search needs, search needs)
 
 same-length-3 : tie.Need-same-length-3
 same-length-3 c = search needs
@@ -32,17 +31,17 @@ same-length-4 c = search needs
 
 returns-2 : tie.Need-returns-2
 unfolding placesFound
-returns-2 c = picked-later _ _ _ _ _ _ _ _ _ (picked-none _ _ _ _ _ _ (c .before .before .before .before .before .before .before .before .before .before .before .before .pick-a .ensures) (c .before .before .before .before .before .before .before .if1 .left)) (c .before .before .before .before .pick-c .ensures)
+returns-2 c = picked-later _ _ _ _ _ _ _ _ _ (picked-none _ _ _ _ _ _ (c .before .before .before .before .before .before .before .before .before .before .before .before .pick-path .ensures) (c .before .before .before .before .before .before .before .if1 .left)) (c .before .before .before .before .pick-path2 .ensures)
 
 pub pick-level-spec : {M : Type 1} → statement M
 pick-level-spec =
     tie.close
     (tie.spec
-    pick-a-requires
+    pick-path-requires
     same-length
     same-length-2
     returns
-    pick-c-requires
+    pick-path-requires-2
     same-length-3
     same-length-4
     returns-2)

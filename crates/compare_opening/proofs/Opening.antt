@@ -22,8 +22,8 @@ use Rattle.opening.proofs.Numbers.{length-values, length-digests}
 use Rattle.opening.proofs.Levels.{sized-room}
 use Rattle.comparing.specs.Compare.{openingFound}
 use Rattle.differing.specs.Chains.{chainOf, Chains, Picked}
-use Rattle.compare_levels.specs.Levels.{levelMessages}
-use Rattle.compare_levels.proofs.Chain.{messages-read}
+use Rattle.compare_opening.specs.Messages.{levelMessages}
+use Rattle.compare_opening.proofs.Chain.{messages-read}
 
 -- the length of a domain in its buffer
 pub domain-there : (o : List ℕ) (n : ℕ) (a o1 : List ℕ) (i : ℕ) → Put o 0 n a o1 i → n ≤ length o → length (take i o1) ≡ length a

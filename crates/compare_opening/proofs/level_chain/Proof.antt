@@ -1,12 +1,12 @@
 use native.Mathlib.Omega.{arith}
 use Rattle.digests.proofs.Messages.{message-length, prefix-is}
 use Rattle.opening.proofs.Levels.{sized-room, domain-room}
-use Rattle.compare_levels.proofs.Opening.{domain-there, chain-fits, chain-is}
+use Rattle.compare_opening.proofs.Opening.{domain-there, chain-fits, chain-is}
 use borrow.Author.Needs.{needs}
-use Rattle.compare_levels.proofs.level_chain.Statement.{statement}
-use Rattle.compare_levels.proofs.level_chain.Tie as tie
-use Rattle.compare_levels.proofs.level_chain.Reads as reads
-use Rattle.compare_levels.proofs.level_chain.Lts as lts
+use Rattle.compare_opening.proofs.level_chain.Statement.{statement}
+use Rattle.compare_opening.proofs.level_chain.Tie as tie
+use Rattle.compare_opening.proofs.level_chain.Reads as reads
+use Rattle.compare_opening.proofs.level_chain.Lts as lts
 use Rattle.chains.proofs.put_chain.Reads as put-chain-reads
 use Rattle.levels.proofs.level_depth.Reads as level-depth-reads
 use Rattle.levels.proofs.level_domain.Reads as level-domain-reads

@@ -1,11 +1,11 @@
 use Rattle.opening.proofs.Levels.{sized-room}
-use Rattle.compare_levels.proofs.Opening.{chains-there, picked-opening}
+use Rattle.compare_opening.proofs.Opening.{chains-there, picked-opening}
 use borrow.Author.Needs.{needs}
-use Rattle.compare_levels.proofs.pick_opening.Statement.{statement}
-use Rattle.compare_levels.proofs.pick_opening.Tie as tie
-use Rattle.compare_levels.proofs.pick_opening.Reads as reads
-use Rattle.compare_levels.proofs.pick_opening.Lts as lts
-use Rattle.compare_levels.proofs.level_chain.Reads as level-chain-reads
+use Rattle.compare_opening.proofs.pick_opening.Statement.{statement}
+use Rattle.compare_opening.proofs.pick_opening.Tie as tie
+use Rattle.compare_opening.proofs.pick_opening.Reads as reads
+use Rattle.compare_opening.proofs.pick_opening.Lts as lts
+use Rattle.compare_opening.proofs.level_chain.Reads as level-chain-reads
 use Rattle.differing.proofs.pick_last.Reads as pick-last-reads
 use Rattle.levels.proofs.level_depth.Reads as level-depth-reads
 use Rattle.levels.proofs.level_width.Reads as level-width-reads
