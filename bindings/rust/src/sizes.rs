@@ -1,0 +1,81 @@
+//! The sizes that n and k fix. The archive refuses any other with 5.
+
+use crate::refusal::Refusal;
+use crate::tree::fold_tree_width;
+
+/// What n and k fix: how many words and bytes each buffer has.
+///
+/// ```
+/// let sizes = dequmlo::Sizes::of(18, 2).unwrap();
+/// assert_eq!(sizes.codeword_words, 1 << 20);
+/// assert_eq!(sizes.query_bytes, 14_884);
+/// assert_eq!(sizes.tail_bytes, 148);
+/// assert_eq!(dequmlo::Sizes::of(21, 0).unwrap_err().number, 4);
+/// ```
+#[derive(Clone, Copy, Debug, PartialEq, Eq)]
+pub struct Sizes {
+    /// n: the table has 2^n words.
+    pub n: usize,
+    /// k: the codeword has 2^k blocks.
+    pub k: usize,
+    /// The words of the table.
+    pub table_words: usize,
+    /// The gammas.
+    pub gamma_words: usize,
+    /// The words of the codeword, which is level 0.
+    pub codeword_words: usize,
+    /// The bytes of level 0's tree.
+    pub tree_bytes: usize,
+    /// The words of all levels.
+    pub levels_words: usize,
+    /// The bytes of all levels' trees.
+    pub trees_bytes: usize,
+    /// The bytes of a query record.
+    pub query_bytes: usize,
+    /// The bytes of a tail record.
+    pub tail_bytes: usize,
+}
+
+impl Sizes {
+    /// The sizes for n from 1 to 20 and k up to 4; any others are refused with 4.
+    pub fn of(n: usize, k: usize) -> Result<Sizes, Refusal> {
+        if n == 0 || n > 20 || k > 4 {
+            return Err(Refusal::of(4));
+        }
+        let level = |l| level_words(n, k, l);
+        Ok(Sizes {
+            n,
+            k,
+            table_words: 1 << n,
+            gamma_words: k * n,
+            codeword_words: level(0),
+            tree_bytes: tree_bytes(level(0)),
+            levels_words: (0..=n).map(level).sum(),
+            trees_bytes: (0..=n).map(|l| tree_bytes(level(l))).sum(),
+            query_bytes: 4
+                + (0..n)
+                    .map(|l| 48 + group_bytes(level(l)) + group_bytes(level(l + 1)))
+                    .sum::<usize>(),
+            tail_bytes: 4 + groups(level(n)) * group_bytes(level(n)),
+        })
+    }
+}
+
+/// The words of level l.
+pub(crate) fn level_words(n: usize, k: usize, l: usize) -> usize {
+    1 << (n + k - l)
+}
+
+/// The bytes of the tree over a level of this many words.
+pub(crate) fn tree_bytes(words: usize) -> usize {
+    32 * (2 * groups(words) - 1)
+}
+
+fn groups(words: usize) -> usize {
+    words / fold_tree_width(words)
+}
+
+/// A group of a level of this many words and its path, each after its count.
+fn group_bytes(words: usize) -> usize {
+    8 + 16 * fold_tree_width(words) + 32 * groups(words).ilog2() as usize
+}
