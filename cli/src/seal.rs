@@ -7,7 +7,7 @@
 use crate::files::{read_text, Named, SUMMARY};
 use crate::hex;
 use crate::outcome::Failure;
-use dequmlo::{Parameters, Root};
+use dequmlo::{Parameters, Root, Sizes};
 use std::path::Path;
 
 /// n, k and the base domain.
@@ -52,13 +52,15 @@ impl Seal {
 impl Shape {
     pub fn read(folder: &Path) -> Result<Shape, Failure> {
         let path = folder.join("parameters.txt");
-        let text = read_text(&path)?;
-        Shape::of_text(&text).ok_or_else(|| {
+        let shape = Shape::of_text(&read_text(&path)?).ok_or_else(|| {
             Failure(format!(
                 "{} is not as `seal commit` writes it",
                 path.display()
             ))
-        })
+        })?;
+        Sizes::of(shape.n, shape.k)
+            .map_err(|refusal| Failure(format!("{}: {refusal}", path.display())))?;
+        Ok(shape)
     }
 
     pub fn text(&self) -> String {

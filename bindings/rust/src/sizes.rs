@@ -79,3 +79,55 @@ fn groups(words: usize) -> usize {
 fn group_bytes(words: usize) -> usize {
     8 + 16 * fold_tree_width(words) + 32 * groups(words).ilog2() as usize
 }
+
+#[cfg(test)]
+mod tests {
+    use super::Sizes;
+    use crate::raw;
+
+    /// The archive asks for lengths (5) before it asks for the position (11) or the base domain (7), so these answers say that every
+    /// length was the one that it wants. The buffers are never touched.
+    #[test]
+    fn the_archive_wants_these_sizes() {
+        for (n, k) in (1..=20).flat_map(|n| (0..=4).map(move |k| (n, k))) {
+            let sizes = Sizes::of(n, k).unwrap();
+            let mut levels = vec![0u64; 2 * sizes.levels_words];
+            let mut trees = vec![0u8; sizes.trees_bytes];
+            let mut out = vec![0u8; sizes.query_bytes];
+            let built = unsafe {
+                raw::dequmlo_build_query(
+                    out.as_mut_ptr(),
+                    out.len(),
+                    levels.as_ptr(),
+                    levels.len(),
+                    trees.as_ptr(),
+                    trees.len(),
+                    n,
+                    k,
+                    usize::MAX,
+                )
+            };
+            assert_eq!(built, 11, "n {n} k {k}");
+            let table = vec![0u64; 2 * sizes.table_words];
+            let mut gammas = vec![0u64; 2 * sizes.gamma_words];
+            let base = [0u8; 201];
+            let committed = unsafe {
+                raw::dequmlo_commit(
+                    n,
+                    k,
+                    base.as_ptr(),
+                    base.len(),
+                    table.as_ptr(),
+                    table.len(),
+                    gammas.as_mut_ptr(),
+                    gammas.len(),
+                    levels.as_mut_ptr(),
+                    2 * sizes.codeword_words,
+                    trees.as_mut_ptr(),
+                    sizes.tree_bytes,
+                )
+            };
+            assert_eq!(committed, 7, "n {n} k {k}");
+        }
+    }
+}

@@ -11,6 +11,10 @@ use dequmlo::{QueryRecord, Refusal, Statement, Word};
 /// Said where the challenges are the opening's own.
 const OWN_CHALLENGES: &str = "the challenges are those that the opening itself names; give --challenges with the checker's own";
 
+/// Said where the opening names other parameters than the seal, whose own were used.
+const OTHER_SHAPE: &str =
+    "the opening names another n, k or base domain than the seal: it was made for another seal";
+
 pub fn run(options: &Options) -> Result<Outcome, Failure> {
     options.expect(
         1,
@@ -45,6 +49,9 @@ pub fn run(options: &Options) -> Result<Outcome, Failure> {
         );
     }
     found.tail(statement.check_tail(claim, &opening.tail));
+    if opening.shape != seal.shape {
+        found.lines.push(format!("note: {OTHER_SHAPE}"));
+    }
     if own {
         found.lines.push(format!("note: {OWN_CHALLENGES}"));
     }

@@ -37,7 +37,7 @@ pub fn run(options: &Options) -> Result<Outcome, Failure> {
         Ok(table) => table,
         Err(sentence) => return Ok(Outcome::declined(sentence)),
     };
-    if table.len() != 1usize << seal.shape.n.min(63) {
+    if table.len() != 1usize << seal.shape.n {
         return Ok(not_the_file(file));
     }
     match opened(&seal, &table, &asked) {
