@@ -6,7 +6,7 @@
 
    Memory. Nothing is allocated and nothing is kept: the caller owns every buffer and lends it for the length of the call. A lent buffer
    is a pointer and a count of elements; the pointer must be valid for that count and aligned, and may not be null even where the count
-   is 0. Buffers lent to one call must not overlap, except that two that are only read may. No call needs more than 64 KiB of stack.
+   is 0. Buffers lent to one call must not overlap, except that two that are only read may. No call takes more than 96 KiB of stack.
    Functions share no state: any number of threads may call them, each with buffers of its own.
 
    Words. A word is an element of GF(2^128): bit i is the coefficient of x^i, reduced by x^128 + x^7 + x^2 + x + 1. A table of words is
