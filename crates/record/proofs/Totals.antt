@@ -69,6 +69,12 @@ part-endToEnd (suc m) i f len h k =
     (λ (g : i < m). part-front (len i) (total i len) (endToEnd m f) (f m) (omega (arith, total-within m i len g)) ∙ part-endToEnd m i f len (λ j g. h j (omega arith)) g)
     (eq-or-lt-of-le {n = i} {m = m} (omega arith))
 
+-- summands that are at most b
+pub total-le : (b m : ℕ) (f : ℕ → ℕ) → ((i : ℕ) → i < m → f i ≤ b) → total m f ≤ b * m
+unfolding total
+total-le b zero f h = omega arith
+total-le b (suc m) f h = omega (arith, total-le b m f (λ i k. h i (omega arith)), h m (omega arith))
+
 pub total-same : (c m : ℕ) → total m (λ i. c) ≡ c * m
 unfolding total
 total-same c zero = omega arith
