@@ -22,7 +22,7 @@ seal commit FILE [--profile NAME | --k K --domain TEXT] [--out FOLDER]
     seal a file: its root and parameters go into FILE.seal
 seal open FILE --seal FOLDER (--challenges FILE | --seed TEXT) [--at P,P,.. | --positions FILE | --count N] [--out FOLDER]
     build the records that a checker asked for, into FILE.opening
-seal check OPENING --seal FOLDER [--challenges FILE | --seed TEXT] [--at P,P,..] [--claim WORD]
+seal check OPENING --seal FOLDER [--challenges FILE | --seed TEXT] [--at P,P,.. | --positions FILE] [--roots FILE] [--claim WORD]
     check the records and the tail of an opening
 seal tail OPENING --seal FOLDER [--claim WORD]
     check the tail record alone, and list the last level

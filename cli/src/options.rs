@@ -15,7 +15,7 @@ pub struct Options {
 }
 
 /// The options that take a value.
-const NAMED: [&str; 12] = [
+const NAMED: [&str; 13] = [
     "--profile",
     "--k",
     "--domain",
@@ -25,6 +25,7 @@ const NAMED: [&str; 12] = [
     "--seed",
     "--at",
     "--positions",
+    "--roots",
     "--count",
     "--claim",
     "--opening",

@@ -48,13 +48,6 @@ impl Outcome {
         Outcome::of(false, vec![format!("refused: {sentence}")], json)
     }
 
-    /// The lines, with a folder's name left out.
-    pub fn print_without(&self, folder: &str) {
-        self.lines
-            .iter()
-            .for_each(|line| println!("{}", line.replace(folder, "")));
-    }
-
     pub fn print(&self, json: bool) {
         if json {
             println!("{}", self.json);

@@ -215,6 +215,53 @@ fn a_position_that_was_asked_for_must_be_shown() {
 }
 
 #[test]
+fn in_rounds_the_roots_come_before_the_positions() {
+    let desk = Desk::opened("rounds");
+    let words = "plan.txt.opening/challenges.txt";
+    let first = [
+        "open",
+        "plan.txt",
+        "--seal",
+        "plan.txt.seal",
+        "--challenges",
+        words,
+        "--count",
+        "0",
+        "--out",
+        "first",
+    ];
+    desk.seal(first).says(0, &["opened 0 positions into first"]);
+    desk.seal(["check", "first", "--seal", "plan.txt.seal"])
+        .says(
+            1,
+            &[
+                "records: refused: the opening shows no place of the deposit",
+                "1 accepted, 1 refused",
+            ],
+        );
+    let check = [
+        "check",
+        "plan.txt.opening",
+        "--seal",
+        "plan.txt.seal",
+        "--challenges",
+        words,
+        "--positions",
+        "asked",
+        "--roots",
+    ];
+    desk.write("asked", b"7\n255\n");
+    desk.seal(check.into_iter().chain(["first/roots.txt"]))
+        .says(0, &["3 accepted, 0 refused"]);
+    let mut roots = desk.read("first/roots.txt");
+    let third = 2 * 65;
+    roots[third] = if roots[third] == b'0' { b'1' } else { b'0' };
+    desk.write("first/roots.txt", &roots);
+    desk.seal(check.into_iter().chain(["first/roots.txt"]))
+        .says(1, &["position 7: refused, 24 at level 1"]);
+}
+
+#[test]
 fn the_tail_by_itself() {
     let desk = Desk::opened("tail");
     let claim = String::from_utf8(desk.read("plan.txt.opening/claim.txt")).unwrap();

@@ -1,8 +1,9 @@
 //! The deposit seal, over the proved library `libdequmlo.a`.
 //!
 //! An office deposits a table of words as one 32-byte root. Later a holder shows records from it, and a checker accepts them or names
-//! the check that failed. This crate is a safe layer: it owns the buffers, tests every length before a call, and gives each refusal as a
-//! [`Refusal`] that reads as a sentence. The work is done in the archive, every function of which is proved to meet its contract.
+//! the check that failed. This crate is a safe layer: it owns the buffers that are written, every length is tested before a byte is touched,
+//! and a refusal is a [`Refusal`] that reads as a sentence. The work is done in the archive, every function of which is proved to meet its
+//! contract.
 //!
 //! ```
 //! use dequmlo::{Deposit, Parameters, Statement, Word};

@@ -156,3 +156,19 @@ fn what_is_refused_before_a_record_is_read() {
         Some(4)
     );
 }
+
+#[test]
+fn several_threads_at_once() {
+    let s = sealed(6, 2).unwrap();
+    std::thread::scope(|scope| {
+        for thread in 0..4 {
+            let s = &s;
+            scope.spawn(move || {
+                for position in (thread..256).step_by(4) {
+                    let record = s.folded.query(position).unwrap();
+                    assert_eq!(s.statement.check_query(position, &record), Ok(()));
+                }
+            });
+        }
+    });
+}

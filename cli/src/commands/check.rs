@@ -5,11 +5,16 @@ use crate::json::Json;
 use crate::opening::Opening;
 use crate::options::Options;
 use crate::outcome::{json_of, lines_of, Failure, Outcome};
-use crate::seal::Seal;
+use crate::seal::{list, Seal};
 use dequmlo::{QueryRecord, Refusal, Statement, Word};
 
 /// Said where the challenges are the opening's own.
-const OWN_CHALLENGES: &str = "the challenges are those that the opening itself names; give --challenges with the checker's own";
+const OWN_CHALLENGES: &str =
+    "the challenges are those that the opening itself names; give --challenges with the checker's own";
+
+/// Said where the positions are those that the opening has records for.
+const OWN_POSITIONS: &str =
+    "the positions are those that the opening shows; give --at or --positions with the checker's own";
 
 /// Said where the opening names other parameters than the seal, whose own were used.
 const OTHER_SHAPE: &str =
@@ -25,11 +30,15 @@ pub fn run(options: &Options) -> Result<Outcome, Failure> {
             "--seed",
             "--at",
             "--positions",
+            "--roots",
             "--claim",
         ],
     )?;
     let seal = Seal::read(&options.needed_path("--seal", "the folder that `seal commit` wrote")?)?;
-    let opening = Opening::read(&options.operands[0])?;
+    let mut opening = Opening::read(&options.operands[0])?;
+    if let Some(path) = options.path("--roots") {
+        opening.roots = list(&path)?;
+    }
     let (words, own) = match challenges(options, seal.shape.n)? {
         Some((words, _)) => (words, false),
         None => (opening.challenges.clone(), true),
@@ -40,20 +49,24 @@ pub fn run(options: &Options) -> Result<Outcome, Failure> {
     };
     let claim = claim(options, &opening)?;
     let mut found = Found::default();
-    for position in
-        positions(options)?.unwrap_or_else(|| opening.queries.iter().map(|(p, _)| *p).collect())
-    {
+    let asked = positions(options)?;
+    let shown: Vec<usize> = opening.queries.iter().map(|(p, _)| *p).collect();
+    for position in asked.as_ref().unwrap_or(&shown) {
+        let record = record_at(&opening, *position);
         found.record(
-            position,
-            shown(&opening, position).map(|record| statement.check_query(position, record)),
+            *position,
+            record.map(|r| statement.check_query(*position, r)),
         );
     }
     found.tail(statement.check_tail(claim, &opening.tail));
     if opening.shape != seal.shape {
-        found.lines.push(format!("note: {OTHER_SHAPE}"));
+        found.notes.push(OTHER_SHAPE);
     }
     if own {
-        found.lines.push(format!("note: {OWN_CHALLENGES}"));
+        found.notes.push(OWN_CHALLENGES);
+    }
+    if asked.is_none() {
+        found.notes.push(OWN_POSITIONS);
     }
     Ok(found.outcome())
 }
@@ -85,7 +98,7 @@ pub fn claim(options: &Options, opening: &Opening) -> Result<Word, Failure> {
     }
 }
 
-fn shown(opening: &Opening, position: usize) -> Option<&QueryRecord> {
+fn record_at(opening: &Opening, position: usize) -> Option<&QueryRecord> {
     opening
         .queries
         .iter()
@@ -97,6 +110,7 @@ fn shown(opening: &Opening, position: usize) -> Option<&QueryRecord> {
 #[derive(Default)]
 struct Found {
     lines: Vec<String>,
+    notes: Vec<&'static str>,
     records: Vec<Json>,
     tail: Option<Json>,
     accepted: usize,
@@ -145,16 +159,27 @@ impl Found {
         }
     }
 
+    /// Accepted where nothing was refused; an opening of which no record was asked for or shown proves nothing of the deposit.
     fn outcome(mut self) -> Outcome {
+        if self.records.is_empty() {
+            self.refused += 1;
+            self.lines.push("records: refused: the opening shows no place of the deposit; ask the holder for positions".into());
+        }
         let all = self.refused == 0;
         self.lines.push(format!(
             "{} accepted, {} refused",
             self.accepted, self.refused
         ));
+        self.lines
+            .extend(self.notes.iter().map(|note| format!("note: {note}")));
         let json = Json::object([
             ("accepted", Json::Bool(all)),
             ("records", Json::List(self.records)),
             ("tail", self.tail.unwrap_or(Json::Null)),
+            (
+                "notes",
+                Json::List(self.notes.iter().map(Json::text).collect()),
+            ),
         ]);
         Outcome::of(all, self.lines, json)
     }

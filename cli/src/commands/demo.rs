@@ -1,10 +1,10 @@
 //! `seal demo`: a sample deposit sealed, opened and checked; then a byte damaged, and the refusal that names the check.
 
+use crate::files::read;
 use crate::json::Json;
 use crate::opening::record_name;
 use crate::options::Options;
 use crate::outcome::{Failure, Outcome};
-use std::ffi::OsString;
 use std::path::{Path, PathBuf};
 
 /// The byte that is damaged: of the first level's a group, whose values stand from byte 56 on.
@@ -12,101 +12,49 @@ const DAMAGED: usize = 60;
 
 pub fn run(options: &Options) -> Result<Outcome, Failure> {
     options.expect(0, "no operand", &[])?;
-    let folder = Scratch::new()?;
-    let file = folder.0.join("deposit.txt");
-    std::fs::write(&file, sample())
-        .map_err(|e| Failure(format!("cannot write {}: {e}", file.display())))?;
-    let seal = folder.0.join("deposit.txt.seal");
-    let opening = folder.0.join("deposit.txt.opening");
+    let _scratch = Scratch::entered()?;
+    let show = |heading: &str, command: &str| step(heading, command, !options.json);
 
-    step(
-        &folder.0,
+    write(Path::new("deposit.txt"), sample().into_bytes())?;
+    let sealed = show(
         "An office seals a deposit; its root is all that it keeps:",
-        &[],
-        "commit",
-        &[&file],
+        "commit deposit.txt",
     )?;
-    let (f, s, o) = (&file, &seal, &opening);
-    let at = [
-        ("--at", "3,500,1023".into()),
-        ("--seed", "a checker's dice".into()),
-        ("--seal", path(s)),
-    ];
-    step(
-        &folder.0,
+    let opened = show(
         "Years later a checker asks for three places, and the holder opens them:",
-        &at,
-        "open",
-        &[f],
+        "open deposit.txt --seal deposit.txt.seal --seed dice --at 3,500,1023",
     )?;
-    let against = [("--seal", path(s)), ("--seed", "a checker's dice".into())];
-    let good = step(
-        &folder.0,
-        "The checker checks what is shown:",
-        &against,
-        "check",
-        &[o],
-    )?;
+    let check = "check deposit.txt.opening --seal deposit.txt.seal --seed dice --at 3,500,1023";
+    let accepted = show("The checker checks what is shown:", check)?;
 
-    let record = opening.join(record_name(500));
-    let mut bytes = crate::files::read(&record)?;
+    let record = Path::new("deposit.txt.opening").join(record_name(500));
+    let mut bytes = read(&record)?;
     bytes[DAMAGED] ^= 1;
-    std::fs::write(&record, bytes)
-        .map_err(|e| Failure(format!("cannot write {}: {e}", record.display())))?;
-    let heading = format!("One bit of byte {DAMAGED} of the record at 500 is changed, and the check names what failed:");
-    let bad = step(&folder.0, &heading, &against, "check", &[o])?;
+    write(&record, bytes)?;
+    let heading =
+        format!("One bit of the record at 500 is changed, in byte {DAMAGED}, and the check names what failed:");
+    let damaged_accepted = show(&heading, check)?;
 
-    let as_expected = good && !bad;
+    let as_expected = sealed && opened && accepted && !damaged_accepted;
     let last = if as_expected {
         "The sound opening was accepted, the damaged one refused."
     } else {
-        "This is not what a demonstration shows."
+        "This is not what the demonstration is to show."
     };
     let json = Json::object([("accepted", Json::Bool(as_expected))]);
     Ok(Outcome::of(as_expected, vec![last.into()], json))
 }
 
-/// Runs a command as a user would, and shows it. Whether it was accepted.
-fn step(
-    folder: &Path,
-    heading: &str,
-    named: &[(&str, OsString)],
-    command: &str,
-    operands: &[&PathBuf],
-) -> Result<bool, Failure> {
-    let mut words: Vec<OsString> = vec![command.into()];
-    words.extend(operands.iter().map(|p| path(p)));
-    words.extend(
-        named
-            .iter()
-            .flat_map(|(name, value)| [OsString::from(name), value.clone()]),
-    );
-    let shown: Vec<String> = words
-        .iter()
-        .map(|w| {
-            quoted(
-                &w.to_string_lossy()
-                    .replace(&format!("{}/", folder.display()), ""),
-            )
-        })
-        .collect();
-    println!("{heading}\n$ seal {}", shown.join(" "));
+/// Runs a command as a user would and, where it is asked for, shows it. Whether it was accepted.
+fn step(heading: &str, command: &str, shown: bool) -> Result<bool, Failure> {
+    let words = command.split_whitespace().map(Into::into).collect();
     let outcome = crate::run(&Options::read(words)?)?;
-    outcome.print_without(&format!("{}/", folder.display()));
-    println!();
-    Ok(outcome.accepted)
-}
-
-fn path(p: &Path) -> OsString {
-    p.as_os_str().into()
-}
-
-fn quoted(word: &str) -> String {
-    if word.contains(' ') {
-        format!("\"{word}\"")
-    } else {
-        word.into()
+    if shown {
+        println!("{heading}\n$ seal {command}");
+        outcome.print(false);
+        println!();
     }
+    Ok(outcome.accepted)
 }
 
 /// A deposit of some pages.
@@ -120,14 +68,20 @@ fn sample() -> String {
         .collect()
 }
 
-/// A folder of its own, removed at the end.
+fn write(path: &Path, bytes: Vec<u8>) -> Result<(), Failure> {
+    std::fs::write(path, bytes)
+        .map_err(|e| Failure(format!("cannot write {}: {e}", path.display())))
+}
+
+/// A folder of its own, entered, and removed at the end.
 struct Scratch(PathBuf);
 
 impl Scratch {
-    fn new() -> Result<Scratch, Failure> {
+    fn entered() -> Result<Scratch, Failure> {
         let folder = std::env::temp_dir().join(format!("seal-demo-{}", std::process::id()));
-        std::fs::create_dir(&folder)
-            .map_err(|e| Failure(format!("cannot make {}: {e}", folder.display())))?;
+        let failed = |e| Failure(format!("cannot make {}: {e}", folder.display()));
+        std::fs::create_dir(&folder).map_err(failed)?;
+        std::env::set_current_dir(&folder).map_err(failed)?;
         Ok(Scratch(folder))
     }
 }

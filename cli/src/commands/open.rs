@@ -74,6 +74,7 @@ fn asked(options: &Options, shape: &Shape) -> Result<Asked, Failure> {
         }
         (Some(positions), _) => positions,
         (None, Some(seed)) => seeded_positions(seed, shape, count.unwrap_or(shape.queries())),
+        (None, None) if count == Some(0) => Vec::new(),
         (None, None) => {
             return Err(Failure(
                 "`seal open` needs the checker's positions: --at P,P,.. or --positions FILE".into(),

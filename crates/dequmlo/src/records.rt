@@ -6,8 +6,24 @@ ghost use Rattle.blake3.specs.Digest.{hash};
 ghost use Rattle.record.specs.Widths.{present};
 ghost use Rattle.record.specs.Query.{checkQuery};
 ghost use Rattle.record.specs.Tail.{checkTail};
-ghost use Rattle.record.specs.Build.{buildTailNumber, buildTail};
+ghost use Rattle.record.specs.Build.{buildQueryNumber, buildQuery, buildTailNumber, buildTail};
 ghost use Rattle.dequmlo.specs.Answers.{checked};
+
+// The query record at a position, from all levels and their trees end to end: 4, 5, 11.
+#[no_mangle]
+pub extern "C" fn dequmlo_build_query(
+    out: &mut [u8],
+    levels: &[u64],
+    trees: &[u8],
+    n: usize,
+    k: usize,
+    position: usize,
+) -> u32
+    ensures { λ r. ⌜ r ≡ buildQueryNumber present n k (now (levels .entry)) (now (trees .entry)) position (now (out .entry)) ⌝ }
+    ensures { λ _. ⌜ now (out .exit) ≡ buildQuery present n k (now (levels .entry)) (now (trees .entry)) position (now (out .entry)) ⌝ }
+{
+    query_build::build_query(out, levels, trees, n, k, position)
+}
 
 // The number, and the level for 16 to 26.
 #[repr(C)]
