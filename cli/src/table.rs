@@ -1,17 +1,38 @@
 //! A file as a table of words: 16 bytes each, little-endian, zeros after the file, and the file's byte length as the last word, so that the
 //! length too is under the root. The table has 2^n words, n from 1 to 20.
 
+use crate::outcome::Failure;
 use dequmlo::Word;
+use std::fs::File;
+use std::io::Read;
+use std::path::Path;
+
+/// A file's length and its table.
+pub struct Table {
+    pub bytes: usize,
+    pub words: Vec<Word>,
+}
+
+/// The table of a file; a sentence where the file is too large, of which then no more is read than shows that.
+pub fn read_table(path: &Path) -> Result<Result<Table, String>, Failure> {
+    let mut bytes = Vec::new();
+    File::open(path)
+        .and_then(|file| file.take(MOST_BYTES as u64 + 1).read_to_end(&mut bytes))
+        .map_err(|e| Failure(format!("cannot read {}: {e}", path.display())))?;
+    Ok(table_of(&bytes).map(|words| Table {
+        bytes: bytes.len(),
+        words,
+    }))
+}
 
 /// The largest file: all of 2^20 words but the last.
-pub const MOST_BYTES: usize = 16 * ((1 << 20) - 1);
+const MOST_BYTES: usize = 16 * ((1 << 20) - 1);
 
-/// The table of a file, or a sentence where it is too large.
-pub fn table_of(bytes: &[u8]) -> Result<Vec<Word>, String> {
+/// The table of these bytes, or a sentence where they are too many.
+fn table_of(bytes: &[u8]) -> Result<Vec<Word>, String> {
     if bytes.len() > MOST_BYTES {
         return Err(format!(
-            "the file has {} bytes, and a deposit has at most {MOST_BYTES} (n = 20); divide it and seal each part",
-            bytes.len()
+            "the file has more than {MOST_BYTES} bytes, the most that a deposit has (n = 20); divide it and seal each part"
         ));
     }
     let count = (bytes.len().div_ceil(16) + 1).next_power_of_two().max(2);
@@ -53,6 +74,6 @@ mod tests {
         assert_eq!(table_of(&vec![1; MOST_BYTES]).unwrap().len(), 1 << 20);
         assert!(table_of(&vec![1; MOST_BYTES + 1])
             .unwrap_err()
-            .contains("at most 16777200"));
+            .contains("more than 16777200 bytes"));
     }
 }

@@ -396,7 +396,7 @@ fn a_file_too_large() {
     desk.write("large", &vec![0; 16_777_201]);
     desk.seal(["commit", "large"]).says(
         1,
-        &["refused: the file has 16777201 bytes, and a deposit has at most 16777200 (n = 20)"],
+        &["refused: the file has more than 16777200 bytes, the most that a deposit has (n = 20)"],
     );
     assert_eq!(desk.names("."), ["large"]);
 }

@@ -1,12 +1,12 @@
 //! `seal commit`: a file's root and parameters, as a seal.
 
-use crate::files::{beside, may_write, read, write_folder};
+use crate::files::{beside, may_write, write_folder};
 use crate::json::Json;
 use crate::options::Options;
 use crate::outcome::{Failure, Outcome};
 use crate::progress::Progress;
 use crate::seal::{Seal, Shape};
-use crate::table::table_of;
+use crate::table::read_table;
 use dequmlo::{Deposit, Parameters};
 use std::path::Path;
 
@@ -18,19 +18,18 @@ pub fn run(options: &Options) -> Result<Outcome, Failure> {
         .unwrap_or_else(|| beside(file, ".seal"));
     may_write(&folder, options.force)?;
     let (k, domain) = parameters(options)?;
-    let bytes = read(file)?;
-    let table = match table_of(&bytes) {
+    let table = match read_table(file)? {
         Ok(table) => table,
         Err(sentence) => return Ok(Outcome::declined(sentence)),
     };
     let shape = Shape {
-        n: table.len().ilog2() as usize,
+        n: table.words.len().ilog2() as usize,
         k,
         domain,
     };
     let progress = Progress::start();
-    progress.say(&format!("committing {} words ..", table.len()));
-    let deposit = match Deposit::commit(&shape.domain, k, &table) {
+    progress.say(&format!("committing {} words ..", table.words.len()));
+    let deposit = match Deposit::commit(&shape.domain, k, &table.words) {
         Ok(deposit) => deposit,
         Err(refusal) => return Ok(Outcome::refused(&refusal)),
     };
@@ -41,10 +40,10 @@ pub fn run(options: &Options) -> Result<Outcome, Failure> {
     };
     write_folder(
         &folder,
-        &seal.files(&file.to_string_lossy(), bytes.len()),
+        &seal.files(&file.to_string_lossy(), table.bytes),
         options.force,
     )?;
-    Ok(told(&seal, file, bytes.len(), &folder))
+    Ok(told(&seal, file, table.bytes, &folder))
 }
 
 fn told(seal: &Seal, file: &Path, bytes: usize, folder: &Path) -> Outcome {

@@ -1,14 +1,14 @@
 //! `seal open`: the records that a checker asked for, built from the sealed file.
 
 use crate::drawn::{challenges, positions, seeded_positions, SEED_WARNING};
-use crate::files::{beside, may_write, read, write_folder};
+use crate::files::{beside, may_write, write_folder};
 use crate::json::Json;
 use crate::opening::Opening;
 use crate::options::Options;
 use crate::outcome::{Failure, Outcome};
 use crate::progress::Progress;
 use crate::seal::{Seal, Shape};
-use crate::table::table_of;
+use crate::table::read_table;
 use dequmlo::{Deposit, Refusal, Word};
 use std::path::Path;
 
@@ -33,8 +33,8 @@ pub fn run(options: &Options) -> Result<Outcome, Failure> {
     may_write(&folder, options.force)?;
     let seal = Seal::read(&options.needed_path("--seal", "the folder that `seal commit` wrote")?)?;
     let asked = asked(options, &seal.shape)?;
-    let table = match table_of(&read(file)?) {
-        Ok(table) => table,
+    let table = match read_table(file)? {
+        Ok(table) => table.words,
         Err(sentence) => return Ok(Outcome::declined(sentence)),
     };
     if table.len() != 1usize << seal.shape.n {
