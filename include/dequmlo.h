@@ -29,6 +29,20 @@ typedef struct {
     uint64_t hi;
 } dequmlo_word;
 
+/* What n and k fix; all 0 where the number is not 0. In words: the table, the gammas, the codeword and all levels end to end. In bytes:
+   level 0's tree, all levels' trees end to end, a query record and a tail record. */
+typedef struct {
+    uint32_t number;
+    size_t table;
+    size_t gammas;
+    size_t codeword;
+    size_t tree;
+    size_t levels;
+    size_t trees;
+    size_t query;
+    size_t tail;
+} dequmlo_seal_sizes;
+
 /* A digest; zeros where the number is not 0. */
 typedef struct {
     uint32_t number;
@@ -73,6 +87,11 @@ typedef struct {
     size_t length;
 } dequmlo_parameters;
 
+/* ---- sizes */
+
+/* The sizes of a seal's buffers. Refuses: 4 where n is not from 1 to 20 or k is above 4. */
+dequmlo_seal_sizes dequmlo_sizes(size_t n, size_t k);
+
 /* ---- hash */
 
 /* The BLAKE3 digest of the input. Refuses: 13 for more than 2^24 bytes. */
@@ -115,7 +134,7 @@ dequmlo_digested dequmlo_root_of_path(const uint8_t *domain, size_t domain_lengt
 /* ---- records. Challenges are n words, roots are n + 1 digests, level 0's first. */
 
 /* Builds the query record at a position from all levels and their trees, each end to end, level 0 first: 2^k * (2^(n+1) - 1) words, and
-   2 * groups - 1 digests a level. The record's size is fixed by n and k (docs/LINKING.md).
+   2 * groups - 1 digests a level. `dequmlo_sizes` has the record's size.
    Refuses: 4 (n, k), 5 (a length), 11 (the position is not below 2^(n+k)). */
 uint32_t dequmlo_build_query(uint8_t *out, size_t out_length, const uint64_t *levels, size_t levels_length, const uint8_t *trees,
                              size_t trees_length, size_t n, size_t k, size_t position);

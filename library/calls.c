@@ -7,6 +7,23 @@ static dequmlo_word word(uint64_t lo) {
     return w;
 }
 
+/* The sizes that the fixture computes by itself, and a refusal. */
+static void sizes(void) {
+    for (size_t n = 1; n <= 20; n++)
+        for (size_t k = 0; k <= 4; k++) {
+            dequmlo_seal_sizes s = dequmlo_sizes(n, k);
+            MUST(s.number == 0 && s.table == (size_t)1 << n && s.gammas == k * n && s.codeword == level_words(n, k, 0));
+            MUST(s.tree == tree_bytes(level_words(n, k, 0)) && s.levels == levels_words(n, k) && s.trees == trees_bytes(n, k));
+            MUST(s.query == query_bytes(n, k) && s.tail == tail_bytes(k));
+        }
+    static const size_t wrong[][2] = {{0, 0}, {21, 0}, {(size_t)-1, 0}, {1, 5}, {1, (size_t)-1}};
+    for (size_t i = 0; i < sizeof wrong / sizeof *wrong; i++) {
+        dequmlo_seal_sizes s = dequmlo_sizes(wrong[i][0], wrong[i][1]);
+        MUST(s.number == 4 && s.table == 0 && s.gammas == 0 && s.codeword == 0 && s.tree == 0 && s.levels == 0 && s.trees == 0);
+        MUST(s.query == 0 && s.tail == 0);
+    }
+}
+
 static void hash(void) {
     static const uint8_t abc[4] = {0x64, 0x37, 0xb3, 0xac};
     dequmlo_digested d = dequmlo_digest((const uint8_t *)"abc", 3);
@@ -81,6 +98,7 @@ static void parameters(void) {
 }
 
 int main(void) {
+    sizes();
     hash();
     code();
     trees();

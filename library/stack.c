@@ -92,7 +92,7 @@ int main(void) {
     size_t thread = used(&empty), most = 0;
     printf("stack, in bytes:");
     for (size_t i = 0; i < sizeof functions / sizeof *functions; i++) {
-        size_t own = used(&functions[i]) - thread;
+        size_t whole = used(&functions[i]), own = whole > thread ? whole - thread : 0;
         printf(" %s %zu%s", functions[i].name, own, i + 1 < sizeof functions / sizeof *functions ? "," : "\n");
         if (own > most) most = own;
     }

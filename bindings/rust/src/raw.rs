@@ -8,6 +8,19 @@ pub struct Word {
 }
 
 #[repr(C)]
+pub struct Sizes {
+    pub number: u32,
+    pub table: usize,
+    pub gammas: usize,
+    pub codeword: usize,
+    pub tree: usize,
+    pub levels: usize,
+    pub trees: usize,
+    pub query: usize,
+    pub tail: usize,
+}
+
+#[repr(C)]
 pub struct Digested {
     pub number: u32,
     pub bytes: [u8; 32],
@@ -52,6 +65,7 @@ pub struct Parameters {
 }
 
 extern "C" {
+    pub fn dequmlo_sizes(n: usize, k: usize) -> Sizes;
     pub fn dequmlo_digest(input: *const u8, input_length: usize) -> Digested;
     pub fn dequmlo_commit(
         n: usize,

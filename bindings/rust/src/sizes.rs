@@ -1,5 +1,6 @@
 //! The sizes that n and k fix. The archive refuses any other with 5.
 
+use crate::raw;
 use crate::refusal::Refusal;
 use crate::tree::fold_tree_width;
 
@@ -39,24 +40,19 @@ pub struct Sizes {
 impl Sizes {
     /// The sizes for n from 1 to 20 and k up to 4; any others are refused with 4.
     pub fn of(n: usize, k: usize) -> Result<Sizes, Refusal> {
-        if n == 0 || n > 20 || k > 4 {
-            return Err(Refusal::of(4));
-        }
-        let level = |l| level_words(n, k, l);
+        let sizes = unsafe { raw::dequmlo_sizes(n, k) };
+        Refusal::unless_done(sizes.number)?;
         Ok(Sizes {
             n,
             k,
-            table_words: 1 << n,
-            gamma_words: k * n,
-            codeword_words: level(0),
-            tree_bytes: tree_bytes(level(0)),
-            levels_words: (0..=n).map(level).sum(),
-            trees_bytes: (0..=n).map(|l| tree_bytes(level(l))).sum(),
-            query_bytes: 4
-                + (0..n)
-                    .map(|l| 48 + group_bytes(level(l)) + group_bytes(level(l + 1)))
-                    .sum::<usize>(),
-            tail_bytes: 4 + groups(level(n)) * group_bytes(level(n)),
+            table_words: sizes.table,
+            gamma_words: sizes.gammas,
+            codeword_words: sizes.codeword,
+            tree_bytes: sizes.tree,
+            levels_words: sizes.levels,
+            trees_bytes: sizes.trees,
+            query_bytes: sizes.query,
+            tail_bytes: sizes.tail,
         })
     }
 }
@@ -68,16 +64,7 @@ pub(crate) fn level_words(n: usize, k: usize, l: usize) -> usize {
 
 /// The bytes of the tree over a level of this many words.
 pub(crate) fn tree_bytes(words: usize) -> usize {
-    32 * (2 * groups(words) - 1)
-}
-
-fn groups(words: usize) -> usize {
-    words / fold_tree_width(words)
-}
-
-/// A group of a level of this many words and its path, each after its count.
-fn group_bytes(words: usize) -> usize {
-    8 + 16 * fold_tree_width(words) + 32 * groups(words).ilog2() as usize
+    32 * (2 * (words / fold_tree_width(words)) - 1)
 }
 
 #[cfg(test)]

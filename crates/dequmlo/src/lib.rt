@@ -5,4 +5,5 @@ pub mod hashing;
 pub mod parameters;
 pub mod records;
 pub mod ring;
+pub mod sizes;
 pub mod trees;
