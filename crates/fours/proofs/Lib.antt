@@ -1,0 +1,4 @@
+pub mod Splits
+pub mod Walk
+pub mod Leaves
+pub mod Parents
