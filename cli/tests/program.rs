@@ -193,6 +193,41 @@ fn the_seal_s_root_and_the_checker_s_challenges_count() {
 }
 
 #[test]
+fn damaged_files_of_any_kind_are_refused_or_called_unreadable() {
+    let desk = Desk::opened("any-damage");
+    for folder in ["plan.txt.seal", "plan.txt.opening"] {
+        for name in desk.names(folder) {
+            let path = format!("{folder}/{name}");
+            let sound = desk.read(&path);
+            let half = sound[..sound.len() / 2].to_vec();
+            for damaged in [
+                vec![],
+                half,
+                b"\xff\xfe\n".to_vec(),
+                b"0\n".to_vec(),
+                vec![b'f'; 5000],
+            ] {
+                desk.write(&path, &damaged);
+                let run = desk.check();
+                // The checker's own parameters and challenges count, not those that the opening names.
+                let unused = folder == "plan.txt.opening"
+                    && ["parameters.txt", "challenges.txt"].contains(&name.as_str());
+                let harmless = name == "summary.txt" || unused && run.status == 0;
+                assert!(
+                    harmless || [1, 2].contains(&run.status),
+                    "{path}: {} {}{}",
+                    run.status,
+                    run.out,
+                    run.err
+                );
+            }
+            desk.write(&path, &sound);
+        }
+    }
+    desk.check().says(0, &[]);
+}
+
+#[test]
 fn a_position_that_was_asked_for_must_be_shown() {
     let desk = Desk::opened("asked-for");
     let ask = [
