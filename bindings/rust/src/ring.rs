@@ -32,7 +32,7 @@ pub fn partial_evals(packed: &[Word], eq: &[Word]) -> Result<Vec<Word>, Refusal>
     Ok(words(&out))
 }
 
-/// The sum over i of rb[i] times the word whose bit j is bit i of s_j.
+/// The sum over i of `rb[i]` times the word whose bit j is bit i of s_j.
 pub fn fold_partials(s: &[Word], rb: &[Word; 128]) -> Result<Word, Refusal> {
     let s = halves(s);
     answered(unsafe { raw::dequmlo_fold_partials(s.as_ptr(), s.len(), coefficients(rb)) })
