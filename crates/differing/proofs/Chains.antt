@@ -64,25 +64,25 @@ below-last leaf node i a b h =
 
 -- the loop: nothing was found above place i, so that the buffers are as they were
 module _ (leaf node i : ℕ) (a b : List ℕ) (F : Found) (e : foundBelow leaf node i a b ≡ F) (old old′ mid mid′ new new′ : List ℕ) (same : mid ≡ old) (same′ : mid′ ≡ old′) (m : ℕ) where
-  pub below-stop : 0 < i → Picked (differing (part node (leaf + node * (i - 1)) a) (part node (leaf + node * (i - 1)) b)) mid mid′ new new′ m → (m ≡ 0 → ⊥) → Picked F old old′ new new′ m
-  below-stop h p z = rw (← same, ← same′, sym e ∙ below-last leaf node i a b h) (picked-first _ (foundBelow leaf node (i - 1) a b) mid mid′ new new′ m p z)
+  module _ (from : ℕ) (h : 0 < i) (f : from ≡ leaf + node * (i - 1)) (p : Picked (differing (part node from a) (part node from b)) mid mid′ new new′ m) where
+    found-here : foundBelow leaf node i a b ≡ orElse (differing (part node from a) (part node from b)) (foundBelow leaf node (i - 1) a b)
+    found-here = rw f (below-last leaf node i a b h)
 
-  pub below-step : 0 < i → Picked (differing (part node (leaf + node * (i - 1)) a) (part node (leaf + node * (i - 1)) b)) mid mid′ new new′ m → m ≡ 0
-      → (new ≡ old) × (new′ ≡ old′) × (foundBelow leaf node (i - 1) a b ≡ F)
-  below-step h p z =
-      let u = picked-none _ mid mid′ new new′ m p z in (
-        u .first-same ∙ same,
-        u .second-same ∙ same′,
-        ap (λ (x : Found). orElse x (foundBelow leaf node (i - 1) a b)) (sym (u .found-none)) ∙ sym (below-last leaf node i a b h) ∙ e,
-      )
+    pub below-stop : (m ≡ 0 → ⊥) → Picked F old old′ new new′ m
+    below-stop z = rw (← same, ← same′, sym e ∙ found-here) (picked-first _ (foundBelow leaf node (i - 1) a b) mid mid′ new new′ m p z)
+
+    pub below-step : m ≡ 0 → (new ≡ old) × (new′ ≡ old′) × (foundBelow leaf node (i - 1) a b ≡ F)
+    below-step z =
+        let u = picked-none _ mid mid′ new new′ m p z in (
+          u .first-same ∙ same,
+          u .second-same ∙ same′,
+          ap (λ (x : Found). orElse x (foundBelow leaf node (i - 1) a b)) (sym (u .found-none)) ∙ sym found-here ∙ e,
+        )
 
   pub below-end : i ≤ 0 → Picked (differing (part leaf 0 a) (part leaf 0 b)) mid mid′ new new′ m → Picked F old old′ new new′ m
   unfolding foundBelow chainOf lastDiffering runs
   below-end h p = let z : i ≡ 0 = omega arith in rw (← same, ← same′, ← (rw z at e)) p
 
--- the messages that are looked at are there
-pub from-room : (node depth i : ℕ) → 0 < i → i ≤ depth → node * (i - 1) + node ≤ node * depth
-from-room node depth i h k =
-    let z : i ≡ suc (i - 1) = omega arith in
-    let m : node * suc (i - 1) ≤ node * depth = mul-le-mul-left node (omega arith) in
-    omega (arith, mul-suc node (i - 1))
+-- a node message ends within its chain
+pub node-room : (node depth j : ℕ) → j < depth → node * j + node ≤ node * depth
+node-room node depth j h = omega (arith, mul-suc node j, mul-le-mul-left {m = suc j} {n = depth} node h)

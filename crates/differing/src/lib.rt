@@ -2,7 +2,7 @@
 // to end. These are helpers for the crates above: all but `same_bytes` require.
 use messages::put;
 ghost use mathlib.Core.Path.{_≡_};
-ghost use Prim.Native.Nat.{_+_, _-_, _*_, _≤_, _<_};
+ghost use Prim.Native.Nat.{_+_, _-_, _*_, _^_, _≤_, _<_};
 ghost use lib.ListN.{length, replicate};
 ghost use Rattle.laws.specs.Lists.{part, stored, same};
 ghost use Rattle.merkle.specs.Binding.{differing, lastDiffering};
@@ -67,6 +67,14 @@ fn pick_at(
     len
 }
 
+// Where node message j of a chain begins.
+fn node_at(leaf: usize, node: usize, depth: usize, j: usize) -> usize
+    requires { ⌜ (j < depth) × (leaf + node * depth < 2 ^ 64) ⌝ }
+    ensures { λ r. ⌜ (r ≡ leaf + node * j) × (r + node ≤ leaf + node * depth) ⌝ }
+{
+    leaf + node * j
+}
+
 // The last messages of two chains that differ, the root's first: each chain has a leaf message and then node messages, lent end to end.
 pub fn pick_last(
     a: &[u8],
@@ -82,7 +90,7 @@ pub fn pick_last(
 {
     let mut i = depth;
     while i > 0 {
-        let from = leaf + node * (i - 1);
+        let from = node_at(leaf, node, depth, i - 1);
         let m = pick_at(a, b, from, node, first, second);
         if m != 0 {
             return m;

@@ -1,14 +1,16 @@
 use Prim.Native.Nat.{_≤_}
 use mathlib.Core.Path.{_≡_, refl}
+use native.Mathlib.Omega.{arith}
 use lib.ListN.{length}
 use Rattle.merkle.specs.Binding.{lastDiffering}
 use Rattle.differing.specs.Chains.{chainOf}
-use Rattle.differing.proofs.Chains.{foundBelow, below-all, below-stop, below-step, below-end, from-room}
+use Rattle.differing.proofs.Chains.{foundBelow, below-all, below-stop, below-step, below-end}
 use borrow.Author.Needs.{needs}
 use Rattle.differing.proofs.pick_last.Statement.{statement}
 use Rattle.differing.proofs.pick_last.Tie as tie
 use Rattle.differing.proofs.pick_last.Reads as reads
 use Rattle.differing.proofs.pick_last.Lts as lts
+use Rattle.differing.proofs.node_at.Reads as node-at-reads
 use Rattle.differing.proofs.pick_at.Reads as pick-at-reads
 
 abbrev Inv-loop : tie.InvT-loop
@@ -20,17 +22,14 @@ abbrev μ-loop : tie.MeasureT-loop
 loop-holds : tie.Need-loop-holds Inv-loop μ-loop
 loop-holds c = (search needs, refl, refl, refl, refl, below-all _ _ _ _ _)
 
-sub-from : tie.Need-sub-from Inv-loop μ-loop
-sub-from c = search needs
+sub-node-at : tie.Need-sub-node-at Inv-loop μ-loop
+sub-node-at c = search needs
 
-mul-from : tie.Need-mul-from Inv-loop μ-loop
-mul-from c = let h = from-room (c .before .before .before .before .before .before .args .node) _ _ (c .loop-test .taken) (c .before .loop .inv .0) in search needs
-
-add-from : tie.Need-add-from Inv-loop μ-loop
-add-from c = let h = from-room (c .before .before .before .before .before .before .args .node) _ _ (c .loop-test .taken) (c .before .loop .inv .0) in search needs
+node-at-requires : tie.Need-node-at-requires Inv-loop μ-loop
+node-at-requires c κs = (omega arith, search needs)
 
 pick-at-requires : tie.Need-pick-at-requires Inv-loop μ-loop
-pick-at-requires c κs = let h = from-room (c .before .before .before .before .before .before .before .before .args .node) _ _ (c .before .before .loop-test .taken) (c .before .before .before .loop .inv .0) in (search needs, search needs, search needs, search needs, search needs, search needs)
+pick-at-requires c κs = (search needs, search needs, omega arith, omega arith, search needs, search needs)
 
 same-length : tie.Need-same-length Inv-loop μ-loop
 same-length c = search needs
@@ -39,7 +38,7 @@ same-length-2 : tie.Need-same-length-2 Inv-loop μ-loop
 same-length-2 c = search needs
 
 returns : tie.Need-returns Inv-loop μ-loop
-returns c = let q = c .before .before .before .before .before .before .before .before .before .loop .inv in below-stop _ _ _ _ _ _ (q .5) _ _ _ _ _ _ (q .3) (q .4) _ (c .before .before .before .before .before .before .before .before .loop-test .taken) (c .before .before .before .before .before .pick-at .ensures) (c .if1 .taken)
+returns c = let q = c .before .before .before .before .before .before .before .before .before .before .loop .inv in below-stop _ _ _ _ _ _ (q .5) _ _ _ _ _ _ (q .3) (q .4) _ _ (c .before .before .before .before .before .before .before .before .before .loop-test .taken) (c .before .before .before .before .before .before .before .before .node-at .ensures .0) (c .before .before .before .before .before .pick-at .ensures) (c .if1 .taken)
 
 sub-i : tie.Need-sub-i Inv-loop μ-loop
 sub-i c = search needs
@@ -48,7 +47,7 @@ loop-less : tie.Need-loop-less Inv-loop μ-loop
 loop-less c = search needs
 
 loop-again : tie.Need-loop-again Inv-loop μ-loop
-loop-again c = let q = c .before .before .before .before .before .before .before .before .before .loop .inv in let s = below-step _ _ _ _ _ _ (q .5) _ _ _ _ _ _ (q .3) (q .4) _ (c .before .before .before .before .before .before .before .before .loop-test .taken) (c .before .before .before .before .before .pick-at .ensures) (c .if1 .left) in (search needs, search needs, search needs, s .0, s .1, s .2)
+loop-again c = let q = c .before .before .before .before .before .before .before .before .before .before .loop .inv in let s = below-step _ _ _ _ _ _ (q .5) _ _ _ _ _ _ (q .3) (q .4) _ _ (c .before .before .before .before .before .before .before .before .before .loop-test .taken) (c .before .before .before .before .before .before .before .before .node-at .ensures .0) (c .before .before .before .before .before .pick-at .ensures) (c .if1 .left) in (search needs, search needs, search needs, s .0, s .1, s .2)
 
 pick-at-requires-2 : tie.Need-pick-at-requires-2 Inv-loop μ-loop
 pick-at-requires-2 c κs = (search needs, search needs, search needs, search needs, search needs, search needs)
@@ -69,9 +68,8 @@ pick-last-spec =
     Inv-loop
     μ-loop
     loop-holds
-    sub-from
-    mul-from
-    add-from
+    sub-node-at
+    node-at-requires
     pick-at-requires
     same-length
     same-length-2
