@@ -21,13 +21,12 @@ use Rattle.code.specs.Questions.{foldNumber}
 use Rattle.code.proofs.Lengths.{fold-sizes}
 use Rattle.laws.proofs.Questions.{on-refused}
 use Rattle.record.specs.Widths.{levelLength, total}
-use Rattle.record.specs.Trees.{levelsLent}
 use Rattle.record.specs.Build.{levelStart, levelsLength, levelValues}
 use Rattle.record.proofs.Offsets.{length-levelValues}
 use Rattle.claim.specs.Calls.{Call, callNumber, callFold, doneFolds, afterFolds}
 use Rattle.fold_calls.specs.Lent.{codewordHalves, foldedHalves, lentCalls}
 use Rattle.fold_calls.specs.Laid.{laid, challengesOf, callsNumber, Reached, Called, Left}
-use Rattle.fold_calls.proofs.Laying.{next-start, laid-before, laid-there, length-fold, levels-laid}
+use Rattle.fold_calls.proofs.Laying.{next-start, laid-before, laid-there, length-fold}
 
 -- ---- the start
 
@@ -146,8 +145,11 @@ module _ (n k : ℕ) (c : List ℕ) (calls : List Call) (l from : ℕ) (levels k
       sym (sym (length-map (doneFolds c calls) (λ f. f .by)) ∙ ap length done-kept
       ∙ length-take-le l (words kept) (omega (arith, s .within, length-words-even kept n (s .kept-long))))
 
-  pub all-laid : l ≡ n → words levels ≡ levelsLent n (afterFolds c calls)
-  all-laid e = levels-laid n k (words levels) (afterFolds c calls) (length-words-even levels (levelsLength n k) (s .levels-long)) (λ j h. s .before j (omega arith))
+  pub first-there : levelValues n k (words levels) 0 ≡ c
+  first-there = s .before 0 (omega arith) ∙ first c calls
+
+  pub each-there : l ≡ n → (j : ℕ) → j ≤ n → levelValues n k (words levels) j ≡ afterFolds c calls j
+  each-there e j h = s .before j (omega arith)
 
   pub all-kept : l ≡ n → words kept ≡ challengesOf (doneFolds c calls)
   all-kept e = sym (take-all l (words kept) (omega (arith, length-words-even kept n (s .kept-long)))) ∙ sym done-kept
@@ -258,4 +260,9 @@ pub left-all : (n k : ℕ) (c vars rs : List ℕ) (i l from : ℕ) (levels kept 
     → Left n k c calls l levels kept
 left-all n k c vars rs i l from levels kept {calls = calls} s h =
     let e = rw (no-call (n - l) k i vars rs h) at s in
-    record { count = count-is n k c calls l from levels kept e; levels-are = all-laid n k c calls l from levels kept e; kept-are = all-kept n k c calls l from levels kept e }
+    record {
+      count = count-is n k c calls l from levels kept e;
+      first = first-there n k c calls l from levels kept e;
+      each = each-there n k c calls l from levels kept e;
+      kept-are = all-kept n k c calls l from levels kept e;
+    }

@@ -8,7 +8,6 @@ use Rattle.field.specs.Words.{words}
 use Rattle.multilinear.specs.Fold.{foldList}
 use Rattle.multilinear.specs.Folds.{Fold}
 use Rattle.code.specs.Questions.{foldNumber}
-use Rattle.record.specs.Trees.{levelsLent}
 use Rattle.record.specs.Build.{levelStart, levelsLength, levelValues}
 use Rattle.claim.specs.Calls.{Call, doneFolds, afterFolds}
 use Rattle.fold_calls.specs.Lent.{codewordHalves, foldedHalves}
@@ -51,8 +50,10 @@ pub record Called (n k l from var by : ℕ) (levels kept levels′ kept′ : Lis
   pub level : words levels′ ≡ onDone (callsNumber n k l var) (laid n k (suc l) (foldList var by (levelValues n k (words levels) l)) (words levels)) (words levels)
   pub challenge : words kept′ ≡ onDone (callsNumber n k l var) (set (words kept) l by) (words kept)
 
--- what a list of calls on the codeword c leaves where n are done: every level, end to end, and the challenges of the done ones
+-- what a list of calls on the codeword c leaves: how many are done, and c as level 0; where n are done, every level, and the challenges of the
+-- done ones
 pub record Left (n k : ℕ) (c : List ℕ) (calls : List Call) (done : ℕ) (levels kept : List ℕ) : Type 0 where
   pub count : done ≡ length (doneFolds c calls)
-  pub levels-are : done ≡ n → words levels ≡ levelsLent n (afterFolds c calls)
+  pub first : levelValues n k (words levels) 0 ≡ c
+  pub each : done ≡ n → (l : ℕ) → l ≤ n → levelValues n k (words levels) l ≡ afterFolds c calls l
   pub kept-are : done ≡ n → words kept ≡ challengesOf (doneFolds c calls)
