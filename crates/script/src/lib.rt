@@ -1,4 +1,6 @@
-// The script's numbers, and the fields that a line puts together of parts of the stored bytes.
+// A script of cases for the programs: its numbers, and fields that are put together of parts of stored bytes. A field is the number of its
+// parts, and for each its first place and its length, with anything but digits between them. Nothing above rests on what a script says; the
+// functions are proved safe and ending.
 ghost use mathlib.Core.Path.{_≡_};
 ghost use Prim.Native.Nat.{_≤_, _<_};
 ghost use lib.ListN.{length};
@@ -9,7 +11,7 @@ pub struct Found {
     pub next: usize,
 }
 
-// How many bytes a field has, and where its line goes on.
+// How many bytes or halves of words a field has, and where it ends.
 pub struct Gathered {
     pub len: usize,
     pub next: usize,
@@ -116,7 +118,7 @@ fn append(out: &mut [u8], at: usize, stored: &[u8], start: usize, size: usize) -
     at + size
 }
 
-// A field: the number of its parts, and for each its first place and its length.
+// The bytes of a field.
 pub fn field(s: &[u8], from: usize, stored: &[u8], out: &mut [u8]) -> Gathered
     ensures { λ r. ⌜ r .len ≤ length (now (out .exit)) ⌝ }
 {
@@ -135,5 +137,33 @@ pub fn field(s: &[u8], from: usize, stored: &[u8], out: &mut [u8]) -> Gathered
     Gathered {
         len: len,
         next: next,
+    }
+}
+
+// The numbers of 8 bytes each, little-endian, as many as are whole and have room, and how many.
+fn halves(bytes: &[u8], out: &mut [u64]) -> usize
+    ensures { λ r. ⌜ r ≤ length (now (out .exit)) ⌝ }
+{
+    let mut i: usize = 0;
+    while i < out.len() {
+        if bytes.len() / 8 <= i {
+            return i;
+        }
+        out[i] = le::half_at(bytes, 8 * i);
+        i += 1;
+    }
+    i
+}
+
+// The words of a field, two halves each: its parts are put together as bytes, of which there may be 8,192.
+pub fn words(s: &[u8], from: usize, stored: &[u8], out: &mut [u64]) -> Gathered
+    ensures { λ r. ⌜ r .len ≤ length (now (out .exit)) ⌝ }
+{
+    let mut bytes = [0u8; 8192];
+    let b = field(s, from, stored, &mut bytes);
+    let n = b.len;
+    Gathered {
+        len: halves(&bytes[..n], out),
+        next: b.next,
     }
 }

@@ -1,10 +1,10 @@
--- `query_cases::script::append` is safe and ends.
+-- `script::append` is safe and ends.
 use Prim.Native.Nat.{_≤_, _-_}
 use mathlib.Core.Path.{_≡_}
 use lib.ListN.{length}
 use borrow.Author.Needs.{needs}
-use Rattle.query_cases.proofs.script.append.Statement.{statement}
-use Rattle.query_cases.proofs.script.append.Tie as tie
+use Rattle.script.proofs.append.Statement.{statement}
+use Rattle.script.proofs.append.Tie as tie
 
 abbrev Inv-loop : tie.InvT-loop
 Inv-loop out₀ at stored start size i₀ out i = (i ≤ size) × (length out ≡ length out₀)

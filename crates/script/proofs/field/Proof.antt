@@ -1,10 +1,10 @@
--- `query_cases::script::field` is safe and ends.
+-- `script::field` is safe and ends.
 use Prim.Native.Nat.{_≤_, _-_}
 use mathlib.Core.Path.{_≡_}
 use lib.ListN.{length}
 use borrow.Author.Needs.{needs}
-use Rattle.query_cases.proofs.script.field.Statement.{statement}
-use Rattle.query_cases.proofs.script.field.Tie as tie
+use Rattle.script.proofs.field.Statement.{statement}
+use Rattle.script.proofs.field.Tie as tie
 
 abbrev Inv-loop : tie.InvT-loop
 Inv-loop s from stored out₀ count next₀ len₀ i₀ out next len i = (len ≤ length out) × (length out ≡ length out₀)

@@ -1,9 +1,9 @@
--- `query_cases::put_words` is safe and ends.
+-- `script::words` is safe and ends.
 use mathlib.Core.Path.{sym}
 use lib.Seq.{length-take-le}
 use borrow.Author.Needs.{needs}
-use Rattle.query_cases.proofs.put_words.Statement.{statement}
-use Rattle.query_cases.proofs.put_words.Tie as tie
+use Rattle.script.proofs.words.Statement.{statement}
+use Rattle.script.proofs.words.Tie as tie
 
 slice-aggregate-field : tie.Need-slice-aggregate-field
 slice-aggregate-field c = search needs
@@ -26,8 +26,8 @@ same-length c = search needs
 returns : tie.Need-returns
 returns c = search needs
 
-pub put-words-spec : {M : Type 1} → statement M
-put-words-spec =
+pub words-spec : {M : Type 1} → statement M
+words-spec =
     tie.close
     (tie.spec
     slice-aggregate-field

@@ -1,10 +1,10 @@
--- `query_cases::halves` is safe and ends.
+-- `script::halves` is safe and ends.
 use Prim.Native.Nat.{_≤_, _-_}
 use mathlib.Core.Path.{_≡_}
 use lib.ListN.{length}
 use borrow.Author.Needs.{needs}
-use Rattle.query_cases.proofs.halves.Statement.{statement}
-use Rattle.query_cases.proofs.halves.Tie as tie
+use Rattle.script.proofs.halves.Statement.{statement}
+use Rattle.script.proofs.halves.Tie as tie
 
 abbrev Inv-loop : tie.InvT-loop
 Inv-loop bytes out₀ i₀ out i = (i ≤ length out₀) × (length out ≡ length out₀)
