@@ -31,7 +31,7 @@ ghost use Rattle.opening.specs.Opening.{valuesFrom, valuesAt, digestsAt,
 ghost use Rattle.opening.specs.Again.{SizedOld, Same};
 
 // The values that stand from a place on, two halves each.
-fn group_values(s: &[u8], from: usize, width: usize) -> [u64; 16]
+pub fn group_values(s: &[u8], from: usize, width: usize) -> [u64; 16]
     requires { ⌜ (width ≤ 8) × (from + 16 * width ≤ length (now s)) ⌝ }
     ensures { λ r. ⌜ words (take (2 * width) r) ≡ valuesFrom (now (s .entry)) from width ⌝ }
 {

@@ -39,7 +39,7 @@ pub struct Checked {
 }
 
 // The pair of level l, for a query at a position.
-fn pair_of(position: usize, l: usize) -> usize
+pub fn pair_of(position: usize, l: usize) -> usize
     requires { ⌜ l < 24 ⌝ }
     ensures { λ r. ⌜ r ≡ pairOf position l ⌝ }
 {
