@@ -34,7 +34,7 @@ seal demo
     seal a sample deposit, open places, check them, damage a byte and show the refusal
 
 --json prints one object for programs. --force lets a seal or an opening be replaced. Profiles: default, fastchunk, balanced, compactwrap,
-deepwrap; `seal commit` takes balanced. Exit status: 0 accepted or done, 1 refused, 2 wrong use.";
+deepwrap; `seal commit` takes the default where none is named. Exit status: 0 accepted or done, 1 refused, 2 wrong use.";
 
 fn main() -> ExitCode {
     let words: Vec<_> = std::env::args_os().skip(1).collect();

@@ -34,7 +34,7 @@ impl Desk {
             "--seed",
             "dice",
             "--at",
-            "7,0,255",
+            "7,0,127",
         ];
         assert_eq!(desk.seal(open).status, 0);
         desk
@@ -112,14 +112,14 @@ fn a_seal_and_an_opening_are_plain_files() {
     );
     assert_eq!(
         desk.read("plan.txt.seal/parameters.txt"),
-        b"n 6\nk 2\ndomain magnetar/pcs/balanced\n"
+        b"n 6\nk 1\ndomain magnetar/pcs/default\n"
     );
     let names = [
         "challenges.txt",
         "claim.txt",
         "parameters.txt",
         "query-0.record",
-        "query-255.record",
+        "query-127.record",
         "query-7.record",
         "roots.txt",
         "summary.txt",
@@ -130,7 +130,7 @@ fn a_seal_and_an_opening_are_plain_files() {
         0,
         &[
             "position 0: accepted",
-            "position 255: accepted",
+            "position 127: accepted",
             "tail: accepted",
             "4 accepted, 0 refused",
         ],
@@ -155,7 +155,7 @@ fn a_damaged_record_is_refused_with_the_check_that_failed() {
         1,
         &["position 7: refused, 14: the record does not read whole, or something follows it"],
     );
-    desk.write(name, &desk.read("plan.txt.opening/query-255.record"));
+    desk.write(name, &desk.read("plan.txt.opening/query-127.record"));
     desk.check()
         .says(1, &["position 7: refused, 18 at level 0"]);
     desk.write(name, &sound);
@@ -285,7 +285,7 @@ fn in_rounds_the_roots_come_before_the_positions() {
         "asked",
         "--roots",
     ];
-    desk.write("asked", b"7\n255\n");
+    desk.write("asked", b"7\n127\n");
     desk.seal(check.into_iter().chain(["first/roots.txt"]))
         .says(0, &["3 accepted, 0 refused"]);
     let mut roots = desk.read("first/roots.txt");
@@ -304,9 +304,9 @@ fn the_tail_by_itself() {
     desk.seal(tail).says(
         0,
         &[
-            "tail: accepted; the last level has 4 words",
+            "tail: accepted; the last level has 2 words",
             &format!("tail 0 {claim}"),
-            "tail 3 ",
+            "tail 1 ",
         ],
     );
     let wrong = [
@@ -380,7 +380,7 @@ fn another_file_cannot_be_opened_under_a_seal() {
         "--seed",
         "dice",
         "--at",
-        "256",
+        "128",
         "--force",
     ];
     desk.seal(beyond).says(1, &["refused, 11:"]);
@@ -395,7 +395,7 @@ fn nothing_is_replaced_unless_that_is_asked_for() {
         .says(2, &["plan.txt.seal exists; --force replaces it"]);
     assert_eq!(desk.read("plan.txt.seal/root.txt"), before);
     desk.seal(["commit", "plan.txt", "--force"])
-        .says(0, &["sealed plan.txt: 7 bytes as 2 words (n = 1, k = 2)"]);
+        .says(0, &["sealed plan.txt: 7 bytes as 2 words (n = 1, k = 1)"]);
     assert_ne!(desk.read("plan.txt.seal/root.txt"), before);
     fs::create_dir(desk.0.join("letters")).unwrap();
     desk.write("letters/a.txt", b"keep");

@@ -71,7 +71,7 @@ fn told(seal: &Seal, file: &Path, bytes: usize, folder: &Path) -> Outcome {
     Outcome::done(lines, json)
 }
 
-/// k and the base domain: a profile's, or both given; balanced where nothing is.
+/// k and the base domain: a profile's, or both given; the default where nothing is.
 fn parameters(options: &Options) -> Result<(usize, Vec<u8>), Failure> {
     match (
         options.text("--profile")?,
@@ -86,7 +86,7 @@ fn parameters(options: &Options) -> Result<(usize, Vec<u8>), Failure> {
         }
         (None, Some(k), Some(domain)) => Ok((k, domain.into_bytes())),
         (None, None, None) => {
-            let p = Parameters::balanced();
+            let p = Parameters::default();
             Ok((p.k, p.domain))
         }
         _ => Err(Failure(
