@@ -39,6 +39,7 @@ pub fn put_leaves(
     ensures { λ r. ⌜ now (tree .exit) ≡ stored (now (tree .entry)) 0 (flat (leavesFrom hash (now (domain .entry)) count width 0 (runs width r (words (now (values .entry)))))) ⌝ }
 {
     let all = by_fours(97 + domain.len() + 16 * width, count / width);
+    // A small tree or level has no four: then nothing is begun.
     if all == 0 {
         return 0;
     }
@@ -74,6 +75,7 @@ pub fn put_parents(
     ensures { λ r. ⌜ now (tree .exit) ≡ stored (now (tree .entry)) (from + 64 * half) (flat (parents hash (now (domain .entry)) level (runs 32 (2 * r) (drop from (now (tree .entry)))))) ⌝ }
 {
     let all = by_fours(136 + domain.len(), half);
+    // A small tree or level has no four: then nothing is begun.
     if all == 0 {
         return 0;
     }

@@ -129,7 +129,6 @@ loop-less c = search needs
 loop-again : tie.Need-loop-again Inv-loop μ-loop
 loop-again c =
     let q = c .before .before .before .before .before .before .before .before .before .before .before .loop in
-    let lt = c .before .before .before .before .before .before .before .before .before .before .loop-test .taken in
     let z = q .inv .6 .sized in
     let f = c .before .before .before .before .before .before .before .put-leaf-rests .ensures in
     let p = c .before .before .put-digests .ensures in
