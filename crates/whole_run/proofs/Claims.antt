@@ -45,9 +45,9 @@ drop-last : (m : ℕ) (xs ys zs : List ℕ) → xs ≡ ys ++ zs → length zs �
 drop-last m xs ys zs e l =
     rw e (drop-at ys zs (length (ys ++ zs) - m) (omega (arith, length-append ys zs)))
 
-module _ (n k : ℕ) (base table vars challenges gammas levels kept trees roots : List ℕ) (g h : ℕ)
+module _ (n k : ℕ) (base table vars challenges old oldKept gammas levels kept trees roots : List ℕ) (g h : ℕ)
     (r : Room n k (length base) (length table) (length vars) (length challenges) g (length levels) h (length kept) (length trees) (length roots))
-    (done : ℕ) (d : Deposited n k base table vars challenges gammas levels kept trees roots done)
+    (done : ℕ) (d : Deposited n k base table vars challenges old oldKept gammas levels kept trees roots done)
     (all-first : doneFolds (codeword n k base table vars challenges) (calls n k base table vars challenges) ≡ atFirst (words kept)) where
   abbrev c : List ℕ
   c = codeword n k base table vars challenges
@@ -70,7 +70,7 @@ module _ (n k : ℕ) (base table vars challenges gammas levels kept trees roots 
       ∙ length-words-even kept n (r .kept-long)
 
   each : (l : ℕ) → l ≤ n → levelValues n k (words levels) l ≡ level l
-  each l h = d .left .each all-done l h
+  each l h = d .left .each l (omega (arith, all-done))
 
   words-are : words levels ≡ levelsLent n level
   words-are = levels-laid n k (words levels) level (length-words-even levels (levelsLength n k) (r .levels-long)) each
