@@ -1,5 +1,5 @@
 #!/usr/bin/env python3
-"""run_vectors.py [--check]: the lines that the program `seal_run` must print, computed by model.py and by the checks of query_vectors.py.
+"""run_vectors.py [--check]: the lines that the program `seal_run` must print, computed by model.py and records.py.
 
 A table of four words is committed with k 1, a list of fold calls is run on its codeword, a query record and the tail record are built from
 the levels and checked. Writes stdout of the program; with --check it compares it instead."""
@@ -7,7 +7,7 @@ import pathlib
 import sys
 
 from model import derive, encode, extension, fold_tree_width, level_domain, mul, tree, word_bytes
-from query_vectors import Deposit, first_no, query, query_bytes, query_questions, tail_bytes, tail_questions
+from records import Deposit, check_query, check_tail, first_no, query, query_bytes, tail_bytes
 
 STDOUT = pathlib.Path(__file__).resolve().parent.parent / "crates" / "seal_run" / "stdout"
 N, K, BASE, TABLE = 2, 1, b"deposit", [5, 9, 3, 7]
@@ -43,8 +43,8 @@ def lines():
     for title, calls, position, claim in CASES:
         run = Run(calls)
         challenges, roots = b"".join(map(word_bytes, run.challenges)), b"".join(run.roots)
-        number, level = first_no(query_questions(BASE, N, K, position, challenges, roots, query_bytes(query(run, position))))
-        tail, _ = first_no(tail_questions(BASE, N, K, word_bytes(claim), run.roots[N], tail_bytes(run.tail())))
+        number, level = first_no(check_query(BASE, N, K, position, challenges, roots, query_bytes(query(run, position))))
+        tail, _ = first_no(check_tail(BASE, N, K, word_bytes(claim), run.roots[N], tail_bytes(run.tail())))
         yield "%s: done %d, query %d at level %d, tail %d" % (title, len(run.challenges), number, level, tail)
         for root in run.roots:
             yield "root " + root.hex()

@@ -1,24 +1,21 @@
 -- The claim of demand 3 applied to what a run leaves.
-use Prim.Native.Nat.{ℕ, suc, _+_, _-_, _*_, _^_, _≤_}
-use mathlib.Core.Path.{_≡_, refl, sym, _∙_, ap}
-use mathlib.Core.Logic.{_↔_}
+use Prim.Native.Nat.{ℕ, suc, _-_, _*_, _≤_}
+use mathlib.Core.Path.{_≡_, sym, _∙_, ap}
 use mathlib.Core.List.{List, _++_}
 use native.Mathlib.Omega.{arith}
 use lib.ListN.{length, drop, length-append, length-drop, length-map}
 use lib.Seq.{drop-at}
-use Rattle.laws.specs.Table.{at}
 use Rattle.laws.specs.Lists.{flat}
 use Rattle.field.specs.Words.{words}
 use Rattle.field.proofs.Words.{drop-words, length-words-even}
-use Rattle.multilinear.specs.Multilinear.{mle}
-use Rattle.multilinear.specs.Folds.{Fold, atFirst}
+use Rattle.multilinear.specs.Folds.{atFirst}
 use Rattle.blake3.specs.Digest.{hash}
 use Rattle.blake3.proofs.HashMode.{length-hash}
 use Rattle.record.specs.Widths.{present, levelLength, treeLength}
 use Rattle.record.specs.Trees.{endToEnd, treeFor, rootFor, levelsLent, treesLent, rootsLent}
-use Rattle.record.specs.Query.{Answer, accepted, checkQuery}
+use Rattle.record.specs.Query.{Answer, checkQuery}
 use Rattle.record.specs.Tail.{checkTail}
-use Rattle.record.specs.Build.{levelsLength, treeStart, levelValues, buildQuery, buildTail}
+use Rattle.record.specs.Build.{levelsLength, levelValues, buildQuery, buildTail}
 use Rattle.record.proofs.Widths.{present-powers}
 use Rattle.record.proofs.Totals.{endToEnd-ext}
 use Rattle.record.proofs.Offsets.{level-within, tree-within, length-levelValues}
@@ -28,7 +25,7 @@ use Rattle.claim.specs.Claim.{Deposit, Lent, LastLent, Claim}
 use Rattle.claim.proofs.Claim.{claim}
 use Rattle.fold_calls.proofs.Laying.{levels-laid}
 use Rattle.level_trees.proofs.Growing.{length-tree}
-use Rattle.whole_run.specs.Whole.{Room, RecordRoom, LastRoom, codeword, calls, Deposited, Claimed, Ran}
+use Rattle.whole_run.specs.Whole.{Room, RecordRoom, LastRoom, codeword, calls, Deposited, Claimed}
 
 -- room for the last level, its tree and its root
 pub last-room : (n k base table vars challenges gammas levels half kept trees roots : ℕ) → Room n k base table vars challenges gammas levels half kept trees roots → LastRoom n k levels trees roots
@@ -45,9 +42,9 @@ drop-last : (m : ℕ) (xs ys zs : List ℕ) → xs ≡ ys ++ zs → length zs �
 drop-last m xs ys zs e l =
     rw e (drop-at ys zs (length (ys ++ zs) - m) (omega (arith, length-append ys zs)))
 
-module _ (n k : ℕ) (base table vars challenges gammas levels kept trees roots : List ℕ) (g h : ℕ)
+module _ (n k : ℕ) (base table vars challenges old oldKept gammas levels kept trees roots : List ℕ) (g h : ℕ)
     (r : Room n k (length base) (length table) (length vars) (length challenges) g (length levels) h (length kept) (length trees) (length roots))
-    (done : ℕ) (d : Deposited n k base table vars challenges gammas levels kept trees roots done)
+    (done : ℕ) (d : Deposited n k base table vars challenges old oldKept gammas levels kept trees roots done)
     (all-first : doneFolds (codeword n k base table vars challenges) (calls n k base table vars challenges) ≡ atFirst (words kept)) where
   abbrev c : List ℕ
   c = codeword n k base table vars challenges
@@ -70,7 +67,7 @@ module _ (n k : ℕ) (base table vars challenges gammas levels kept trees roots 
       ∙ length-words-even kept n (r .kept-long)
 
   each : (l : ℕ) → l ≤ n → levelValues n k (words levels) l ≡ level l
-  each l h = d .left .each all-done l h
+  each l h = d .left .each l (omega (arith, all-done))
 
   words-are : words levels ≡ levelsLent n level
   words-are = levels-laid n k (words levels) level (length-words-even levels (levelsLength n k) (r .levels-long)) each

@@ -59,10 +59,10 @@ module _ (n k : ℕ) (base table vars challenges : List ℕ) where
   abbrev pub calls : List Call
   calls = lentCalls n k vars (words challenges)
 
-  -- what committing, the calls and the trees leave
-  pub record Deposited (gammas′ levels kept trees roots : List ℕ) (done : ℕ) : Type 0 where
+  -- what committing, the calls and the trees leave, lent the halves `old` for the levels and `oldKept` for the challenges
+  pub record Deposited (old oldKept gammas′ levels kept trees roots : List ℕ) (done : ℕ) : Type 0 where
     pub gammas-are : words gammas′ ≡ gammas hash base n k
-    pub left : Left n k codeword calls done levels kept
+    pub left : Left n k codeword (words old) (words oldKept) calls done levels kept
     pub trees-are : trees ≡ treesLent hash present base n k (levelValues n k (words levels))
     pub roots-are : roots ≡ rootsLent hash present base n k (levelValues n k (words levels))
 
@@ -73,8 +73,8 @@ module _ (n k : ℕ) (base table vars challenges : List ℕ) where
     pub tail-accepted : (tail ≡ 0) ↔ (claim ≡ mle (at (words table)) (words kept))
 
   -- the run: what is left, what the records are and what their checks answer
-  pub record Ran (position claim : ℕ) (gammas′ levels kept trees roots query query′ tail tail′ : List ℕ) (done : ℕ) (answer : Answer) (number : ℕ) : Type 0 where
-    pub deposited : Deposited gammas′ levels kept trees roots done
+  pub record Ran (position claim : ℕ) (old oldKept gammas′ levels kept trees roots query query′ tail tail′ : List ℕ) (done : ℕ) (answer : Answer) (number : ℕ) : Type 0 where
+    pub deposited : Deposited old oldKept gammas′ levels kept trees roots done
     pub query-is : query′ ≡ buildQuery present n k levels trees position query
     pub tail-is : tail′ ≡ buildTail present n k (drop (length levels - 2 * levelLength n k n) levels) (drop (length trees - 32 * treeLength present n k n) trees) tail
     pub answer-is : answer ≡ checkQuery hash present base n k position kept roots query′
