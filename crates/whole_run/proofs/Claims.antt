@@ -1,10 +1,11 @@
 -- The claim of demand 3 applied to what a run leaves.
 use Prim.Native.Nat.{ℕ, suc, _-_, _*_, _≤_}
-use mathlib.Core.Path.{_≡_, sym, _∙_, ap}
-use mathlib.Core.List.{List, _++_}
+use mathlib.Core.Path.{_≡_, refl, sym, _∙_, ap, subst}
+use mathlib.Core.List.{List, [], _∷_, _++_}
 use native.Mathlib.Omega.{arith}
-use lib.ListN.{length, drop, length-append, length-drop, length-map}
-use lib.Seq.{drop-at}
+use lib.ListN.{length, take, drop, length-append, length-drop, length-map}
+use lib.Seq.{take-at, take-all, drop-at}
+use Rattle.laws.specs.Table.{at}
 use Rattle.laws.specs.Lists.{flat}
 use Rattle.field.specs.Words.{words}
 use Rattle.field.proofs.Words.{drop-words, length-words-even}
@@ -23,6 +24,7 @@ use Rattle.record.proofs.Accepted.{length-rootFor}
 use Rattle.claim.specs.Calls.{Call, doneFolds, afterFolds}
 use Rattle.claim.specs.Claim.{Deposit, Lent, LastLent, Claim}
 use Rattle.claim.proofs.Claim.{claim}
+use Rattle.fold_calls.specs.Laid.{challengesOf}
 use Rattle.fold_calls.proofs.Laying.{levels-laid}
 use Rattle.level_trees.proofs.Growing.{length-tree}
 use Rattle.whole_run.specs.Whole.{Room, RecordRoom, LastRoom, codeword, calls, Deposited, Claimed}
@@ -111,11 +113,37 @@ module _ (n k : ℕ) (base table vars challenges old oldKept gammas levels kept 
   last-lent = record { level-long = last-long; level-is = last-is; tree-is = tree-is; root-is = root-is }
 
   module _ (position : ℕ) (query tail : List ℕ) (q : RecordRoom n k position (length query) (length tail)) where
-    pub claim-holds : (query′ tail′ : List ℕ) (answer : Answer) (number terminal : ℕ) → query′ ≡ buildQuery present n k levels trees position query → answer ≡ checkQuery hash present base n k position kept roots query′
+    claim-holds : (query′ tail′ : List ℕ) (answer : Answer) (number terminal : ℕ) → query′ ≡ buildQuery present n k levels trees position query → answer ≡ checkQuery hash present base n k position kept roots query′
         → tail′ ≡ buildTail present n k last (drop (length trees - 32 * treeLength present n k n) trees) tail → number ≡ checkTail hash present base n k (drop (length roots - 32) roots) terminal tail′
-        → Claimed n k base table vars challenges kept answer number terminal
+        → Claimed n k base table vars challenges levels kept answer number terminal (words kept)
     claim-holds query′ tail′ answer number terminal eq ea et en =
         record {
+          kept-are = refl;
+          last-entry = λ eps low. ap (λ (ws : List ℕ). at ws eps) (each n (omega arith)) ∙ the-claim .last-entry eps low;
           query-accepted = ea ∙ ap (checkQuery hash present base n k position kept roots) eq ∙ the-claim .query-record levels trees roots lent position (q .position-low) query (q .query-long) .1;
           tail-accepted = rw (en, et) (the-claim .tail-record last _ _ last-lent tail (q .tail-long) .1 terminal);
         }
+
+-- ---- by the challenges of the done calls
+
+challenges-first : (r : List ℕ) → challengesOf (atFirst r) ≡ r
+challenges-first [] = refl
+challenges-first (x ∷ r) = ap (λ (rs : List ℕ). x ∷ rs) (challenges-first r)
+
+module _ (n k : ℕ) (base table vars challenges old oldKept gammas levels kept trees roots : List ℕ) (g h : ℕ)
+    (room : Room n k (length base) (length table) (length vars) (length challenges) g (length levels) h (length kept) (length trees) (length roots))
+    (done : ℕ) (d : Deposited n k base table vars challenges old oldKept gammas levels kept trees roots done)
+    (r : List ℕ) (long : length r ≡ n) (all-first : doneFolds (codeword n k base table vars challenges) (calls n k base table vars challenges) ≡ atFirst r) where
+  -- what is kept is r, all of it
+  kept-is : words kept ≡ r
+  kept-is =
+      let e : words kept ≡ r ++ drop done (words oldKept) = d .left .kept-are ∙ ap (λ (rs : List ℕ). rs ++ drop done (words oldKept)) (ap challengesOf all-first ∙ challenges-first r) in
+      sym (take-all n (words kept) (omega (arith, length-words-even kept n (room .kept-long)))) ∙ ap (take n) e ∙ take-at r (drop done (words oldKept)) n long
+
+  pub claimed-by : (position : ℕ) (query tail : List ℕ) → RecordRoom n k position (length query) (length tail) → (query′ tail′ : List ℕ) (answer : Answer) (number terminal : ℕ)
+      → query′ ≡ buildQuery present n k levels trees position query → answer ≡ checkQuery hash present base n k position kept roots query′
+      → tail′ ≡ buildTail present n k (drop (length levels - 2 * levelLength n k n) levels) (drop (length trees - 32 * treeLength present n k n) trees) tail
+      → number ≡ checkTail hash present base n k (drop (length roots - 32) roots) terminal tail′ → Claimed n k base table vars challenges levels kept answer number terminal r
+  claimed-by position query tail q query′ tail′ answer number terminal eq ea et en =
+      subst (λ (x : List ℕ). Claimed n k base table vars challenges levels kept answer number terminal x) kept-is
+      (claim-holds n k base table vars challenges old oldKept gammas levels kept trees roots g h room done d (all-first ∙ ap atFirst (sym kept-is)) position query tail q query′ tail′ answer number terminal eq ea et en)
