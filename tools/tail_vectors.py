@@ -1,56 +1,23 @@
 #!/usr/bin/env python3
 """tail_vectors.py [--check | --oracle PROGRAM]: the inputs of `tail_list` and `tail_cases` and the lines that they must print.
 
-Schoolbook arithmetic after document 01, independent of the code and of the Rust: the product by shifts, P(z) as the sum over v of word v
-times entry v of z's equality table, every codeword entry by that sum, folds at variable 0 one after another. The last level is computed
+Arithmetic by model.py: every codeword entry by the sum over the table, folds at variable 0 one after another. The last level is computed
 by both ways that document 01 has, the folds and P(r + L(eps)), which must agree. Writes stdin and stdout of both programs; with --check it
 compares them instead, and with --oracle it asks the Rust, by the program that oracle/build makes, for the last level of each case that is
 not refused."""
-import hashlib
 import pathlib
 import subprocess
 import sys
 
+from model import encode, extension, fold, shift, some_words
+
 ROOT = pathlib.Path(__file__).resolve().parent.parent / "crates"
 
 
-def mul(a, b):
-    p = 0
-    for i in range(128):
-        if b >> i & 1:
-            p ^= a << i
-    for i in range(255, 127, -1):
-        if p >> i & 1:
-            p ^= (1 << 128 | 0x87) << (i - 128)
-    return p
-
-
-def extension(table, z):
-    total = 0
-    for v, word in enumerate(table):
-        entry = 1
-        for j, c in enumerate(z):
-            entry = mul(entry, c if v >> j & 1 else 1 ^ c)
-        total ^= mul(word, entry)
-    return total
-
-
-def shift(n, k, gammas, eps):
-    point = [0] * n
-    for j in range(k):
-        if eps >> j & 1:
-            point = [c ^ gammas[j * n + i] for i, c in enumerate(point)]
-    return point
-
-
 def last_level(n, k, table, gammas, challenges):
-    level = []
-    for eps in range(1 << k):
-        d = shift(n, k, gammas, eps)
-        for v in range(1 << n):
-            level.append(extension(table, [(v >> i & 1) ^ d[i] for i in range(n)]))
+    level = encode(n, k, table, gammas)
     for r in challenges:
-        level = [a ^ mul(r, a ^ b) for a, b in zip(level[0::2], level[1::2])]
+        level = fold(level, r)
     for eps in range(1 << k):
         d = shift(n, k, gammas, eps)
         assert level[eps] == extension(table, [r ^ c for r, c in zip(challenges, d)])
@@ -76,12 +43,6 @@ def lines(data):
 
 def packed(n, k, words):
     return bytes([n, k]) + b"".join(w.to_bytes(16, "little") for w in words)
-
-
-def some_words(label, count):
-    """Words that look random, the same in every run."""
-    digest = lambda i: hashlib.sha256(b"%s %d" % (label.encode(), i)).digest()
-    return [int.from_bytes(digest(i)[:16], "little") for i in range(count)]
 
 
 def cases():

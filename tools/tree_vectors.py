@@ -2,8 +2,9 @@
 """tree_vectors.py ORACLE: what the program tree_cases must write, on standard output.
 
 ORACLE is the program that oracle/build makes of the published Rust. Trees, leaf digests, paths and roots are its answers. For domains
-above 88 bytes the Rust builds no node: there its BLAKE3 digests messages that are put together here by document 01's paragraph 006."""
+above 88 bytes the Rust builds no node: there its BLAKE3 digests messages that model.py puts together by document 01's paragraph 006."""
 import itertools, subprocess, sys
+from model import leaf_message, node_message
 if len(sys.argv) != 2: sys.exit(__doc__)
 oracle = subprocess.Popen([sys.argv[1]], stdin=subprocess.PIPE, stdout=subprocess.PIPE, text=True)
 
@@ -15,8 +16,6 @@ def ask(*words):
 
 def hexed(bs): return bs.hex() or '-'
 def digest(bs): return bytes.fromhex(ask('blake3', hexed(bs)))
-def number(x): return x.to_bytes(8, 'little')
-def part(bs): return number(len(bs)) + bs
 
 value = [(1000003 * i << 64) + i + 1 for i in range(1024)]
 letters = bytes(97 + i % 26 for i in range(255))
@@ -24,13 +23,9 @@ letters = bytes(97 + i % 26 for i in range(255))
 def words(vs): return ','.join(f'{v:032x}' for v in vs)
 
 def leaf(domain, count, width, group):
-    vs = value[width * group:width * (group + 1)]
-    message = number(5) + part(b'magnetar/leafN/v1') + part(domain) + part(number(count)) + part(number(width))
-    message += number(width) + number(group) + number(16 * width) + b''.join(v.to_bytes(16, 'little') for v in vs)
-    return digest(message)
+    return digest(leaf_message(domain, count, width, group, value[width * group:width * (group + 1)]))
 
-def node(domain, level, l, r):
-    return digest(number(5) + part(b'magnetar/node/v1') + part(domain) + part(number(level)) + part(l) + part(r))
+def node(domain, level, l, r): return digest(node_message(domain, level, l, r))
 
 def tree(domain, count, width):
     if len(domain) <= 88:

@@ -4,11 +4,12 @@ use mathlib.Core.Path.{_≡_, sym, _∙_, ap, ap₂}
 use mathlib.Core.List.{List, [], append-nil}
 use native.Mathlib.Omega.{arith}
 use native.Mathlib.Nat.{div-div-eq-div-mul}
-use lib.ListN.{length}
-use lib.Seq.{take-all}
+use lib.ListN.{length, take, drop}
+use lib.Seq.{take-all, take-take, drop-drop}
 use lib.Pow.{pow-pos, pow-add, pow-mono, shr-lt}
+use Rattle.laws.specs.Table.{at}
 use Rattle.laws.specs.Lists.{part, runs, flat}
-use Rattle.laws.proofs.Lists.{AllLong, length-part, length-runs, runs-flat, length-flat, runs-long}
+use Rattle.laws.proofs.Lists.{AllLong, length-part, getD-part, take-drop, length-runs, runs-flat, length-flat, runs-long}
 use Rattle.record.specs.Trees.{endToEnd}
 use Rattle.record.specs.Widths.{Widths, levelLength, treeLength, total}
 use Rattle.record.specs.Query.{pairOf}
@@ -33,7 +34,8 @@ pub last-length : (n k : ℕ) → levelLength n k n ≡ 2 ^ k
 unfolding levelLength
 last-length n k = ap (λ (i : ℕ). 2 ^ i) {x = n + k - n} {y = k} (omega arith)
 
-first-length : (n k : ℕ) → levelLength n k 0 ≡ 2 ^ (n + k)
+-- the first has 2^(n + k)
+pub first-length : (n k : ℕ) → levelLength n k 0 ≡ 2 ^ (n + k)
 unfolding levelLength
 first-length n k = ap (λ (i : ℕ). 2 ^ i) {x = n + k - 0} {y = n + k} (omega arith)
 
@@ -61,6 +63,11 @@ levels-length n k =
     distribute : (a b m : ℕ) → 2 * b ≡ m + 1 → a * m + a ≡ 2 * (b * a)
     distribute a b m e = omega (arith, ap (λ (x : ℕ). a * x) e)
 
+-- which is twice the first, less the last
+pub levels-twice : (n k : ℕ) → levelsLength n k + levelLength n k n ≡ 2 * levelLength n k 0
+unfolding levelStart total
+levels-twice n k = omega (arith, levels-length n k, start-and-twice n k n (omega arith), first-length n k)
+
 -- level l stands within them
 pub level-within : (n k l : ℕ) → l ≤ n → levelStart n k l + levelLength n k l ≤ levelsLength n k
 unfolding levelStart
@@ -81,6 +88,22 @@ length-levelValues n k l ws h e = length-part (levelLength n k l) (levelStart n 
 pub levelValues-endToEnd : (n k l : ℕ) (levels : ℕ → List ℕ) → ((j : ℕ) → j ≤ n → length (levels j) ≡ levelLength n k j) → l ≤ n → levelValues n k (endToEnd (suc n) levels) l ≡ levels l
 unfolding levelValues levelStart
 levelValues-endToEnd n k l levels e h = part-endToEnd (suc n) l levels (levelLength n k) (λ j g. e j (omega arith)) (omega arith)
+
+-- a part of a part
+part-within : (n i m j : ℕ) (l : List ℕ) → i + n ≤ m → part n i (part m j l) ≡ part n (j + i) l
+unfolding part
+part-within n i m j l h =
+    take-drop n i (take m (drop j l)) ∙ ap (drop i) (take-take (i + n) m (drop j l) h) ∙ sym (take-drop n i (drop j l)) ∙ ap (take n) (drop-drop i j l)
+
+-- a value of level l, and values of it from a place on, by where they stand in what is lent
+module _ (n k l i : ℕ) (ws : List ℕ) where
+  pub value-lent : i < levelLength n k l → at (levelValues n k ws l) i ≡ at ws (levelStart n k l + i)
+  unfolding levelValues
+  value-lent h = getD-part (levelLength n k l) (levelStart n k l) i ws h
+
+  pub values-lent : (c : ℕ) → i + c ≤ levelLength n k l → part c i (levelValues n k ws l) ≡ part c (levelStart n k l + i) ws
+  unfolding levelValues
+  values-lent c h = part-within c i (levelLength n k l) (levelStart n k l) ws h
 
 module _ (c i : ℕ) (bytes : List ℕ) where
   pub length-digests : length (digests c i bytes) ≡ c

@@ -17,6 +17,11 @@ unfolding total
 total-ext zero f g h = refl
 total-ext (suc m) f g h = ap₂ _+_ (total-ext m f g (λ i k. h i (omega arith))) (h m (omega arith))
 
+pub endToEnd-ext : (m : ℕ) (f g : ℕ → List ℕ) → ((i : ℕ) → i < m → f i ≡ g i) → endToEnd m f ≡ endToEnd m g
+unfolding endToEnd
+endToEnd-ext zero f g h = refl
+endToEnd-ext (suc m) f g h = ap₂ (λ (xs ys : List ℕ). xs ++ ys) (endToEnd-ext m f g (λ i k. h i (omega arith))) (h m (omega arith))
+
 -- the first summand apart
 pub total-first : (m : ℕ) (f : ℕ → ℕ) → total (suc m) f ≡ f 0 + total m (λ i. f (suc i))
 unfolding total
@@ -63,6 +68,12 @@ part-endToEnd (suc m) i f len h k =
     (λ (e : i ≡ m). rw e (part-last (endToEnd m f) (f m) (len m) (total m len) all (h m (omega arith))))
     (λ (g : i < m). part-front (len i) (total i len) (endToEnd m f) (f m) (omega (arith, total-within m i len g)) ∙ part-endToEnd m i f len (λ j g. h j (omega arith)) g)
     (eq-or-lt-of-le {n = i} {m = m} (omega arith))
+
+-- summands that are at most b
+pub total-le : (b m : ℕ) (f : ℕ → ℕ) → ((i : ℕ) → i < m → f i ≤ b) → total m f ≤ b * m
+unfolding total
+total-le b zero f h = omega arith
+total-le b (suc m) f h = omega (arith, total-le b m f (λ i k. h i (omega arith)), h m (omega arith))
 
 pub total-same : (c m : ℕ) → total m (λ i. c) ≡ c * m
 unfolding total

@@ -12,6 +12,7 @@ ghost use Rattle.field.specs.Words.{words};
 ghost use Rattle.gf128.specs.Word.{word};
 ghost use Rattle.merkle.specs.Tree.{sibling};
 ghost use Rattle.messages.specs.Put.{Put};
+ghost use Rattle.record.specs.Format.{wordBytes, runBytes};
 ghost use Rattle.writing.specs.Paths.{pathFrom};
 
 // The lowest byte of a number.
@@ -98,4 +99,30 @@ pub fn put_path(
         level += 1;
     }
     at
+}
+
+// A group of values from a word on, after their count.
+pub fn put_values(out: &mut [u8], from: usize, values: &[u64], start: usize, width: usize) -> usize
+    requires { ⌜ (2 * (start + width) ≤ length (now values)) × (from + (4 + 16 * width) ≤ length (now out)) ⌝ }
+    ensures { λ r. ⌜ Put (now (out .entry)) from (4 + 16 * width) (runBytes (map wordBytes (part width start (words (now (values .entry)))))) (now (out .exit)) r ⌝ }
+{
+    let at = put_number(out, from, width as u64, 4);
+    put_words(out, at, values, start, width)
+}
+
+// The path of a group, as `put_path` puts it, after its count.
+pub fn put_digests(
+    out: &mut [u8],
+    to: usize,
+    trees: &[u8],
+    from: usize,
+    depth: usize,
+    groups: usize,
+    group: usize,
+) -> usize
+    requires { ⌜ (groups ≡ 2 ^ depth) × (group < groups) × (groups ≤ 16777216) × (from + 64 * groups ≤ length (now trees) + 32) × (to + (4 + 32 * depth) ≤ length (now out)) ⌝ }
+    ensures { λ r. ⌜ Put (now (out .entry)) to (4 + 32 * depth) (runBytes (pathFrom depth (now (trees .entry)) from groups group)) (now (out .exit)) r ⌝ }
+{
+    let at = put_number(out, to, depth as u64, 4);
+    put_path(out, at, trees, from, depth, groups, group)
 }

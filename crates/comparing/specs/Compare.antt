@@ -1,0 +1,108 @@
+-- Comparing two query records (document 01, questions 4, 5, 7, 11, 32 and 33, and the paragraph after them): the number, and the two
+-- messages, nearest the root, in which the records differ. Rests on the check of query records and on the messages of a path.
+use Prim.Native.Nat.{ℕ, suc, _+_, _-_, _*_, _^_}
+use mathlib.Core.Bool.{Bool, not}
+use mathlib.Core.List.{List, [], _∷_, _++_}
+use lib.Dec.{leb, ltb, eqb}
+use lib.ListN.{length, replicate}
+use Rattle.laws.specs.Questions.{Question, _asks_, firstNo, onDone}
+use Rattle.laws.specs.Lists.{same}
+use Rattle.merkle.specs.Binding.{Found, none, pair, orElse, collision}
+use Rattle.record.specs.Widths.{Widths, levelLength, levelWidth}
+use Rattle.record.specs.Domain.{levelDomain}
+use Rattle.record.specs.Format.{LevelRecord, levelForm, recordItems}
+use Rattle.record.specs.Query.{pairOf, sizeQuestions, checkQuery}
+
+-- ---- the messages that two records differ in
+
+module _ (H : List ℕ → List ℕ) (s : Widths) (base : List ℕ) (n k : ℕ) where
+  -- of two groups and paths for one place of level l: the messages nearest the root that differ
+  unfoldable pub openingFound : ℕ → ℕ → List ℕ → List (List ℕ) → List ℕ → List (List ℕ) → Found
+  openingFound l place values path values′ path′ =
+      collision H (levelDomain base l) (levelLength n k l) (levelWidth s n k l) place values path values′ path′
+
+  -- of level l, of which q is the pair: path a before path c
+  unfoldable pub pairFound : ℕ → ℕ → LevelRecord → LevelRecord → Found
+  pairFound l q x y =
+      orElse (openingFound l (2 * q) (x .aGroup) (x .aPath) (y .aGroup) (y .aPath)) (openingFound (suc l) q (x .cGroup) (x .cPath) (y .cGroup) (y .cPath))
+
+  -- level by level, from l on: the lowest level that differs
+  unfoldable pub levelsFound : ℕ → ℕ → List LevelRecord → List LevelRecord → Found
+  levelsFound position l [] ys = none
+  levelsFound position l (x ∷ xs) [] = none
+  levelsFound position l (x ∷ xs) (y ∷ ys) = orElse (pairFound l (pairOf position l) x y) (levelsFound position (suc l) xs ys)
+
+  -- of the bytes of two records for one position
+  unfoldable pub recordsFound : ℕ → List ℕ → List ℕ → Found
+  recordsFound position first second = levelsFound position 0 (recordItems levelForm n first) (recordItems levelForm n second)
+
+-- ---- what is found, in the lent buffers
+
+-- the first message and the second; none has no bytes
+abbrev pub firstOf : Found → List ℕ
+firstOf none = []
+firstOf (pair m m′) = m
+
+abbrev pub secondOf : Found → List ℕ
+secondOf none = []
+secondOf (pair m m′) = m′
+
+-- a message in a buffer of 512 bytes, zeros after it
+unfoldable pub inBuffer : List ℕ → List ℕ
+inBuffer m = m ++ replicate (512 - length m) 0
+
+-- the buffers of the first and of the second message, which were `old`: without a message nothing is written
+abbrev pub firstBuffer : Found → List ℕ → List ℕ
+firstBuffer none old = old
+firstBuffer (pair m m′) old = inBuffer m
+
+abbrev pub secondBuffer : Found → List ℕ → List ℕ
+secondBuffer none old = old
+secondBuffer (pair m m′) old = inBuffer m′
+
+-- ---- the answer: the number and the lengths of the two messages
+
+pub record Comparison : Type 0 where
+  pub number : ℕ
+  pub first : ℕ
+  pub second : ℕ
+
+-- is a record accepted by 14 to 26, lent what the check is lent (4, 5, 7 and 11 are put before)
+unfoldable pub accepts : (List ℕ → List ℕ) → Widths → List ℕ → ℕ → ℕ → ℕ → List ℕ → List ℕ → List ℕ → Bool
+accepts H s base n k position challenges roots bytes = eqb (checkQuery H s base n k position challenges roots bytes .number) 0
+
+-- lent: what the check is lent, two records, and the two buffers as they were
+module _ (H : List ℕ → List ℕ) (s : Widths) (base : List ℕ) (n k position : ℕ) (challenges roots first second old old′ : List ℕ) where
+  abbrev pub compareQuestions : List Question
+  compareQuestions =
+      sizeQuestions n k
+      ++ (5 asks eqb (length challenges) (2 * n)) ∷
+      (5 asks eqb (length roots) (32 * (n + 1))) ∷
+      (5 asks eqb (length old) 512) ∷
+      (5 asks eqb (length old′) 512) ∷
+      (7 asks leb (length base) 200) ∷
+      (11 asks ltb position (2 ^ (n + k))) ∷
+      (32 asks accepts H s base n k position challenges roots first) ∷
+      (32 asks accepts H s base n k position challenges roots second) ∷
+      (33 asks not (same first second)) ∷
+      []
+
+  unfoldable pub compareNumber : ℕ
+  compareNumber = firstNo compareQuestions
+
+  -- the two messages
+  abbrev pub compareFound : Found
+  compareFound = recordsFound H s base n k position first second
+
+  unfoldable pub compared : Comparison
+  compared =
+      onDone compareNumber
+      (record { number = 0; first = length (firstOf compareFound); second = length (secondOf compareFound) })
+      (record { number = compareNumber; first = 0; second = 0 })
+
+  -- the buffers afterwards
+  unfoldable pub firstMessage : List ℕ
+  firstMessage = onDone compareNumber (firstBuffer compareFound old) old
+
+  unfoldable pub secondMessage : List ℕ
+  secondMessage = onDone compareNumber (secondBuffer compareFound old′) old′

@@ -1,0 +1,1 @@
+// Comparing two query records, defined in specs/. There is no code.

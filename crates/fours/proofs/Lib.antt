@@ -1,0 +1,5 @@
+pub mod Blocks
+pub mod Strides
+pub mod Splits
+pub mod Leaves
+pub mod Parents

@@ -1,0 +1,4 @@
+pub mod Sizes
+pub mod Levels
+pub mod Puts
+pub mod Numbers

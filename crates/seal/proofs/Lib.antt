@@ -1,0 +1,2 @@
+pub mod LevelTrees
+pub mod Sizes

@@ -1,0 +1,34 @@
+// The tree of a level. These are helpers for this crate and those above: each requires that its level is one of the commitment's.
+use levels::level_domain;
+use levels::level_groups;
+use levels::level_length;
+use levels::level_width;
+ghost use mathlib.Core.Path.{_≡_};
+ghost use Prim.Native.Nat.{_+_, _*_, _≤_};
+ghost use lib.ListN.{length};
+ghost use Rattle.laws.specs.Lists.{flat};
+ghost use Rattle.field.specs.Words.{words};
+ghost use Rattle.blake3.specs.Digest.{hash};
+ghost use Rattle.record.specs.Widths.{present, treeLength};
+ghost use Rattle.record.specs.Trees.{treeFor};
+ghost use Rattle.seal.specs.LevelTree.{LevelTree};
+
+// How many bytes level l's tree has.
+pub fn tree_bytes(n: usize, k: usize, l: usize) -> usize
+    requires { ⌜ (n + k ≤ 24) × (l ≤ n) ⌝ }
+    ensures { λ r. ⌜ r ≡ 32 * treeLength present n k l ⌝ }
+{
+    32 * (2 * level_groups(n, k, l) - 1)
+}
+
+// Level l's tree over its values, at 002's width under level domain l, into a buffer of its size.
+pub fn build_level(n: usize, k: usize, l: usize, base: &[u8], values: &[u64], tree: &mut [u8])
+    requires { ⌜ LevelTree n k l (length (now base)) (length (now values)) (length (now tree)) ⌝ }
+    ensures { λ _. ⌜ now (tree .exit) ≡ flat (treeFor hash present (now (base .entry)) n k l (words (now (values .entry)))) ⌝ }
+{
+    let mut domain = [0u8; 209];
+    let size = level_domain(&mut domain, base, l);
+    let count = level_length(n, k, l);
+    let width = level_width(n, k, l);
+    tree::build(&domain[..size], count, width, values, tree);
+}

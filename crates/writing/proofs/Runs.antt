@@ -1,0 +1,53 @@
+-- Counted runs, put in two steps: the count, then the items. And a level's path is a path from a byte of the lent trees on.
+use Prim.Native.Nat.{ℕ, zero, suc, _+_, _-_, _*_, _/_, _≤_}
+use mathlib.Core.Path.{_≡_, refl, sym, _∙_, ap, ap₂}
+use mathlib.Core.List.{List, [], _∷_, _++_, map}
+use native.Mathlib.Omega.{arith}
+use lib.ListN.{length, take, drop, length-map}
+use lib.Seq.{take-take}
+use Rattle.laws.specs.Lists.{part, runs, flat, leBytes}
+use Rattle.laws.proofs.Lists.{take-drop, length-part}
+use Rattle.field.specs.Words.{words}
+use Rattle.merkle.specs.Tree.{groupOf, depthOf, treeSize, path, levelsOf, pathOf}
+use Rattle.merkle.proofs.Levels.{length-path}
+use Rattle.messages.specs.Put.{Put}
+use Rattle.messages.proofs.Stores.{then-put, same-put}
+use Rattle.record.specs.Format.{wordBytes, runBytes}
+use Rattle.record.specs.Build.{digests}
+use Rattle.writing.specs.Paths.{pathFrom}
+use Rattle.writing.proofs.Numbers.{words-there}
+
+-- a count and items
+run-put : (o : List ℕ) (from c n : ℕ) (xs : List (List ℕ)) (o1 : List ℕ) (j : ℕ) (o2 : List ℕ) (r : ℕ) → length xs ≡ c
+    → Put o from 4 (leBytes 4 c) o1 j → Put o1 j n (flat xs) o2 r → Put o from (4 + n) (runBytes xs) o2 r
+unfolding runBytes
+run-put o from c n xs o1 j o2 r e p q = rw e (then-put o from 4 _ o1 j n _ o2 r p q)
+
+pub values-put : (o : List ℕ) (from : ℕ) (values : List ℕ) (start width : ℕ) (o1 : List ℕ) (j : ℕ) (o2 : List ℕ) (r : ℕ) → 2 * (start + width) ≤ length values
+    → Put o from 4 (leBytes 4 width) o1 j → Put o1 j (16 * width) (flat (map (leBytes 16) (part width start (words values)))) o2 r
+    → Put o from (4 + 16 * width) (runBytes (map wordBytes (part width start (words values)))) o2 r
+values-put o from values start width o1 j o2 r h p q =
+    let e : length (part width start (words values)) ≡ width = length-part width start (words values) (words-there values (start + width) h) in
+    run-put o from width (16 * width) (map wordBytes (part width start (words values))) o1 j o2 r (length-map (part width start (words values)) wordBytes ∙ e) p q
+
+pub digests-put : (o : List ℕ) (from : ℕ) (trees : List ℕ) (tree depth groups g : ℕ) (o1 : List ℕ) (j : ℕ) (o2 : List ℕ) (r : ℕ)
+    → Put o from 4 (leBytes 4 depth) o1 j → Put o1 j (32 * depth) (flat (pathFrom depth trees tree groups g)) o2 r
+    → Put o from (4 + 32 * depth) (runBytes (pathFrom depth trees tree groups g)) o2 r
+unfolding pathFrom
+digests-put o from trees tree depth groups g o1 j o2 r p q =
+    run-put o from depth (32 * depth) (pathFrom depth trees tree groups g) o1 j o2 r (length-path depth (runs 32 (2 * groups - 1) (drop tree trees)) g) p q
+
+-- items of a part that has them all
+runs-take : (n c : ℕ) (l : List ℕ) → runs n c (take (n * c) l) ≡ runs n c l
+unfolding runs
+runs-take n zero l = refl
+runs-take n (suc c) l =
+    let e : n * suc c ≡ n + n * c = omega arith in
+    rw e (ap₂ (λ (x : List ℕ) (y : List ℕ). x ∷ runs n c y) (take-take n (n + n * c) l (omega arith)) refl ∙ ap (λ (xs : List (List ℕ)). take n l ∷ xs) (ap (runs n c) (sym (take-drop (n * c) n l)) ∙ runs-take n c (drop n l)))
+
+-- the path of a place, off the tree that stands from digest i on
+pub path-of-digests : (count width place i : ℕ) (trees : List ℕ)
+    → pathOf count width place (digests (treeSize count width) i trees) ≡ pathFrom (depthOf count width) trees (32 * i) (count / width) (groupOf place width)
+unfolding pathOf digests pathFrom part
+path-of-digests count width place i trees =
+    ap (λ (t : List (List ℕ)). path (depthOf count width) (levelsOf (depthOf count width) t) (groupOf place width)) (runs-take 32 (treeSize count width) (drop (32 * i) trees))

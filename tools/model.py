@@ -1,0 +1,189 @@
+"""Document 01 in schoolbook form, for the tools that make expected results: words, BLAKE3, the code, trees and levels.
+
+Independent of the code and of the Rust: the product by shifts, P(z) as the sum over v of word v times entry v of z's equality table,
+BLAKE3 after its specification, messages put together as paragraphs 001 and 006 have them."""
+import functools
+import hashlib
+import struct
+
+# ---- words, and the code
+
+
+def mul(a, b):
+    p = 0
+    for i in range(128):
+        if b >> i & 1:
+            p ^= a << i
+    for i in range(255, 127, -1):
+        if p >> i & 1:
+            p ^= (1 << 128 | 0x87) << (i - 128)
+    return p
+
+
+def extension(table, z):
+    total = 0
+    for v, word in enumerate(table):
+        entry = 1
+        for j, c in enumerate(z):
+            entry = mul(entry, c if v >> j & 1 else 1 ^ c)
+        total ^= mul(word, entry)
+    return total
+
+
+def shift(n, k, gammas, eps):
+    """L(eps)."""
+    point = [0] * n
+    for j in range(k):
+        if eps >> j & 1:
+            point = [c ^ gammas[j * n + i] for i, c in enumerate(point)]
+    return point
+
+
+def encode(n, k, table, gammas):
+    codeword = []
+    for eps in range(1 << k):
+        d = shift(n, k, gammas, eps)
+        codeword += [extension(table, [(v >> i & 1) ^ d[i] for i in range(n)]) for v in range(1 << n)]
+    return codeword
+
+
+def fold(level, r):
+    """The fold at variable 0."""
+    return [a ^ mul(r, a ^ b) for a, b in zip(level[0::2], level[1::2])]
+
+
+def some_words(label, count):
+    """Words that look random, the same in every run."""
+    digest = lambda i: hashlib.sha256(b"%s %d" % (label.encode(), i)).digest()
+    return [int.from_bytes(digest(i)[:16], "little") for i in range(count)]
+
+
+# ---- BLAKE3
+
+IV = [0x6A09E667, 0xBB67AE85, 0x3C6EF372, 0xA54FF53A, 0x510E527F, 0x9B05688C, 0x1F83D9AB, 0x5BE0CD19]
+PERMUTATION = [2, 6, 3, 10, 7, 0, 4, 13, 1, 11, 12, 5, 9, 14, 15, 8]
+QUARTERS = [(0, 4, 8, 12), (1, 5, 9, 13), (2, 6, 10, 14), (3, 7, 11, 15), (0, 5, 10, 15), (1, 6, 11, 12), (2, 7, 8, 13), (3, 4, 9, 14)]
+CHUNK_START, CHUNK_END, PARENT, ROOT_NODE = 1, 2, 4, 8
+
+
+def compress(h, block, counter, length, flags):
+    def rotr(x, n):
+        return (x >> n | x << (32 - n)) & 0xFFFFFFFF
+
+    def g(a, b, c, d, x, y):
+        for m, p, q in ((x, 16, 12), (y, 8, 7)):
+            s[a] = (s[a] + s[b] + m) & 0xFFFFFFFF
+            s[d] = rotr(s[d] ^ s[a], p)
+            s[c] = (s[c] + s[d]) & 0xFFFFFFFF
+            s[b] = rotr(s[b] ^ s[c], q)
+
+    s = h + IV[:4] + [counter & 0xFFFFFFFF, counter >> 32, length, flags]
+    m = list(struct.unpack("<16I", block))
+    for _ in range(7):
+        for k, (a, b, c, d) in enumerate(QUARTERS):
+            g(a, b, c, d, m[2 * k], m[2 * k + 1])
+        m = [m[i] for i in PERMUTATION]
+    return [s[i] ^ s[i + 8] for i in range(8)]
+
+
+def chunk_node(chunk, counter):
+    """The last compression of a chunk, as its arguments."""
+    blocks = [chunk[i : i + 64] for i in range(0, len(chunk), 64)] or [b""]
+    h = IV
+    for i, block in enumerate(blocks):
+        flags = (CHUNK_START if i == 0 else 0) | (CHUNK_END if i == len(blocks) - 1 else 0)
+        node = (h, block.ljust(64, b"\0"), counter, len(block), flags)
+        if i < len(blocks) - 1:
+            h = compress(*node)
+    return node
+
+
+def parent_node(left, right):
+    return (IV, struct.pack("<16I", *compress(*left), *compress(*right)), 0, 64, PARENT)
+
+
+@functools.lru_cache(maxsize=None)
+def blake3(message):
+    """The digest in hash mode."""
+    starts = range(0, max(len(message), 1), 1024)
+    nodes = [chunk_node(message[i : i + 1024], i // 1024) for i in starts]
+    while len(nodes) > 1:
+        pairs = [parent_node(*nodes[i : i + 2]) for i in range(0, len(nodes) - 1, 2)]
+        nodes = pairs + nodes[2 * len(pairs) :]
+    h, block, counter, length, flags = nodes[0]
+    return struct.pack("<8I", *compress(h, block, counter, length, flags | ROOT_NODE))
+
+
+# ---- messages
+
+
+def number(x):
+    return x.to_bytes(8, "little")
+
+
+def part(data):
+    return number(len(data)) + data
+
+
+def word_bytes(w):
+    return w.to_bytes(16, "little")
+
+
+def gamma_message(base, n, k, j, i):
+    parts = [b"magnetar/pcs/gamma/v1", base, number(n), number(k), number(j), number(i)]
+    return number(len(parts)) + b"".join(map(part, parts))
+
+
+def leaf_message(domain, count, width, group, values):
+    named = number(5) + part(b"magnetar/leafN/v1") + part(domain) + part(number(count)) + part(number(width))
+    return named + number(width) + number(group) + number(16 * width) + b"".join(map(word_bytes, values))
+
+
+def node_message(domain, level, left, right):
+    return number(5) + part(b"magnetar/node/v1") + part(domain) + part(number(level)) + part(left) + part(right)
+
+
+def derive(base, n, k):
+    """The gammas of a base domain, j outer."""
+    return [int.from_bytes(blake3(gamma_message(base, n, k, j, i))[:16], "little") for j in range(k) for i in range(n)]
+
+
+# ---- trees, and levels
+
+
+def fold_tree_width(length):
+    return 8 if length >= 16 else 2 if length >= 2 else 1
+
+
+def level_domain(base, l):
+    return base + b"/level/" + str(l).encode()
+
+
+def tree(domain, width, values):
+    """The digests of a tree over groups of values, leaves first."""
+    count = len(values)
+    level = [blake3(leaf_message(domain, count, width, g, values[width * g : width * (g + 1)])) for g in range(count // width)]
+    digests, height = list(level), 0
+    while len(level) > 1:
+        level = [blake3(node_message(domain, height, *level[i : i + 2])) for i in range(0, len(level), 2)]
+        digests, height = digests + level, height + 1
+    return digests
+
+
+def path(digests, group):
+    """The siblings on a group's way to the root, off the digests of a tree."""
+    siblings, start, groups = [], 0, (len(digests) + 1) // 2
+    while groups > 1:
+        siblings.append(digests[start + (group ^ 1)])
+        start, groups, group = start + groups, groups // 2, group // 2
+    return siblings
+
+
+def root_of_path(domain, count, width, place, values, siblings):
+    """Where the group of a place, with these values, and a path lead to."""
+    group = place // width
+    digest = blake3(leaf_message(domain, count, width, group, values))
+    for height, sibling in enumerate(siblings):
+        pair = (digest, sibling) if group % 2 == 0 else (sibling, digest)
+        digest, group = blake3(node_message(domain, height, *pair)), group // 2
+    return digest
