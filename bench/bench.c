@@ -43,7 +43,15 @@ uint32_t dequmlo_test_encode(size_t n, size_t k, const uint64_t *table, size_t t
 folded dequmlo_test_fold(size_t n, size_t k, size_t var, word r, const uint64_t *src, size_t src_length, uint64_t *out, size_t out_length);
 uint32_t dequmlo_test_partial_evals(size_t n, const uint64_t *packed, size_t packed_length, const uint64_t *eq, size_t eq_length, uint64_t *out, size_t out_length);
 answer dequmlo_test_eval_at(size_t n, const uint64_t *z, size_t z_length, coefficients rb, const uint64_t *point, size_t point_length);
+
+typedef struct {
+    uint32_t number;
+    uint32_t level;
+} checked;
+
 uint32_t dequmlo_test_build(const uint8_t *domain, size_t domain_length, size_t count, size_t width, const uint64_t *values, size_t values_length, uint8_t *tree, size_t tree_length);
+uint32_t dequmlo_test_build_query(uint8_t *out, size_t out_length, const uint64_t *levels, size_t levels_length, const uint8_t *trees, size_t trees_length, size_t n, size_t k, size_t position);
+checked dequmlo_test_check_query(const uint8_t *base, size_t base_length, size_t n, size_t k, size_t position, const uint64_t *challenges, size_t challenges_length, const uint8_t *roots, size_t roots_length, const uint8_t *s, size_t s_length);
 
 enum { ROUNDS = 15 };
 
@@ -280,6 +288,53 @@ static void tree(void) {
     free(digests);
 }
 
+static size_t fold_tree_width(size_t length) {
+    return length >= 16 ? 8 : length >= 2 ? 2 : 1;
+}
+
+/* The tree of level l, under its domain, into the lent bytes; how many bytes it has. Its last digest is the root. */
+static size_t level_tree(size_t l, size_t length, const uint64_t *values, uint8_t *tree, uint8_t *root) {
+    char domain[64];
+    size_t width = fold_tree_width(length), size = 32 * (2 * (length / width) - 1);
+    int domain_length = snprintf(domain, sizeof domain, "%s/level/%zu", (const char *)DOMAIN, l);
+    must(dequmlo_test_build((const uint8_t *)domain, (size_t)domain_length, length, width, values, 2 * length, tree, size) == 0, "level tree");
+    memcpy(root, tree + size - 32, 32);
+    return size;
+}
+
+/* Query records of a commitment, built at 64 positions and checked. */
+static void records(void) {
+    enum { N = 18, K = 2, COUNT = 1 << (N + K), WORDS = 2 * COUNT - (1 << K), SIZE = 14884, POSITIONS = 64 };
+    double ours;
+    uint64_t *levels = words(WORDS), *gammas = words(N * K), *table = words((size_t)1 << N), *challenges = words(N);
+    uint8_t *trees = bytes((size_t)64 * COUNT), *roots = bytes(32 * (N + 1)), *out = bytes((size_t)SIZE * POSITIONS);
+    must(dequmlo_test_derive(N, K, DOMAIN, DOMAIN_LENGTH, gammas, 2 * N * K) == 0, "gammas");
+    must(dequmlo_test_encode(N, K, table, (size_t)2 << N, gammas, 2 * N * K, levels, (size_t)2 * COUNT) == 0, "encode");
+    size_t trees_size = 0;
+    uint64_t *level = levels;
+    for (size_t l = 0; l <= N; l++) {
+        size_t length = (size_t)COUNT >> l;
+        trees_size += level_tree(l, length, level, trees + trees_size, roots + 32 * l);
+        if (l == N) break;
+        word r = {challenges[2 * l], challenges[2 * l + 1]};
+        must(dequmlo_test_fold(N - l, K, 0, r, level, 2 * length, level + 2 * length, length).number == 0, "fold");
+        level += 2 * length;
+    }
+#define POSITION(i) ((size_t)(i) * 0x9e3779b1u % COUNT)
+    BEST(ours, POSITIONS, must(dequmlo_test_build_query(out + SIZE * i, SIZE, levels, 2 * WORDS, trees, trees_size, N, K, POSITION(i)) == 0, "query record"));
+    alone("query record built, n = 18, k = 2", "query_built_n18_k2", ours);
+    BEST(ours, POSITIONS, must(dequmlo_test_check_query(DOMAIN, DOMAIN_LENGTH, N, K, POSITION(i), challenges, 2 * N, roots, 32 * (N + 1), out + SIZE * i, SIZE).number == 0, "record's check"));
+    alone("query record checked, n = 18, k = 2", "query_checked_n18_k2", ours);
+#undef POSITION
+    free(levels);
+    free(gammas);
+    free(table);
+    free(challenges);
+    free(trees);
+    free(roots);
+    free(out);
+}
+
 int main(int count, char **arguments) {
     int large = count > 1 && strcmp(arguments[1], "--large") == 0;
     products();
@@ -291,6 +346,7 @@ int main(int count, char **arguments) {
     tree();
     code(16, 1, 7);
     code(18, 2, 5);
+    records();
     if (large) code(20, 4, 3);
     ring();
     /* Nothing in the proofs notices when the compiler no longer makes the four lanes one vector. */

@@ -332,3 +332,15 @@ pub extern "C" fn dequmlo_test_build_tail(
 ) -> u32 {
     tail_build::build_tail(out, level, tree, n, k)
 }
+
+#[no_mangle]
+pub extern "C" fn dequmlo_test_build_query(
+    out: &mut [u8],
+    levels: &[u64],
+    trees: &[u8],
+    n: usize,
+    k: usize,
+    position: usize,
+) -> u32 {
+    query_build::build_query(out, levels, trees, n, k, position)
+}

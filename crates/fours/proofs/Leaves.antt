@@ -1,50 +1,29 @@
--- Four leaves of a tree at once: the values of a group as they are lent, and a turn of the loop.
-use Prim.Native.Nat.{ℕ, suc, _+_, _-_, _*_, _/_, _%_, _≤_, _<_}
+-- Four leaves of a tree at once: room for them, and a turn of the loop.
+use Prim.Native.Nat.{ℕ, _+_, _-_, _*_, _/_, _^_, _≤_, _<_}
 use mathlib.Core.Path.{_≡_, refl, sym, _∙_, ap, ap₂}
-use mathlib.Core.List.{List, [], _∷_, _++_}
-use native.Mathlib.Nat.{le-refl, mul-suc, mul-le-mul-left}
+use mathlib.Core.List.{List, _++_}
+use native.Mathlib.Nat.{le-refl, mul-comm, mul-le-mul-left}
 use native.Mathlib.Omega.{arith}
-use native.Mathlib.Numerals.{add-one}
-use lib.ListN.{length, take, drop, length-drop}
-use lib.Seq.{drop-drop, length-take-le, take-take}
+use lib.ListN.{length, take, drop}
+use lib.Seq.{drop-drop, take-take}
 use Rattle.laws.specs.Lists.{part, runs, flat, stored}
 use Rattle.laws.proofs.Lists.{part-same, flat-append, stored-nil}
 use Rattle.field.specs.Words.{words}
-use Rattle.field.proofs.Words.{take-words, drop-words}
 use Rattle.blake3.specs.Digest.{hash}
 use Rattle.merkle.specs.Message.{leafPrefix, leafRest, leafMessage}
-use Rattle.merkle.specs.Tree.{leafDigest, leavesFrom}
+use Rattle.merkle.specs.Tree.{depthOf, leafDigest, leavesFrom}
 use Rattle.merkle.specs.Shape.{Shape}
 use Rattle.merkle.proofs.Sizes.{group-room}
 use Rattle.messages.specs.Put.{Put}
-use Rattle.fours.specs.Fours.{four, Each}
-use Rattle.fours.proofs.Strides.{four-ext, four-hashed, put-then}
+use Rattle.strides.specs.Strides.{four, Each}
+use Rattle.strides.proofs.Values.{group-words, group-of-four}
+use Rattle.strides.proofs.Whole.{four-ext, four-hashed}
+use Rattle.fours.proofs.Walk.{put-then}
 use Rattle.fours.proofs.Splits.{four-leaves, leaves-split}
 
--- ---- values, as a part of a tree's
-
-pub group-length : (values : List ℕ) (from n : ℕ) → from + n ≤ length values → length (take (from + n - from) (drop from values)) ≡ n
-group-length values from n h = let e : from + n - from ≡ n = omega arith in rw e (length-take-le n (drop from values) (simp length-drop (omega arith)))
-
-pub group-words : (values : List ℕ) (from n width a : ℕ) → from ≡ 2 * a → n ≡ 2 * width → words (take (from + n - from) (drop from values)) ≡ take width (drop a (words values))
-group-words values from n width a h k =
-    let e : from + n - from ≡ 2 * width = omega arith in
-    rw (e, h) (take-words width (drop (2 * a) values) ∙ ap (take width) (drop-words a values))
-
--- group k of those that are lent
-pub rest-put : (m : List ℕ) (at n width g k from : ℕ) (values m′ : List ℕ) (next : ℕ) → from ≡ 2 * (width * k)
-    → Put m at n (leafRest width g (words (take (from + 2 * width - from) (drop from values)))) m′ next → Put m at n (leafRest width g (part width (width * k) (words values))) m′ next
-unfolding part
-rest-put m at n width g k from values m′ next e p = rw (group-words values from (2 * width) width (width * k) e refl) at p
-
--- group k of four ends within their values, and the next begins there
-pub group-of-four : (width k : ℕ) → k < 4 → 2 * (width * k) + 2 * width ≤ 8 * width
-group-of-four width k h =
-    let e : width * suc k ≤ width * 4 = mul-le-mul-left width (omega arith) in
-    omega (arith, e, mul-suc width k)
-
-pub next-group : (from width g : ℕ) → from ≡ 2 * (width * g) → from + 2 * width ≡ 2 * (width * (g + 1))
-next-group from width g h = rw (add-one g) (omega (arith, mul-suc width g))
+-- the groups up to one end within the values
+pub groups-room : (count width g : ℕ) → Shape count width → g ≤ count / width → width * g ≤ count
+groups-room count width g s h = omega (arith, s .whole, s .groups, mul-le-mul-left width h, ap (λ k. width * k) (s .groups), mul-comm width (2 ^ depthOf count width))
 
 -- four groups that begin among the groups end within the values
 pub four-room : (count width g : ℕ) → Shape count width → g + 4 ≤ count / width → width * g + 4 * width ≤ count

@@ -1,5 +1,4 @@
-pub mod Blocks
-pub mod Strides
 pub mod Splits
+pub mod Walk
 pub mod Leaves
 pub mod Parents

@@ -1,7 +1,7 @@
--- Four nodes of a level at once: the children as they are read, and a turn of the loop.
-use Prim.Native.Nat.{ℕ, suc, _+_, _-_, _*_, _/_, _%_, _≤_, _<_}
+-- Four nodes of a level at once: a turn of the loop.
+use Prim.Native.Nat.{ℕ, _+_, _-_, _*_, _≤_}
 use mathlib.Core.Path.{_≡_, refl, sym, _∙_, ap, ap₂}
-use mathlib.Core.List.{List, [], _∷_, _++_}
+use mathlib.Core.List.{List, _++_}
 use native.Mathlib.Omega.{arith}
 use lib.ListN.{length, take, drop}
 use lib.Seq.{drop-drop}
@@ -12,14 +12,10 @@ use Rattle.merkle.specs.Message.{prefixed, nodePrefix}
 use Rattle.merkle.specs.Tree.{nodeDigest, parents}
 use Rattle.merkle.proofs.Message.{nodeMessage-is}
 use Rattle.messages.specs.Put.{Put}
-use Rattle.fours.specs.Fours.{four, Each}
-use Rattle.fours.proofs.Strides.{four-ext, four-hashed, put-then}
+use Rattle.strides.specs.Strides.{four, Each}
+use Rattle.strides.proofs.Whole.{four-ext, four-hashed}
+use Rattle.fours.proofs.Walk.{put-then}
 use Rattle.fours.proofs.Splits.{four-parents, parents-split}
-
--- node k of four: its children stand one after the other
-pub rest-put : (m : List ℕ) (at n from i : ℕ) (tree l r m′ : List ℕ) {next : ℕ} → from ≡ i → l ≡ part 32 from tree → r ≡ part 32 (from + 32) tree
-    → Put m at n (prefixed l ++ prefixed r) m′ next → Put m at n (prefixed (part 32 i tree) ++ prefixed (part 32 (i + 32) tree)) m′ next
-rest-put m at n from i tree l r m′ e el er p = rw (el, er, e) at p
 
 -- the first turn, and after the last
 pub parents-begin : (domain : List ℕ) (level all dst : ℕ) (l tree : List ℕ) → stored tree dst (flat (parents hash domain level (runs 32 (2 * (all - 0)) l))) ≡ stored tree dst (flat (parents hash domain level (runs 32 (2 * all) l)))

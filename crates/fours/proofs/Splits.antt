@@ -4,14 +4,15 @@ use mathlib.Core.Path.{_≡_, refl, sym, _∙_, ap, ap₂}
 use mathlib.Core.List.{List, [], _∷_, _++_}
 use native.Mathlib.Nat.{suc-add}
 use native.Mathlib.Omega.{arith}
-use lib.ListN.{length, getD, take, drop}
-use lib.Seq.{drop-drop}
-use Rattle.laws.specs.Lists.{part, runs}
-use Rattle.laws.proofs.Lists.{length-runs, getD-runs}
+use lib.ListN.{length, getD, take, drop, length-append}
+use lib.Seq.{drop-drop, take-take}
+use Rattle.laws.specs.Lists.{part, runs, flat}
+use Rattle.laws.proofs.Lists.{take-drop, length-runs, getD-runs}
+use Rattle.merkle.specs.Message.{leafMessage}
 use Rattle.merkle.specs.Tree.{leafDigest, leavesFrom, nodeDigest, parents}
 use Rattle.merkle.proofs.Levels.{parents-at}
-use Rattle.fours.specs.Fours.{four}
-use Rattle.fours.proofs.Strides.{four-ext}
+use Rattle.strides.specs.Strides.{four}
+use Rattle.strides.proofs.Whole.{four-ext}
 
 pub runs-add : (n a b : ℕ) (l : List ℕ) → runs n (a + b) l ≡ runs n a l ++ runs n b (drop (n * a) l)
 unfolding runs
@@ -20,6 +21,16 @@ runs-add n (suc a) b l =
     rw (suc-add a b)
     (ap (λ (r : List (List ℕ)). take n l ∷ r)
     (runs-add n a b (drop n l) ∙ ap (λ (x : List ℕ). runs n a (drop n l) ++ runs n b x) (drop-drop (n * a) n l ∙ ap (λ i. drop i l) (let e : n + n * a ≡ n * suc a = omega arith in e))))
+
+-- lists with one beginning have the same items in it
+pub runs-same : (n c : ℕ) (l m : List ℕ) → take (n * c) l ≡ take (n * c) m → runs n c l ≡ runs n c m
+unfolding runs
+runs-same n zero l m e = refl
+runs-same n (suc c) l m e =
+    let k : n + n * c ≡ n * suc c = omega arith in
+    let e′ : take (n + n * c) l ≡ take (n + n * c) m = rw k e in
+    ap₂ (λ (x : List ℕ) (xs : List (List ℕ)). x ∷ xs) (sym (take-take n (n + n * c) l (omega arith)) ∙ ap (take n) e′ ∙ take-take n (n + n * c) m (omega arith))
+    (runs-same n c (drop n l) (drop n m) (take-drop (n * c) n l ∙ ap (drop n) e′ ∙ sym (take-drop (n * c) n m)))
 
 -- four items, by their places
 pub runs-four : (n : ℕ) (l : List ℕ) → runs n 4 l ≡ four (λ k. part n (n * k) l)
@@ -33,6 +44,12 @@ module _ (H : List ℕ → List ℕ) (domain : List ℕ) where
   leavesFrom-append count width g (x ∷ xs) ys =
       ap (λ (r : List (List ℕ)). leafDigest H domain count width g x ∷ r)
       (leavesFrom-append count width (suc g) xs ys ∙ ap (λ i. leavesFrom H domain count width (suc g) xs ++ leavesFrom H domain count width i ys) (let e : suc g + length xs ≡ g + suc (length xs) = omega arith in e))
+
+  pub length-flat-leaves : (sized : (m : List ℕ) → length (H m) ≡ 32) (count width g : ℕ) (xs : List (List ℕ)) → length (flat (leavesFrom H domain count width g xs)) ≡ 32 * length xs
+  unfolding leavesFrom leafDigest flat
+  length-flat-leaves sized count width g [] = omega arith
+  length-flat-leaves sized count width g (x ∷ xs) =
+      length-append (H (leafMessage domain count width g x)) (flat (leavesFrom H domain count width (suc g) xs)) ∙ omega (arith, sized (leafMessage domain count width g x), length-flat-leaves sized count width (suc g) xs)
 
   pub parents-append : (level n : ℕ) (xs ys : List (List ℕ)) → length xs ≡ 2 * n → parents H domain level (xs ++ ys) ≡ parents H domain level xs ++ parents H domain level ys
   unfolding parents

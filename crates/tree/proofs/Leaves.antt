@@ -1,30 +1,23 @@
--- The turns of the loop that writes the leaves.
+-- The turns of the loop that writes the leaves one by one, and the leaves made in two steps.
 use Prim.Native.Nat.{ℕ, suc, _+_, _-_, _*_, _/_, _≤_, _<_}
-use mathlib.Core.Path.{_≡_, sym, _∙_, ap, ap₂}
+use mathlib.Core.Path.{_≡_, refl, sym, _∙_, ap, ap₂}
 use mathlib.Core.List.{List, _++_}
 use native.Mathlib.Omega.{arith}
 use native.Mathlib.Nat.{mul-suc}
 use native.Mathlib.Numerals.{add-one}
-use lib.ListN.{length, take, drop, length-drop}
-use lib.Seq.{drop-drop, length-take-le}
+use lib.ListN.{length, take, drop}
+use lib.Seq.{drop-drop}
 use Rattle.laws.specs.Lists.{runs, flat, stored}
-use Rattle.laws.proofs.Lists.{stored-nil, stored-append}
+use Rattle.laws.proofs.Lists.{length-runs, flat-append, stored-append, then-stored}
 use Rattle.field.specs.Words.{words}
 use Rattle.blake3.specs.Digest.{hash}
+use Rattle.blake3.proofs.HashMode.{length-hash}
 use Rattle.merkle.specs.Message.{leafPrefix, leafRest, leafMessage}
 use Rattle.merkle.specs.Tree.{leafDigest, leavesFrom, leaves}
 use Rattle.messages.specs.Put.{Put}
 use Rattle.digests.specs.Hashed.{Hashed}
-use Rattle.field.proofs.Words.{take-words, drop-words}
-
--- a group's halves, as a part of the values
-pub group-length : (values : List ℕ) (from n : ℕ) → from + n ≤ length values → length (take (from + n - from) (drop from values)) ≡ n
-group-length values from n h = let e : from + n - from ≡ n = omega arith in rw e (length-take-le n (drop from values) (simp length-drop (omega arith)))
-
-group-words : (values : List ℕ) (from width a : ℕ) → from ≡ 2 * a → words (take (from + 2 * width - from) (drop from values)) ≡ take width (drop a (words values))
-group-words values from width a h =
-    let e : from + 2 * width - from ≡ 2 * width = omega arith in
-    rw (e, h) (take-words width (drop (2 * a) values) ∙ ap (take width) (drop-words a values))
+use Rattle.strides.proofs.Values.{group-words}
+use Rattle.fours.proofs.Splits.{length-flat-leaves, leaves-split}
 
 module _ (domain : List ℕ) (count width g : ℕ) (values : List ℕ) where
   -- the digest of group g, by the prefix that is kept
@@ -33,7 +26,7 @@ module _ (domain : List ℕ) (count width g : ℕ) (values : List ℕ) where
       → d ≡ leafDigest hash domain count width g (take width (drop (width * g) (words values)))
   unfolding leafDigest leafMessage
   group-hashed message message′ d prefix from a e h =
-      h .digest ∙ ap₂ (λ (p : List ℕ) (vs : List ℕ). hash (p ++ leafRest width g vs)) e (group-words values from width (width * g) a)
+      h .digest ∙ ap₂ (λ (p : List ℕ) (vs : List ℕ). hash (p ++ leafRest width g vs)) e (group-words values from (2 * width) width (width * g) a refl)
 
   pub leaves-step : (groups : ℕ) (message message′ d tree tree′ r : List ℕ) (prefix from to k : ℕ) → g < groups → from ≡ 2 * (width * g) → take prefix message ≡ leafPrefix domain count width
       → Hashed message prefix (leafRest width g (words (take (from + 2 * width - from) (drop from values)))) message′ d → Put tree to (length d) d tree′ k
@@ -49,17 +42,17 @@ module _ (domain : List ℕ) (count width g : ℕ) (values : List ℕ) where
       ap₂ (λ (i : ℕ) (ws : List ℕ). stored tree′ k (flat (leavesFrom hash domain count width i (runs width (groups - (g + 1)) ws)))) (add-one g) (ap (λ i. drop i (words values)) (sym z) ∙ sym (drop-drop width (width * g) (words values)))
       ∙ q ∙ ap (λ (y : List ℕ). stored tree to (y ++ rest)) x ∙ (rw m at f)
 
-pub leaves-end : (domain : List ℕ) (count width groups g to : ℕ) (l tree r : List ℕ) → groups ≤ g → stored tree to (flat (leavesFrom hash domain count width g (runs width (groups - g) l))) ≡ r → tree ≡ r
-unfolding leavesFrom runs flat
-leaves-end domain count width groups g to l tree r h e = let m : groups - g ≡ 0 = omega arith in rw (m, stored-nil) at e
-
-pub leaves-begin : (domain : List ℕ) (count width : ℕ) (ws tree : List ℕ)
-    → stored tree 0 (flat (leavesFrom hash domain count width 0 (runs width (count / width - 0) (drop (width * 0) ws)))) ≡ stored tree 0 (flat (leaves hash domain count width ws))
+-- the leaves up to a group, and those from it on, are all of them
+pub leaves-join : (domain : List ℕ) (count width done : ℕ) (ws t t1 t2 : List ℕ) → done ≤ count / width → t1 ≡ stored t 0 (flat (leavesFrom hash domain count width 0 (runs width done ws)))
+    → t2 ≡ stored t1 (32 * done) (flat (leavesFrom hash domain count width done (runs width (count / width - done) (drop (width * done) ws)))) → t2 ≡ stored t 0 (flat (leaves hash domain count width ws))
 unfolding leaves
-leaves-begin domain count width ws tree =
-    let m : count / width - 0 ≡ count / width = omega arith in
-    let z : width * 0 ≡ 0 = omega arith in
-    rw (m, z)
-
-pub next-group : (from width g : ℕ) → from ≡ 2 * (width * g) → from + 2 * width ≡ 2 * (width * (g + 1))
-next-group from width g h = rw (add-one g) (omega (arith, mul-suc width g))
+leaves-join domain count width done ws t t1 t2 h e f =
+    let rest : ℕ = count / width - done in
+    let s : done + rest ≡ count / width = omega arith in
+    let z : 0 + done ≡ done = omega arith in
+    let a : List (List ℕ) = leavesFrom hash domain count width 0 (runs width done ws) in
+    let b : List (List ℕ) = leavesFrom hash domain count width done (runs width rest (drop (width * done) ws)) in
+    let n : length (flat a) ≡ 32 * done = length-flat-leaves hash domain length-hash count width 0 (runs width done ws) ∙ ap (λ i. 32 * i) (length-runs width done ws) in
+    let split : leavesFrom hash domain count width 0 (runs width (count / width) ws) ≡ a ++ b
+    = ap (λ i. leavesFrom hash domain count width 0 (runs width i ws)) (sym s) ∙ (rw z at (leaves-split hash domain count width 0 done rest ws)) in
+    then-stored t t1 t2 0 (32 * done) (flat a) (flat b) e (omega arith) f ∙ ap (stored t 0) (sym (flat-append a b) ∙ ap flat (sym split))

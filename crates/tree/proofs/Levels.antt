@@ -17,6 +17,7 @@ use Rattle.merkle.proofs.Message.{nodeMessage-is}
 use Rattle.merkle.proofs.Levels.{length-parents, parents-long, length-endToEnd, endToEnd-long}
 use Rattle.messages.specs.Put.{Put}
 use Rattle.digests.specs.Hashed.{Hashed}
+use Rattle.fours.proofs.Splits.{runs-same, parents-split}
 
 -- ---- one level above another
 
@@ -43,15 +44,26 @@ module _ (domain : List ℕ) (level half j src dst k below : ℕ) (tree₀ tree 
       q ∙ ap (λ (u : List ℕ). stored tree dst (u ++ rest)) (z ∙ ap₂ (λ (a b : List ℕ). nodeDigest hash domain level a b) x y)
       ∙ (rw (m, drop-drop 32 src tree₀, drop-drop 32 (src + 32) tree₀, s) at f)
 
-pub parents-same : (below dst k : ℕ) (tree₀ tree tree′ d : List ℕ) → take below tree ≡ take below tree₀ → below ≤ dst → Put tree dst (length d) d tree′ k → take below tree′ ≡ take below tree₀
-parents-same below dst k tree₀ tree tree′ d same h p = ap (take below) (p .bytes) ∙ take-stored below tree dst d h ∙ same
-
-pub parents-end : (domain : List ℕ) (level half j dst : ℕ) (l tree r : List ℕ) → half ≤ j → stored tree dst (flat (parents hash domain level (runs 32 (2 * (half - j)) l))) ≡ r → tree ≡ r
-unfolding parents runs flat
-parents-end domain level half j dst l tree r h e = let m : 2 * (half - j) ≡ 0 = omega arith in rw (m, stored-nil) at e
-
-pub parents-begin : (domain : List ℕ) (level half dst : ℕ) (l tree : List ℕ) → stored tree dst (flat (parents hash domain level (runs 32 (2 * (half - 0)) l))) ≡ stored tree dst (flat (parents hash domain level (runs 32 (2 * half) l)))
-parents-begin domain level half dst l tree = let m : half - 0 ≡ half = omega arith in rw m
+-- the parents up to one, and those from it on, are all of them
+pub parents-join : (domain : List ℕ) (level from half done : ℕ) (t t1 t2 : List ℕ) → done ≤ half → from + 96 * half ≤ length t
+    → t1 ≡ stored t (from + 64 * half) (flat (parents hash domain level (runs 32 (2 * done) (drop from t))))
+    → t2 ≡ stored t1 (from + 64 * half + 32 * done) (flat (parents hash domain level (runs 32 (2 * (half - done)) (drop (from + 64 * done) t1)))) → t2 ≡ stored t (from + 64 * half) (flat (parents hash domain level (runs 32 (2 * half) (drop from t))))
+unfolding part
+parents-join domain level from half done t t1 t2 h room e f =
+    let rest : ℕ = half - done in
+    let below : ℕ = from + 64 * half in
+    let s : done + rest ≡ half = omega arith in
+    let j : from + 32 * (2 * done) ≡ from + 64 * done = omega arith in
+    let a : List (List ℕ) = parents hash domain level (runs 32 (2 * done) (drop from t)) in
+    let b : List (List ℕ) = parents hash domain level (runs 32 (2 * rest) (drop (from + 64 * done) t)) in
+    let n : length (flat a) ≡ 32 * done = length-flat 32 a (parents-long hash domain length-hash level (runs 32 (2 * done) (drop from t))) ∙ ap (λ k. 32 * k) (length-parents hash domain level done (runs 32 (2 * done) (drop from t)) (length-runs 32 (2 * done) (drop from t))) in
+    let same : take below t1 ≡ take below t = ap (take below) e ∙ take-stored below t below (flat a) (omega arith) in
+    let read : runs 32 (2 * rest) (drop (from + 64 * done) t1) ≡ runs 32 (2 * rest) (drop (from + 64 * done) t) = runs-same 32 (2 * rest) _ _ (part-same below (32 * (2 * rest)) (from + 64 * done) t1 t same (omega arith)) in
+    let split : parents hash domain level (runs 32 (2 * half) (drop from t)) ≡ a ++ b
+    = ap (λ k. parents hash domain level (runs 32 (2 * k) (drop from t))) (sym s) ∙ parents-split hash domain level 32 done rest (drop from t)
+    ∙ ap (λ (l : List ℕ). a ++ parents hash domain level (runs 32 (2 * rest) l)) (drop-drop (32 * (2 * done)) from t ∙ ap (λ k. drop k t) j) in
+    then-stored t t1 t2 below (below + 32 * done) (flat a) (flat b) e (omega arith) (f ∙ ap (λ (xs : List (List ℕ)). stored t1 (below + 32 * done) (flat (parents hash domain level xs))) read)
+    ∙ ap (stored t below) (sym (flat-append a b) ∙ ap flat (sym split))
 
 -- ---- all levels
 

@@ -11,9 +11,12 @@ use Rattle.blake3.specs.Digest.{hash}
 use Rattle.merkle.specs.Message.{leafPrefix}
 use Rattle.merkle.specs.Tree.{leavesFrom}
 use Rattle.digests.proofs.Messages.{message-length, prefix-is}
-use Rattle.fours.specs.Fours.{Each, byFours}
-use Rattle.fours.proofs.Strides.{Begun, begun, front-sized, prefixes-stand, kept-whole, common}
-use Rattle.fours.proofs.Leaves.{group-length, four-room, leaves-begin, leaves-turn, leaves-end}
+use Rattle.strides.specs.Strides.{Each}
+use Rattle.strides.proofs.Values.{group-length}
+use Rattle.strides.proofs.Whole.{prefixes-stand, kept-whole, common}
+use Rattle.fours.specs.Fours.{byFours}
+use Rattle.fours.proofs.Walk.{Begun, begun, front-sized}
+use Rattle.fours.proofs.Leaves.{four-room, leaves-begin, leaves-turn, leaves-end}
 use Rattle.fours.proofs.put_leaves.Statement.{statement}
 use Rattle.fours.proofs.put_leaves.Tie as tie
 

@@ -10,8 +10,10 @@ use Rattle.blake3.specs.Digest.{hash}
 use Rattle.merkle.specs.Message.{nodePrefix}
 use Rattle.merkle.specs.Tree.{parents}
 use Rattle.digests.proofs.Messages.{message-length, prefix-is}
-use Rattle.fours.specs.Fours.{Each, byFours}
-use Rattle.fours.proofs.Strides.{Begun, begun, front-sized, prefixes-stand, kept-whole, common}
+use Rattle.strides.specs.Strides.{Each}
+use Rattle.strides.proofs.Whole.{prefixes-stand, kept-whole, common}
+use Rattle.fours.specs.Fours.{byFours}
+use Rattle.fours.proofs.Walk.{Begun, begun, front-sized}
 use Rattle.fours.proofs.Parents.{parents-begin, parents-turn, parents-end, below-kept}
 use Rattle.fours.proofs.put_parents.Statement.{statement}
 use Rattle.fours.proofs.put_parents.Tie as tie

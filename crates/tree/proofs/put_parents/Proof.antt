@@ -1,118 +1,38 @@
--- `tree::put_parents` meets its contract. The loop's invariant: storing the parents that are left gives the final buffer; the level below and the message's prefix are kept.
-use denote.Ref.{now}
-use Prim.Native.Nat.{ℕ, _≤_, _-_, _+_, _*_}
-use mathlib.Core.Path.{_≡_, refl, _∙_}
-use lib.ListN.{length, take, drop}
-use Rattle.laws.specs.Lists.{runs, flat, stored}
-use Rattle.blake3.specs.Digest.{hash}
-use Rattle.merkle.specs.Message.{nodePrefix}
-use Rattle.merkle.specs.Tree.{parents}
-use Rattle.digests.proofs.Messages.{prefix-is}
-use Rattle.tree.proofs.Levels.{parents-step, parents-same, parents-end, parents-begin}
-use borrow.Author.Needs.{needs}
+-- `tree::put_parents` meets its contract.
+use Rattle.fours.proofs.Walk.{byFours-le}
+use Rattle.tree.proofs.Levels.{parents-join}
 use native.Mathlib.Omega.{arith}
+use borrow.Author.Needs.{needs}
 use Rattle.tree.proofs.put_parents.Statement.{statement}
 use Rattle.tree.proofs.put_parents.Tie as tie
 
-abbrev Inv-loop : tie.InvT-loop
-Inv-loop tree₀ domain level from half message₀ prefix src₀ dst₀ j₀ tree message src dst j =
-    (j ≤ half) × (src ≡ from + 64 * j) × (dst ≡ from + 64 * half + 32 * j) × (length tree ≡ length tree₀) × (length message ≡ 391) × (take prefix message ≡ nodePrefix domain level)
-    × (take (from + 64 * half) tree ≡ take (from + 64 * half) tree₀)
-    × (stored tree dst (flat (parents hash domain level (runs 32 (2 * (half - j)) (drop src tree₀)))) ≡ stored tree₀ (from + 64 * half) (flat (parents hash domain level (runs 32 (2 * half) (drop from tree₀)))))
+slice-aggregate-put-parents : tie.Need-slice-aggregate-put-parents
+slice-aggregate-put-parents c = search needs
 
-abbrev μ-loop : tie.MeasureT-loop
-μ-loop tree₀ domain level from half message₀ prefix src₀ dst₀ j₀ tree message src dst j = half - j
+put-parents-requires : tie.Need-put-parents-requires
+put-parents-requires c κs = search needs
 
-slice-aggregate-node-prefix : tie.Need-slice-aggregate-node-prefix Inv-loop μ-loop
-slice-aggregate-node-prefix c = search needs
+slice-aggregate-put-parents-from : tie.Need-slice-aggregate-put-parents-from
+slice-aggregate-put-parents-from c = search needs
 
-node-prefix-requires : tie.Need-node-prefix-requires Inv-loop μ-loop
-node-prefix-requires c κs = search needs
+put-parents-from-requires : tie.Need-put-parents-from-requires
+put-parents-from-requires c κs =
+    let o = c .before .before .before .before .before .before .before .before .before .before in
+    (o .pre .0, omega arith, byFours-le _ _ _ (c .before .before .before .before .before .put-parents .ensures .0), omega arith)
 
-mul-dst : tie.Need-mul-dst Inv-loop μ-loop
-mul-dst c = search needs
-
-add-dst : tie.Need-add-dst Inv-loop μ-loop
-add-dst c = search needs
-
-loop-holds : tie.Need-loop-holds Inv-loop μ-loop
-loop-holds c = (search needs, search needs, search needs, refl, search needs, prefix-is _ _ _ _ _ (c .before .node-prefix .ensures) (omega arith), refl, parents-begin _ _ _ _ _ _)
-
-load-requires : tie.Need-load-requires Inv-loop μ-loop
-load-requires c κs = search needs
-
-add-load : tie.Need-add-load Inv-loop μ-loop
-add-load c = search needs
-
-load-requires-2 : tie.Need-load-requires-2 Inv-loop μ-loop
-load-requires-2 c κs = search needs
-
-slice-aggregate-hash-node : tie.Need-slice-aggregate-hash-node Inv-loop μ-loop
-slice-aggregate-hash-node c = search needs
-
-hash-node-requires : tie.Need-hash-node-requires Inv-loop μ-loop
-hash-node-requires c κs = search needs
-
-slice-aggregate-put : tie.Need-slice-aggregate-put Inv-loop μ-loop
-slice-aggregate-put c = search needs
-
-put-requires : tie.Need-put-requires Inv-loop μ-loop
-put-requires c κs = search needs
-
-add-src : tie.Need-add-src Inv-loop μ-loop
-add-src c = search needs
-
-add-j : tie.Need-add-j Inv-loop μ-loop
-add-j c = search needs
-
-loop-less : tie.Need-loop-less Inv-loop μ-loop
-loop-less c = search needs
-
-loop-again : tie.Need-loop-again Inv-loop μ-loop
-loop-again c =
-    let p = c .before .before in
-    let h = p .before .before .before .before in
-    let w = c .before .before .before .before .before .before .before .before .before .before .before .before in
-    let q = w .before .loop in
-    let a = c .before .before .before .before .before .before .before .before .before .before .before .before .before .before .before .before .before .before .before .args in
-    let below : ℕ = a .from + 64 * a .half in (
-      search needs,
-      search needs,
-      search needs,
-      search needs,
-      search needs,
-      (h .hash-node .ensures .kept) ∙ (q .inv .5),
-      parents-same below _ _ _ _ _ _ (q .inv .6) (omega arith) (p .put .ensures),
-      parents-step _ _ _ _ _ _ _ below (now (a .tree)) (q .tree) _ _ _ _ _ _ _ _ (q .inv .6) (w .loop-test .taken) (omega arith) (c .before .before .before .before .before .before .before .before .before .before .load .ensures) (c .before .before .before .before .before .before .before .before .load2 .ensures) (q .inv .5) (h .hash-node .ensures) (p .put .ensures) (q .inv .7),
-    )
-
-same-length : tie.Need-same-length Inv-loop μ-loop
+same-length : tie.Need-same-length
 same-length c = search needs
 
-returns : tie.Need-returns Inv-loop μ-loop
-returns c = parents-end _ _ _ _ _ _ _ _ (c .loop-test .left) (c .before .loop .inv .7)
+returns : tie.Need-returns
+returns c = parents-join _ _ _ _ _ _ _ _ (byFours-le _ _ _ (c .before .before .before .before .before .before .before .before .before .put-parents .ensures .0)) (c .before .before .before .before .before .before .before .before .before .before .before .before .before .before .pre .1) (c .before .before .before .before .before .before .before .before .before .put-parents .ensures .1) (c .before .before .before .put-parents-from .ensures)
 
 pub put-parents-spec : {M : Type 1} → statement M
 put-parents-spec =
     tie.close
     (tie.spec
-    Inv-loop
-    μ-loop
-    slice-aggregate-node-prefix
-    node-prefix-requires
-    mul-dst
-    add-dst
-    loop-holds
-    load-requires
-    add-load
-    load-requires-2
-    slice-aggregate-hash-node
-    hash-node-requires
-    slice-aggregate-put
-    put-requires
-    add-src
-    add-j
-    loop-less
-    loop-again
+    slice-aggregate-put-parents
+    put-parents-requires
+    slice-aggregate-put-parents-from
+    put-parents-from-requires
     same-length
     returns)

@@ -1,13 +1,13 @@
--- `fours::put_prefixes` meets its contract. The loop's invariant: the strides so far have the prefix at their fronts.
+-- `strides::put_prefixes` meets its contract. The loop's invariant: the strides so far have the prefix at their fronts.
 use Prim.Native.Nat.{_≤_, _-_, _+_, _*_}
 use mathlib.Core.Path.{_≡_, refl}
 use native.Mathlib.Omega.{arith}
 use lib.ListN.{length}
 use borrow.Author.Needs.{needs}
 use Rattle.laws.specs.Lists.{part}
-use Rattle.fours.proofs.Strides.{Filled, filled-begin, filled-step, prefixes-end}
-use Rattle.fours.proofs.put_prefixes.Statement.{statement}
-use Rattle.fours.proofs.put_prefixes.Tie as tie
+use Rattle.strides.proofs.Filling.{Filled, filled-begin, filled-step, prefixes-end}
+use Rattle.strides.proofs.put_prefixes.Statement.{statement}
+use Rattle.strides.proofs.put_prefixes.Tie as tie
 
 abbrev Inv-loop : tie.InvT-loop
 Inv-loop messages₀ prefix at₀ k₀ messages at k = (k ≤ 4) × (at ≡ 1024 * k) × (length messages ≡ length messages₀) × Filled messages₀ 0 (length prefix) (λ j. prefix) k messages

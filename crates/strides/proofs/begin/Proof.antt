@@ -1,13 +1,13 @@
--- `fours::begin` meets its contract.
+-- `strides::begin` meets its contract.
 use denote.Ref.{now}
 use Prim.Native.Nat.{ℕ, _/_}
 use mathlib.Core.Path.{_∙_, ap}
 use mathlib.Core.List.{List}
 use lib.ListN.{length}
 use borrow.Author.Needs.{needs}
-use Rattle.fours.specs.Fours.{firstBlocks}
-use Rattle.fours.proofs.begin.Statement.{statement}
-use Rattle.fours.proofs.begin.Tie as tie
+use Rattle.strides.specs.Strides.{firstBlocks}
+use Rattle.strides.proofs.begin.Statement.{statement}
+use Rattle.strides.proofs.begin.Tie as tie
 
 put-prefixes-requires : tie.Need-put-prefixes-requires
 put-prefixes-requires c κs = search needs

@@ -1,4 +1,4 @@
--- `fours::first_blocks` meets its contract. The loop's invariant: the blocks that are left give the chaining value of all.
+-- `strides::first_blocks` meets its contract. The loop's invariant: the blocks that are left give the chaining value of all.
 use denote.Ref.{now}
 use Prim.Native.Nat.{_≤_, _-_, _*_}
 use mathlib.Core.Path.{_≡_, refl}
@@ -6,10 +6,10 @@ use native.Mathlib.Omega.{arith}
 use lib.ListN.{length, drop}
 use borrow.Author.Needs.{needs}
 use Rattle.chunk.proofs.Chunk.{next-law}
-use Rattle.fours.specs.Fours.{blocksFrom, firstBlocks}
-use Rattle.fours.proofs.Blocks.{blocks-step, blocks-end, blocks-begin}
-use Rattle.fours.proofs.first_blocks.Statement.{statement}
-use Rattle.fours.proofs.first_blocks.Tie as tie
+use Rattle.strides.specs.Strides.{blocksFrom, firstBlocks}
+use Rattle.strides.proofs.Blocks.{blocks-step, blocks-end, blocks-begin}
+use Rattle.strides.proofs.first_blocks.Statement.{statement}
+use Rattle.strides.proofs.first_blocks.Tie as tie
 
 abbrev Inv-loop : tie.InvT-loop
 Inv-loop flags message blocks h₀ from₀ i₀ h from i = (i ≤ blocks) × (from ≡ 64 * i) × (blocksFrom flags (blocks - i) i h (drop from message) ≡ firstBlocks h₀ flags blocks message)

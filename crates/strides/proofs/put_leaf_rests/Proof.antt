@@ -1,4 +1,4 @@
--- `fours::put_leaf_rests` meets its contract. The loop's invariant: the messages so far are whole, and the prefixes of the others stand.
+-- `strides::put_leaf_rests` meets its contract. The loop's invariant: the messages so far are whole, and the prefixes of the others stand.
 use denote.Ref.{now}
 use Prim.Native.Nat.{_≤_, _-_, _+_, _*_}
 use mathlib.Core.Path.{_≡_, refl}
@@ -8,10 +8,10 @@ use borrow.Author.Needs.{needs}
 use Rattle.laws.specs.Lists.{part}
 use Rattle.field.specs.Words.{words}
 use Rattle.merkle.specs.Message.{leafRest}
-use Rattle.fours.proofs.Strides.{Filled, filled-begin, filled-step, filled-end}
-use Rattle.fours.proofs.Leaves.{group-length, group-of-four, next-group, rest-put}
-use Rattle.fours.proofs.put_leaf_rests.Statement.{statement}
-use Rattle.fours.proofs.put_leaf_rests.Tie as tie
+use Rattle.strides.proofs.Filling.{Filled, filled-begin, filled-step, filled-end, leaf-rest-put}
+use Rattle.strides.proofs.Values.{group-length, group-of-four, next-group}
+use Rattle.strides.proofs.put_leaf_rests.Statement.{statement}
+use Rattle.strides.proofs.put_leaf_rests.Tie as tie
 
 abbrev Inv-loop : tie.InvT-loop
 Inv-loop messages₀ prefix width group values from₀ at₀ k₀ messages from at k =
@@ -67,7 +67,7 @@ loop-again c =
       next-group _ _ _ (q .inv .1),
       search needs,
       search needs,
-      filled-step _ _ _ _ _ _ _ _ _ (w .loop-test .taken) (omega arith) (omega arith) (q .inv .2) (rest-put _ _ _ _ _ _ _ _ _ _ (q .inv .1) (c .before .before .leaf-rest .ensures)) (q .inv .4),
+      filled-step _ _ _ _ _ _ _ _ _ (w .loop-test .taken) (omega arith) (omega arith) (q .inv .2) (leaf-rest-put _ _ _ _ _ _ _ _ _ _ (q .inv .1) (c .before .before .leaf-rest .ensures)) (q .inv .4),
     )
 
 same-length : tie.Need-same-length Inv-loop μ-loop

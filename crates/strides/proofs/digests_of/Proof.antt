@@ -1,9 +1,9 @@
--- `fours::digests_of` meets its contract.
+-- `strides::digests_of` meets its contract.
 use denote.Ref.{now}
 use borrow.Author.Needs.{needs}
-use Rattle.fours.proofs.Strides.{lanes-hashed}
-use Rattle.fours.proofs.digests_of.Statement.{statement}
-use Rattle.fours.proofs.digests_of.Tie as tie
+use Rattle.strides.proofs.Digests.{lanes-hashed}
+use Rattle.strides.proofs.digests_of.Statement.{statement}
+use Rattle.strides.proofs.digests_of.Tie as tie
 
 mul-from : tie.Need-mul-from
 mul-from c = search needs

@@ -1,4 +1,4 @@
--- `fours::put_node_rests` meets its contract. The loop's invariant: the messages so far are whole, and the prefixes of the others stand.
+-- `strides::put_node_rests` meets its contract. The loop's invariant: the messages so far are whole, and the prefixes of the others stand.
 use denote.Ref.{now}
 use Prim.Native.Nat.{_≤_, _-_, _+_, _*_}
 use mathlib.Core.Path.{_≡_, refl}
@@ -8,10 +8,9 @@ use lib.ListN.{length}
 use borrow.Author.Needs.{needs}
 use Rattle.laws.specs.Lists.{part}
 use Rattle.merkle.specs.Message.{prefixed}
-use Rattle.fours.proofs.Strides.{Filled, filled-begin, filled-step, filled-end}
-use Rattle.fours.proofs.Parents.{rest-put}
-use Rattle.fours.proofs.put_node_rests.Statement.{statement}
-use Rattle.fours.proofs.put_node_rests.Tie as tie
+use Rattle.strides.proofs.Filling.{Filled, filled-begin, filled-step, filled-end, node-rest-put}
+use Rattle.strides.proofs.put_node_rests.Statement.{statement}
+use Rattle.strides.proofs.put_node_rests.Tie as tie
 
 abbrev Inv-loop : tie.InvT-loop
 Inv-loop messages₀ prefix tree src from₀ at₀ k₀ messages from at k =
@@ -57,7 +56,7 @@ loop-again c =
       search needs,
       search needs,
       filled-step _ _ _ _ _ _ _ _ _ (w .loop-test .taken) (omega arith) (omega arith) (q .inv .2)
-          (rest-put _ _ _ _ _ _ _ _ _ (q .inv .1) (c .before .before .before .before .before .load .ensures) (c .before .before .before .before .load2 .ensures) (c .before .before .node-rest .ensures)) (q .inv .4),
+          (node-rest-put _ _ _ _ _ _ _ _ _ (q .inv .1) (c .before .before .before .before .before .load .ensures) (c .before .before .before .before .load2 .ensures) (c .before .before .node-rest .ensures)) (q .inv .4),
     )
 
 same-length : tie.Need-same-length Inv-loop μ-loop

@@ -1,4 +1,4 @@
--- `fours::put_digests` meets its contract.
+-- `strides::put_digests` meets its contract.
 use denote.Ref.{now}
 use Prim.Native.Nat.{_*_}
 use native.Mathlib.Omega.{arith}
@@ -6,9 +6,9 @@ use borrow.Author.Needs.{needs}
 use Rattle.laws.specs.Lists.{part}
 use Rattle.blake3.specs.Digest.{hash}
 use Rattle.blake3.proofs.HashMode.{length-hash}
-use Rattle.fours.proofs.Strides.{put-length, lane-length, four-put}
-use Rattle.fours.proofs.put_digests.Statement.{statement}
-use Rattle.fours.proofs.put_digests.Tie as tie
+use Rattle.strides.proofs.Digests.{put-length, lane-length, four-put}
+use Rattle.strides.proofs.put_digests.Statement.{statement}
+use Rattle.strides.proofs.put_digests.Tie as tie
 
 digests-of-requires : tie.Need-digests-of-requires
 digests-of-requires c κs = search needs

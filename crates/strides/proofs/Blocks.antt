@@ -13,7 +13,7 @@ use Rattle.blake3.specs.Chunk.{next, chunkFrom, chunk}
 use Rattle.blake3.specs.Digest.{wordBytes, root, digest, hash}
 use Rattle.blake3.proofs.Tree.{tree-one}
 use Rattle.chunk.proofs.Chunk.{chunk-step}
-use Rattle.fours.specs.Fours.{blocksFrom, firstBlocks}
+use Rattle.strides.specs.Strides.{blocksFrom, firstBlocks}
 
 -- ---- the walk
 
