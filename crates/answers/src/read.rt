@@ -86,12 +86,14 @@ pub fn width(list: &[u8]) -> usize
     i + 1
 }
 
-// A case of a list: its line's number from 0, up to three numbers, and the answer.
+// A case of a list: its line's number from 0, up to five numbers, and the answer.
 pub struct Case {
     pub line: u64,
     pub a: usize,
     pub b: usize,
     pub c: usize,
+    pub d: usize,
+    pub e: usize,
     pub answer: Word,
 }
 
@@ -104,6 +106,8 @@ pub fn case_at(list: &[u8], from: usize, width: usize, line: u64) -> Case
         a: number(list, from),
         b: number(list, from + 6),
         c: number(list, from + 12),
+        d: number(list, from + 18),
+        e: number(list, from + 24),
         answer: word(list, from + width - 33),
     }
 }

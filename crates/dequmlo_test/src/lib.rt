@@ -4,6 +4,8 @@ use gf128::Inverse;
 use gf128::Word;
 use groups::Place;
 use hash::whole::Digested;
+use profiles::Parameters;
+use profiles::Profile;
 
 // 7 coordinates by value.
 #[repr(C)]
@@ -243,6 +245,15 @@ pub extern "C" fn dequmlo_test_build(
 }
 
 #[no_mangle]
+pub extern "C" fn dequmlo_test_serialize_parts(
+    bytes: &[u8],
+    lengths: &[u64],
+    out: &mut [u8],
+) -> u32 {
+    parts::serialize_parts(bytes, lengths, out)
+}
+
+#[no_mangle]
 pub extern "C" fn dequmlo_test_leaf_digest(
     domain: &[u8],
     count: usize,
@@ -343,4 +354,69 @@ pub extern "C" fn dequmlo_test_build_query(
     position: usize,
 ) -> u32 {
     query_build::build_query(out, levels, trees, n, k, position)
+}
+
+#[no_mangle]
+pub extern "C" fn dequmlo_test_fold_tree_width(length: usize) -> usize {
+    levels::fold_tree_width(length)
+}
+
+// The domain's length.
+#[no_mangle]
+pub extern "C" fn dequmlo_test_level_domain(out: &mut [u8], base: &[u8], level: usize) -> usize {
+    if level >= 100 {
+        return 0;
+    }
+    if out.len() < 9 {
+        return 0;
+    }
+    if base.len() > out.len() - 9 {
+        return 0;
+    }
+    levels::level_domain(out, base, level)
+}
+
+// The domain is the first `length` bytes.
+#[repr(C)]
+pub struct Params {
+    pub k: usize,
+    pub queries: usize,
+    pub domain: [u8; 24],
+    pub length: usize,
+}
+
+// The default, or profile 1 to 4.
+fn parameters_of(number: usize) -> Parameters {
+    match number {
+        1 => profiles::parameters_of(Profile::FastChunk),
+        2 => profiles::parameters_of(Profile::Balanced),
+        3 => profiles::parameters_of(Profile::CompactWrap),
+        4 => profiles::parameters_of(Profile::DeepWrap),
+        _ => profiles::default_parameters(),
+    }
+}
+
+#[no_mangle]
+pub extern "C" fn dequmlo_test_parameters(number: usize) -> Params {
+    let p = parameters_of(number);
+    let domain = p.domain;
+    Params {
+        k: p.k,
+        queries: p.queries,
+        domain,
+        length: p.length,
+    }
+}
+
+#[no_mangle]
+pub extern "C" fn dequmlo_test_commit(
+    n: usize,
+    k: usize,
+    base: &[u8],
+    table: &[u64],
+    gammas: &mut [u64],
+    codeword: &mut [u64],
+    tree: &mut [u8],
+) -> u32 {
+    seal::commit(n, k, base, table, gammas, codeword, tree)
 }

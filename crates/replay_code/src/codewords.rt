@@ -8,7 +8,7 @@ use answers::form::no_room;
 use answers::form::of_words;
 
 // n × k, for n up to 20 and k up to 4; 1,000 past them.
-fn gamma_count(n: usize, k: usize) -> usize
+pub fn gamma_count(n: usize, k: usize) -> usize
     ensures { λ r. ⌜ r ≤ 1000 ⌝ }
 {
     if n > 20 {
@@ -25,7 +25,7 @@ fn gamma_count(n: usize, k: usize) -> usize
 }
 
 // How many halves 2^e words have; 0 past this program's room.
-fn halves(e: usize) -> usize {
+pub fn halves(e: usize) -> usize {
     if e > 20 {
         return 0;
     }

@@ -26,7 +26,8 @@ pub fn level_domain(line: u64, length: usize, level: usize, s: &mut [u8], t: &mu
     of_bytes(0, t, end)
 }
 
-fn put_domain(out: &mut [u8], base: &[u8], level: usize) -> usize {
+// The domain of a level, where it has room; its length.
+pub fn put_domain(out: &mut [u8], base: &[u8], level: usize) -> usize {
     if level >= 100 {
         return 0;
     }

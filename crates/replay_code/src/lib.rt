@@ -1,7 +1,7 @@
 // Our answers to the cases on the code, ring switching, levels and parameters. A case that has no room in the lent buffers gets a number
 // that no entry answers.
-mod codewords;
-mod level;
+pub mod codewords;
+pub mod level;
 mod ring;
 
 use answers::form::Answer;

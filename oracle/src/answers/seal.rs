@@ -1,4 +1,7 @@
 //! The answers of committing and of building records: eval.rs and ring.rs.
+//!
+//! A case's numbers end with the sizes, in bytes, of what is lent: a tree, the
+//! trees and the record, the record and the last level's tree.
 
 use super::{of_bytes, of_words, Case, List};
 use oracle::query::{self as rust, Levels};
@@ -9,11 +12,10 @@ pub fn lists() -> Vec<List> {
         List {
             function: "commit",
             cases: sizes(0)
-                .map(|(case, n, k)| vec![n, k, DOMAINS[case % DOMAINS.len()]])
+                .map(|(case, n, k)| vec![n, k, DOMAINS[case % 6], tree_bytes(1 << (n + k))])
                 .collect(),
             answer: |case| {
-                let (_, k, domain, table) = committed(case);
-                let made = rust::commitment(k, &domain, &table);
+                let made = rust::commitment(case.numbers[1], &domain(case), &table(case));
                 let (gammas, codeword) = (of_words(&made.gammas), of_words(&made.codeword));
                 gammas + codeword + of_bytes(&made.digests.concat())
             },
@@ -23,33 +25,30 @@ pub fn lists() -> Vec<List> {
             cases: sizes(1)
                 .flat_map(|(_, n, k)| {
                     let last = (1 << (n + k)) - 1;
-                    [0, last / 3, last].map(|position| vec![n, k, position])
+                    let trees = 32 * rust::levels_digests(n, k);
+                    [0, last / 3, last].map(|at| vec![n, k, at, trees, record_bytes(n, k)])
                 })
                 .collect(),
             answer: |case| {
-                let [n, k, position] = case.all();
+                let [n, k, position, ..] = case.all::<5>();
                 let words = case.input(0).words(rust::levels_words(n, k));
                 let digests = case.input(1).digests(rust::levels_digests(n, k));
-                of_bytes(
-                    &Levels::lent(n, k, &words, &digests)
-                        .query(position)
-                        .to_bytes(),
-                )
+                let levels = Levels::lent(n, k, &words, &digests);
+                of_bytes(&levels.query(position).to_bytes())
             },
         },
         List {
             function: "build_tail",
             cases: sizes(1)
-                .map(|(case, n, k)| vec![n, k, DOMAINS[case % DOMAINS.len()]])
+                .map(|(case, n, k)| {
+                    vec![n, k, DOMAINS[case % 6], tail_bytes(k), tree_bytes(1 << k)]
+                })
                 .collect(),
             answer: |case| {
-                let (n, k, domain, table) = committed(case);
+                let [n, k, ..] = case.all::<5>();
                 let challenges = case.input(2).words(n);
-                of_bytes(
-                    &rust::prove(k, &domain, &table, &challenges, &[])
-                        .tail
-                        .to_bytes(),
-                )
+                let proof = rust::prove(k, &domain(case), &table(case), &challenges, &[]);
+                of_bytes(&proof.tail.to_bytes())
             },
         },
     ]
@@ -65,13 +64,36 @@ fn sizes(least: usize) -> impl Iterator<Item = (usize, usize, usize)> {
     small.enumerate().map(|(case, (n, k))| (case, n, k))
 }
 
-/// n, k, the domain and the table of a case.
-fn committed(case: &Case) -> (usize, usize, String, Vec<Word>) {
-    let [n, k, length] = case.all();
-    (
-        n,
-        k,
-        case.input(0).text(length),
-        case.input(1).words(1 << n),
-    )
+fn domain(case: &Case) -> String {
+    case.input(0).text(case.numbers[2])
+}
+
+fn table(case: &Case) -> Vec<Word> {
+    case.input(1).words(1 << case.numbers[0])
+}
+
+/// The groups that so many values make, and their width.
+fn groups(count: usize) -> (usize, usize) {
+    let width = rust::fold_tree_width(count);
+    (count / width, width)
+}
+
+fn tree_bytes(count: usize) -> usize {
+    32 * (2 * groups(count).0 - 1)
+}
+
+/// A group and its path.
+fn opening_bytes(count: usize) -> usize {
+    let (groups, width) = groups(count);
+    8 + 16 * width + 32 * groups.ilog2() as usize
+}
+
+fn record_bytes(n: usize, k: usize) -> usize {
+    let opened = |level: usize| opening_bytes(1 << (n + k - level));
+    let level = |level| 48 + opened(level) + opened(level + 1);
+    4 + (0..n).map(level).sum::<usize>()
+}
+
+fn tail_bytes(k: usize) -> usize {
+    4 + groups(1 << k).0 * opening_bytes(1 << k)
 }

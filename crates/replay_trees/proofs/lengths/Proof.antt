@@ -12,6 +12,9 @@ Inv-loop line out₀ sum₀ i₀ out sum i = (length out ≡ length out₀) × (
 abbrev μ-loop : tie.MeasureT-loop
 μ-loop line out₀ sum₀ i₀ out sum i = length out₀ - i
 
+returns : tie.Need-returns Inv-loop μ-loop
+returns c = search needs
+
 loop-holds : tie.Need-loop-holds Inv-loop μ-loop
 loop-holds c = search needs
 
@@ -42,8 +45,8 @@ loop-again c = search needs
 same-length : tie.Need-same-length Inv-loop μ-loop
 same-length c = search needs
 
-returns : tie.Need-returns Inv-loop μ-loop
-returns c = search needs
+returns-2 : tie.Need-returns-2 Inv-loop μ-loop
+returns-2 c = search needs
 
 pub lengths-spec : {M : Type 1} → statement M
 lengths-spec =
@@ -51,6 +54,7 @@ lengths-spec =
     (tie.spec
     Inv-loop
     μ-loop
+    returns
     loop-holds
     stream-requires
     number-requires
@@ -61,4 +65,4 @@ lengths-spec =
     loop-less
     loop-again
     same-length
-    returns)
+    returns-2)

@@ -24,7 +24,7 @@ slice-reshare-prefix-fold-partials : tie.Need-slice-reshare-prefix-fold-partials
 slice-reshare-prefix-fold-partials c = search needs
 
 slice-aggregate-fold-partials : tie.Need-slice-aggregate-fold-partials
-slice-aggregate-fold-partials c = sym (length-take-le _ _ (search needs))
+slice-aggregate-fold-partials c = sym (length-take-le 256 _ (search needs))
 
 stream-requires-2 : tie.Need-stream-requires-2
 stream-requires-2 c κs = search needs

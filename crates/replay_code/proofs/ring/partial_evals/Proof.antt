@@ -78,7 +78,7 @@ slice-relend-prefix-partial-evals : tie.Need-slice-relend-prefix-partial-evals
 slice-relend-prefix-partial-evals c = search needs
 
 slice-aggregate-partial-evals-3 : tie.Need-slice-aggregate-partial-evals-3
-slice-aggregate-partial-evals-3 c = sym (length-take-le _ _ (search needs))
+slice-aggregate-partial-evals-3 c = sym (length-take-le 256 _ (search needs))
 
 partial-evals-requires : tie.Need-partial-evals-requires
 partial-evals-requires c κs = search needs
