@@ -138,7 +138,8 @@ fn folds() {
     print_number(b"7: fold at var 1 at n = k = 1: ", b.number);
     let c = code::fold(0, 0, 0, small(1), &[1, 0], &mut none);
     print_number(b"7: fold at var 0 at n = k = 0: ", c.number);
-    let d = code::fold(1, 0, 1, small(1), &[1, 0, 2, 0], &mut one);
+    let mut last = [0u64; 2];
+    let d = code::fold(1, 0, 1, small(1), &[1, 0, 2, 0], &mut last);
     print_number(b"7: fold at var 1 at n = 1, k = 0: ", d.number);
 }
 

@@ -6,7 +6,7 @@ use answers::form::Answer;
 use answers::form::no_room;
 use answers::form::of_words;
 
-pub fn partial_evals(line: u64, n: usize, a: &mut [u64], b: &mut [u64], c: &mut [u64]) -> Answer {
+pub fn partial_evals(line: u64, n: usize, a: &mut [u64], b: &mut [u64]) -> Answer {
     if n > 20 {
         return no_room();
     }
@@ -19,19 +19,15 @@ pub fn partial_evals(line: u64, n: usize, a: &mut [u64], b: &mut [u64], c: &mut 
     if size > b.len() {
         return no_room();
     }
-    if 256 > c.len() {
-        return no_room();
-    }
-    let number = partials::partial_evals(n, &a[..size], &b[..size], &mut c[..256]);
-    of_words(number, c, 128)
+    let mut out = [0u64; 256];
+    let number = partials::partial_evals(n, &a[..size], &b[..size], &mut out);
+    of_words(number, &out, 128)
 }
 
-pub fn fold_partials(line: u64, a: &mut [u64]) -> Answer {
-    draw::words(a, 128, stream(line, 0));
-    if 256 > a.len() {
-        return no_room();
-    }
-    let r = partials::fold_partials(&a[..256], coefficients(stream(line, 1)));
+pub fn fold_partials(line: u64) -> Answer {
+    let mut s = [0u64; 256];
+    draw::words(&mut s, 128, stream(line, 0));
+    let r = partials::fold_partials(&s, coefficients(stream(line, 1)));
     let w = r.word;
     Answer {
         number: r.number,

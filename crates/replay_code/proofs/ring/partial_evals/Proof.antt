@@ -50,18 +50,6 @@ same-length-4 c = search needs
 returns-3 : tie.Need-returns-3
 returns-3 c = search needs
 
-no-room-requires-4 : tie.Need-no-room-requires-4
-no-room-requires-4 c κs = search needs
-
-same-length-5 : tie.Need-same-length-5
-same-length-5 c = search needs
-
-same-length-6 : tie.Need-same-length-6
-same-length-6 c = search needs
-
-returns-4 : tie.Need-returns-4
-returns-4 c = search needs
-
 slice-reshare-prefix-partial-evals : tie.Need-slice-reshare-prefix-partial-evals
 slice-reshare-prefix-partial-evals c = search needs
 
@@ -74,29 +62,26 @@ slice-reshare-prefix-partial-evals-2 c = search needs
 slice-aggregate-partial-evals-2 : tie.Need-slice-aggregate-partial-evals-2
 slice-aggregate-partial-evals-2 c = sym (length-take-le _ _ (search needs))
 
-slice-relend-prefix-partial-evals : tie.Need-slice-relend-prefix-partial-evals
-slice-relend-prefix-partial-evals c = search needs
-
 slice-aggregate-partial-evals-3 : tie.Need-slice-aggregate-partial-evals-3
-slice-aggregate-partial-evals-3 c = sym (length-take-le 256 _ (search needs))
+slice-aggregate-partial-evals-3 c = search needs
 
 partial-evals-requires : tie.Need-partial-evals-requires
 partial-evals-requires c κs = search needs
 
+slice-aggregate-of-words : tie.Need-slice-aggregate-of-words
+slice-aggregate-of-words c = search needs
+
 of-words-requires : tie.Need-of-words-requires
 of-words-requires c κs = search needs
 
-same-length-7 : tie.Need-same-length-7
-same-length-7 c = search needs
+same-length-5 : tie.Need-same-length-5
+same-length-5 c = search needs
 
-same-length-8 : tie.Need-same-length-8
-same-length-8 c = search needs
+same-length-6 : tie.Need-same-length-6
+same-length-6 c = search needs
 
-same-length-9 : tie.Need-same-length-9
-same-length-9 c = search needs
-
-returns-5 : tie.Need-returns-5
-returns-5 c = search needs
+returns-4 : tie.Need-returns-4
+returns-4 c = search needs
 
 pub partial-evals-spec : {M : Type 1} → statement M
 partial-evals-spec =
@@ -117,19 +102,14 @@ partial-evals-spec =
     same-length-3
     same-length-4
     returns-3
-    no-room-requires-4
-    same-length-5
-    same-length-6
-    returns-4
     slice-reshare-prefix-partial-evals
     slice-aggregate-partial-evals
     slice-reshare-prefix-partial-evals-2
     slice-aggregate-partial-evals-2
-    slice-relend-prefix-partial-evals
     slice-aggregate-partial-evals-3
     partial-evals-requires
+    slice-aggregate-of-words
     of-words-requires
-    same-length-7
-    same-length-8
-    same-length-9
-    returns-5)
+    same-length-5
+    same-length-6
+    returns-4)
