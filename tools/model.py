@@ -60,30 +60,40 @@ def some_words(label, count):
 
 # ---- BLAKE3
 
-IV = [0x6A09E667, 0xBB67AE85, 0x3C6EF372, 0xA54FF53A, 0x510E527F, 0x9B05688C, 0x1F83D9AB, 0x5BE0CD19]
+IV = (0x6A09E667, 0xBB67AE85, 0x3C6EF372, 0xA54FF53A, 0x510E527F, 0x9B05688C, 0x1F83D9AB, 0x5BE0CD19)
 PERMUTATION = [2, 6, 3, 10, 7, 0, 4, 13, 1, 11, 12, 5, 9, 14, 15, 8]
 QUARTERS = [(0, 4, 8, 12), (1, 5, 9, 13), (2, 6, 10, 14), (3, 7, 11, 15), (0, 5, 10, 15), (1, 6, 11, 12), (2, 7, 8, 13), (3, 4, 9, 14)]
 CHUNK_START, CHUNK_END, PARENT, ROOT_NODE = 1, 2, 4, 8
 
 
+def mix(s, a, b, c, d, x, y):
+    """The mixing of four of the 16 words of a state with two message words."""
+    low = 0xFFFFFFFF
+    p, q, r, t = s[a], s[b], s[c], s[d]
+    p = (p + q + x) & low
+    t ^= p
+    t = (t >> 16 | t << 16) & low
+    r = (r + t) & low
+    q ^= r
+    q = (q >> 12 | q << 20) & low
+    p = (p + q + y) & low
+    t ^= p
+    t = (t >> 8 | t << 24) & low
+    r = (r + t) & low
+    q ^= r
+    q = (q >> 7 | q << 25) & low
+    s[a], s[b], s[c], s[d] = p, q, r, t
+
+
+@functools.lru_cache(maxsize=1 << 16)
 def compress(h, block, counter, length, flags):
-    def rotr(x, n):
-        return (x >> n | x << (32 - n)) & 0xFFFFFFFF
-
-    def g(a, b, c, d, x, y):
-        for m, p, q in ((x, 16, 12), (y, 8, 7)):
-            s[a] = (s[a] + s[b] + m) & 0xFFFFFFFF
-            s[d] = rotr(s[d] ^ s[a], p)
-            s[c] = (s[c] + s[d]) & 0xFFFFFFFF
-            s[b] = rotr(s[b] ^ s[c], q)
-
-    s = h + IV[:4] + [counter & 0xFFFFFFFF, counter >> 32, length, flags]
-    m = list(struct.unpack("<16I", block))
+    s = [*h, *IV[:4], counter & 0xFFFFFFFF, counter >> 32, length, flags]
+    m = struct.unpack("<16I", block)
     for _ in range(7):
         for k, (a, b, c, d) in enumerate(QUARTERS):
-            g(a, b, c, d, m[2 * k], m[2 * k + 1])
+            mix(s, a, b, c, d, m[2 * k], m[2 * k + 1])
         m = [m[i] for i in PERMUTATION]
-    return [s[i] ^ s[i + 8] for i in range(8)]
+    return tuple(s[i] ^ s[i + 8] for i in range(8))
 
 
 def chunk_node(chunk, counter):
@@ -102,7 +112,6 @@ def parent_node(left, right):
     return (IV, struct.pack("<16I", *compress(*left), *compress(*right)), 0, 64, PARENT)
 
 
-@functools.lru_cache(maxsize=None)
 def blake3(message):
     """The digest in hash mode."""
     starts = range(0, max(len(message), 1), 1024)

@@ -85,8 +85,8 @@ pub fn l_of(n: usize, k: usize, eps: usize, gammas: &[u64], out: &mut [u64]) -> 
 
 // ---- the codeword
 
-// The halves of a slice, copied.
-fn copy(from: &[u64], to: &mut [u64])
+// The halves of a slice, copied. A helper, also for the crates above: it requires that the lengths agree.
+pub fn copy(from: &[u64], to: &mut [u64])
     requires { ⌜ length (now to) ≡ length (now from) ⌝ }
     ensures { λ _. ⌜ now (to .exit) ≡ now (from .entry) ⌝ }
 {

@@ -20,7 +20,7 @@ ghost use Rattle.hash.specs.Whole.{answered};
 ghost use Rattle.digests.specs.Hashed.{Hashed};
 
 // The digest of a message, in hash mode.
-fn digest(message: &[u8]) -> [u8; 32]
+pub fn digest(message: &[u8]) -> [u8; 32]
     requires { ⌜ length (now message) ≤ 2 ^ 24 ⌝ }
     ensures { λ r. ⌜ r ≡ hash (now (message .entry)) ⌝ }
 {

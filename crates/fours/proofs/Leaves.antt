@@ -1,6 +1,6 @@
 -- Four leaves of a tree at once: room for them, and a turn of the loop.
 use Prim.Native.Nat.{ℕ, _+_, _-_, _*_, _/_, _^_, _≤_, _<_}
-use mathlib.Core.Path.{_≡_, refl, sym, _∙_, ap, ap₂}
+use mathlib.Core.Path.{_≡_, sym, _∙_, ap}
 use mathlib.Core.List.{List, _++_}
 use native.Mathlib.Nat.{le-refl, mul-comm, mul-le-mul-left}
 use native.Mathlib.Omega.{arith}

@@ -1,4 +1,6 @@
-// Four leaves or four nodes of a tree at once. These are helpers for the crates above: they require.
+// Four leaves or four nodes of a tree at once. These are helpers for the crates above: they require. `messages` is a buffer to work in, and
+// nothing is said of what it holds afterwards.
+use groups::Group;
 use strides::begin;
 use strides::put_digests;
 use strides::put_leaf_rests;
@@ -47,7 +49,7 @@ pub fn put_leaves(
     let mut g: usize = 0;
     while g < all {
         let end = from + 8 * width;
-        put_leaf_rests(messages, prefix, width, g, &values[from..end]);
+        put_leaf_rests(messages, prefix, width, Group(g), &values[from..end]);
         to = put_digests(tree, to, h, blocks, messages, size);
         from = end;
         g += 4;

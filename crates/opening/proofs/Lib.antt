@@ -4,3 +4,4 @@ pub mod Paths
 pub mod Levels
 pub mod Numbers
 pub mod Words
+pub mod Again

@@ -12,6 +12,7 @@ use Rattle.blake3.specs.Digest.{hash}
 use Rattle.record.specs.Widths.{present, levelWidth, levelDepth}
 use Rattle.record.specs.Trees.{leadsTo}
 use Rattle.record.specs.Format.{runCount, runFits, runItems}
+use Rattle.opening.specs.declared.Opened.{Opened}
 
 -- c values from a place of s on
 unfoldable pub valuesFrom : List ℕ → ℕ → ℕ → List ℕ
@@ -49,3 +50,15 @@ openingQuestions base n k l place values path root first =
 
 unfoldable pub openingNumber : List ℕ → ℕ → ℕ → ℕ → ℕ → List ℕ → List (List ℕ) → List ℕ → ℕ → ℕ
 openingNumber base n k l place values path root first = firstNo (openingQuestions base n k l place values path root first)
+
+-- the group and the path at two places of s are all there, and every one of these questions has its yes
+pub record Leads (base : List ℕ) (n k l place : ℕ) (s : List ℕ) (group path : ℕ) (root : List ℕ) : Type 0 where
+  pub group-fits : runFits 16 (drop group s) ≡ true
+  pub path-fits : runFits 32 (drop path s) ≡ true
+  pub width-is : length (valuesAt s group) ≡ levelWidth present n k l
+  pub depth-is : length (digestsAt s path) ≡ levelDepth present n k l
+  pub root-is : leadsTo hash present base n k l place (valuesAt s group) (digestsAt s path) ≡ root
+
+-- where an opening is known, that is so of it
+abbrev pub Known : List ℕ → ℕ → ℕ → ℕ → ℕ → List ℕ → Opened → List ℕ → Type 0
+Known base n k l place s old root = old .known ≡ true → Leads base n k l place s (old .group) (old .path) root

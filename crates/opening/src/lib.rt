@@ -15,20 +15,23 @@ use reader::count_at;
 use reader::digest_at;
 use reader::word_at;
 ghost use mathlib.Core.Path.{_≡_};
-ghost use Prim.Native.Nat.{_+_, _*_, _≤_, _<_};
+ghost use mathlib.Core.Bool.{true};
+ghost use Prim.Native.Nat.{_+_, _*_, _/_, _≤_, _<_};
 ghost use lib.Dec.{eqb};
 ghost use lib.ListN.{length, take, drop};
-ghost use Rattle.laws.specs.Lists.{runs, same};
+ghost use Rattle.laws.specs.Lists.{part, runs, same};
 ghost use Rattle.field.specs.Words.{words};
 ghost use Rattle.gf128.specs.Word.{word};
 ghost use Rattle.merkle.specs.Tree.{left, right, leafDigest, nodeDigest, climb, rootOfPath};
 ghost use Rattle.blake3.specs.Digest.{hash};
 ghost use Rattle.record.specs.Widths.{present};
 ghost use Rattle.record.specs.Trees.{leadsTo};
-ghost use Rattle.opening.specs.Opening.{valuesFrom, valuesAt, digestsAt, Readable, Sized, openingNumber};
+ghost use Rattle.record.specs.Format.{runFits};
+ghost use Rattle.opening.specs.Opening.{valuesFrom, valuesAt, digestsAt, Readable, Sized, openingNumber, Known};
+ghost use Rattle.opening.specs.Again.{SizedOld, Same};
 
 // The values that stand from a place on, two halves each.
-fn group_values(s: &[u8], from: usize, width: usize) -> [u64; 16]
+pub fn group_values(s: &[u8], from: usize, width: usize) -> [u64; 16]
     requires { ⌜ (width ≤ 8) × (from + 16 * width ≤ length (now s)) ⌝ }
     ensures { λ r. ⌜ words (take (2 * width) r) ≡ valuesFrom (now (s .entry)) from width ⌝ }
 {
@@ -201,4 +204,81 @@ pub fn opening_number(
         return first + 2;
     }
     0
+}
+
+// A group and a path, by their places in a record, that are known to lead to a root; or none.
+pub struct Opened {
+    pub known: bool,
+    pub group: usize,
+    pub path: usize,
+}
+
+// Stand the same 32 bytes, as often as this, from two places of a record on?
+fn same_items(s: &[u8], i: usize, j: usize, count: usize) -> bool
+    requires { ⌜ (i + 32 * count ≤ length (now s)) × (j + 32 * count ≤ length (now s)) ⌝ }
+    ensures { λ r. ⌜ (r ≡ true → part (32 * count) i (now (s .entry)) ≡ part (32 * count) j (now (s .entry))) ⌝ }
+{
+    let mut t: usize = 0;
+    while t < count {
+        let d = digest_at(s, i + 32 * t);
+        let e = digest_at(s, j + 32 * t);
+        if !same_digest(d, e) {
+            return false;
+        }
+        t += 1;
+    }
+    true
+}
+
+// Have the group and the path at two places of a record the bytes of a known opening?
+fn same_opening(
+    s: &[u8],
+    group: usize,
+    path: usize,
+    old: Opened,
+    width: usize,
+    depth: usize,
+) -> bool
+    requires { ⌜ (runFits 16 (drop group (now s)) ≡ true) × (runFits 32 (drop path (now s)) ≡ true) × (width ≡ 2 * (width / 2)) × (old .known ≡ true → SizedOld (now s) old width depth) ⌝ }
+    ensures { λ r. ⌜ (r ≡ true → Same (now (s .entry)) group path old) ⌝ }
+{
+    if !old.known {
+        return false;
+    }
+    if count_at(s, group) != width {
+        return false;
+    }
+    if count_at(s, path) != depth {
+        return false;
+    }
+    if !same_items(s, group + 4, old.group + 4, width / 2) {
+        return false;
+    }
+    same_items(s, path + 4, old.path + 4, depth)
+}
+
+// As `opening_number`, for a level of at least two values. A record that was built opens a level twice with the same bytes, for c and for
+// the next level's a: what is known to lead to this root is not hashed again.
+pub fn opening_again(
+    base: &[u8],
+    n: usize,
+    k: usize,
+    l: usize,
+    place: usize,
+    s: &[u8],
+    group: usize,
+    path: usize,
+    root: [u8; 32],
+    first: u32,
+    old: Opened,
+) -> u32
+    requires { ⌜ (Readable (now base) n k l (now s) group path) × (l < n) × (first < 100) × (Known (now base) n k l place (now s) old root) ⌝ }
+    ensures { λ r. ⌜ r ≡ openingNumber (now (base .entry)) n k l place (valuesAt (now (s .entry)) group) (digestsAt (now (s .entry)) path) root first ⌝ }
+{
+    let w = level_width(n, k, l);
+    let d = level_depth(n, k, l);
+    if same_opening(s, group, path, old, w, d) {
+        return 0;
+    }
+    opening_number(base, n, k, l, place, s, group, path, root, first)
 }

@@ -3,3 +3,4 @@ pub mod Groups
 pub mod Level
 pub mod Numbers
 pub mod Loop
+pub mod Again

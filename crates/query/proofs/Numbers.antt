@@ -16,12 +16,12 @@ use Rattle.record.specs.Widths.{present, levelLength}
 use Rattle.record.specs.Format.{levelForm, runCount, recordWhole, recordItems}
 use Rattle.record.specs.Query.{Answer, sizeQuestions, checkLevels, queryQuestions, queryNumber, checkQuery}
 use Rattle.record.proofs.Ranges.{sizes-fit}
+use Rattle.record.proofs.Offsets.{first-length}
 use Rattle.query.specs.Level.{Allowed, Whole}
 
 -- a position is below the length of level 0
 below-first : (n k len : ℕ) → len ≡ levelLength n k 0 → len ≡ 2 ^ (n + k)
-unfolding levelLength
-below-first n k len e = e ∙ ap (λ (i : ℕ). 2 ^ i) {x = n + k - 0} {y = n + k} (omega arith)
+below-first n k len e = e ∙ first-length n k
 
 module _ (base : List ℕ) (n k position : ℕ) (challenges roots s : List ℕ) (x : ℕ) (ex : x ≡ sizeNumber n k) where
   -- what is put after question 4

@@ -6,6 +6,8 @@ use gf128::mul;
 use levels::level_length;
 use levels::level_width;
 use levels::size_number;
+use opening::Opened;
+use opening::opening_again;
 use opening::opening_number;
 use opening::same_word;
 use reader::Level;
@@ -25,8 +27,8 @@ ghost use Rattle.blake3.specs.Digest.{hash};
 ghost use Rattle.reader.specs.Places.{levelAt};
 ghost use Rattle.record.specs.Widths.{present};
 ghost use Rattle.record.specs.Format.{levelForm, levelOf, runCount, recordWhole, recordItems};
-ghost use Rattle.record.specs.Query.{pairOf, valueAt, levelNumber, checkLevels, queryNumber, checkQuery};
-ghost use Rattle.opening.specs.Opening.{valuesAt, digestsAt, Readable};
+ghost use Rattle.record.specs.Query.{pairOf, valueAt, rootAt, levelNumber, checkLevels, queryNumber, checkQuery};
+ghost use Rattle.opening.specs.Opening.{valuesAt, digestsAt, Readable, Known};
 ghost use Rattle.query.specs.Level.{aNumber, cNumber, WideGroup, Allowed, Whole};
 ghost use Rattle.query.specs.Answer.{answer};
 
@@ -37,7 +39,7 @@ pub struct Checked {
 }
 
 // The pair of level l, for a query at a position.
-fn pair_of(position: usize, l: usize) -> usize
+pub fn pair_of(position: usize, l: usize) -> usize
     requires { ⌜ l < 24 ⌝ }
     ensures { λ r. ⌜ r ≡ pairOf position l ⌝ }
 {
@@ -69,7 +71,7 @@ fn holds(s: &[u8], group: usize, width: usize, place: usize, w: Word) -> bool
     same_word(v, w)
 }
 
-// 16 to 21: the group of a and b, at place 2q and the one after it.
+// 16 to 21: the group of a and b, at place 2q and the one after it. It may be known from the level before, whose c it holds.
 fn a_number(
     base: &[u8],
     n: usize,
@@ -82,11 +84,12 @@ fn a_number(
     root: [u8; 32],
     a: Word,
     b: Word,
+    old: Opened,
 ) -> u32
-    requires { ⌜ (Readable (now base) n k l (now s) group path) × (q < 16777216) ⌝ }
+    requires { ⌜ (Readable (now base) n k l (now s) group path) × (q < 16777216) × (l < n) × (Known (now base) n k l (2 * q) (now s) old root) ⌝ }
     ensures { λ r. ⌜ r ≡ aNumber (now (base .entry)) n k l q (valuesAt (now (s .entry)) group) (digestsAt (now (s .entry)) path) root (word a) (word b) ⌝ }
 {
-    let x = opening_number(base, n, k, l, 2 * q, s, group, path, root, 16);
+    let x = opening_again(base, n, k, l, 2 * q, s, group, path, root, 16, old);
     if x != 0 {
         return x;
     }
@@ -130,7 +133,7 @@ fn c_number(
     0
 }
 
-// 16 to 26: the level at a place of the record.
+// 16 to 26: the level at a place of the record, of which the level before may have opened the group of a and b.
 fn level_number(
     base: &[u8],
     n: usize,
@@ -142,8 +145,9 @@ fn level_number(
     s: &[u8],
     at: usize,
     v: Level,
+    old: Opened,
 ) -> u32
-    requires { ⌜ (Allowed (now base) n k position (now challenges) (now roots)) × (l < n) × (v ≡ levelAt (now s) at) × (v .fits ≡ true) ⌝ }
+    requires { ⌜ (Allowed (now base) n k position (now challenges) (now roots)) × (l < n) × (v ≡ levelAt (now s) at) × (v .fits ≡ true) × (Known (now base) n k l (2 * pairOf position l) (now s) old (rootAt (now roots) l)) ⌝ }
     ensures { λ r. ⌜ r ≡ levelNumber hash present (now (base .entry)) n k position (now (challenges .entry)) (now (roots .entry)) l (levelOf (drop at (now (s .entry)))) ⌝ }
 {
     let q = pair_of(position, l);
@@ -151,7 +155,7 @@ fn level_number(
     let b = word_at(s, at + 16);
     let c = word_at(s, at + 32);
     let ra = load(roots, 32 * l);
-    let x = a_number(base, n, k, l, q, s, v.a_group, v.a_path, ra, a, b);
+    let x = a_number(base, n, k, l, q, s, v.a_group, v.a_path, ra, a, b, old);
     if x != 0 {
         return x;
     }
@@ -183,15 +187,25 @@ fn check_levels(
 {
     let mut l: usize = 0;
     let mut at: usize = 4;
+    let mut old = Opened {
+        known: false,
+        group: 0,
+        path: 0,
+    };
     while l < n {
         let v = level_at(s, at);
-        let q = level_number(base, n, k, position, challenges, roots, l, s, at, v);
+        let q = level_number(base, n, k, position, challenges, roots, l, s, at, v, old);
         if q != 0 {
             return Checked {
                 number: q,
                 level: l as u32,
             };
         }
+        old = Opened {
+            known: true,
+            group: v.c_group,
+            path: v.c_path,
+        };
         at = v.next;
         l = l + 1;
     }

@@ -140,7 +140,7 @@ fn put_levels(
 }
 
 // How many words the levels have: twice as many as the first, less the last.
-fn levels_length(n: usize, k: usize) -> usize
+pub fn levels_length(n: usize, k: usize) -> usize
     requires { ⌜ SizesFit n k ⌝ }
     ensures { λ r. ⌜ r ≡ levelsLength n k ⌝ }
 {
@@ -148,7 +148,7 @@ fn levels_length(n: usize, k: usize) -> usize
 }
 
 // How many bytes their trees have.
-fn trees_size(n: usize, k: usize) -> usize
+pub fn trees_size(n: usize, k: usize) -> usize
     requires { ⌜ SizesFit n k ⌝ }
     ensures { λ r. ⌜ r ≡ 32 * treeStart present n k (suc n) ⌝ }
 {
@@ -170,7 +170,7 @@ fn group_size(n: usize, k: usize, l: usize) -> usize
 }
 
 // How many bytes a query record has.
-fn query_size(n: usize, k: usize) -> usize
+pub fn query_size(n: usize, k: usize) -> usize
     requires { ⌜ SizesFit n k ⌝ }
     ensures { λ r. ⌜ r ≡ querySize present n k ⌝ }
 {

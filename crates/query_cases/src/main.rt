@@ -1,38 +1,22 @@
-// Query and tail records checked and built, against expected results. The file `cases` has a line for each case: its name, a colon,
-// `query` or `tail`, what is done (`check`, `build`, `damages` for every byte damaged three ways, `prefixes` for every proper prefix), n, k and a
-// position, and what is lent: base domain, words, digests and record. Each of these is put together of parts of the file `bytes`: the
-// number of parts, and each as its first place + its length. tools/query_vectors.py made both files, and what is to be printed, by
-// schoolbook arithmetic and document 01's questions, apart from the code. A line is printed for each case: its name and the answer.
+// Query and tail records checked and built, against expected results. A line is printed for each case: its name and what the entry answers.
+// The file `cases` has a line for each: the name, a colon, `query` or `tail`, what is done, n, k and a position, and what is lent: base
+// domain, words, digests and record. Each of these is put together of parts of the file `bytes`: the number of parts, and for each its first
+// place, + and its length. Done are `check` and `build`, which lends the record as the buffer, and with many records made of one: `damages`, every
+// byte changed by 1, 128 and 255, bit by bit; `every`, every byte changed to every other value; `prefixes`, every proper prefix.
+// tools/query_vectors.py made both files and what is to be printed, by schoolbook arithmetic and document 01's questions, apart from the code.
 ghost use mathlib.Core.Path.{_≡_};
 ghost use Prim.Native.Nat.{_≤_};
 ghost use lib.ListN.{length};
 
 mod records;
-mod script;
 
 use records::Given;
 use records::Kind;
-use script::Gathered;
 
 fn room() -> [u8; 262144]
     ensures { λ r. ⌜ 262144 ≡ length r ⌝ }
 {
     [0; 262144]
-}
-
-// The numbers of 8 bytes each, little-endian, as many as are whole and have room, and how many.
-fn halves(bytes: &[u8], out: &mut [u64]) -> usize
-    ensures { λ r. ⌜ r ≤ length (now (out .exit)) ⌝ }
-{
-    let mut i: usize = 0;
-    while i < out.len() {
-        if bytes.len() / 8 <= i {
-            return i;
-        }
-        out[i] = le::half_at(bytes, 8 * i);
-        i += 1;
-    }
-    i
 }
 
 // A case, once what it is lent is put together.
@@ -48,7 +32,8 @@ fn run(
     match done {
         b'c' => records::print_checked(name, given, base, words, digests, s),
         b'b' => records::print_built(name, given, words, digests, s),
-        b'd' => records::print_damages(name, given, base, words, digests, s),
+        b'd' => records::print_damages(name, given, base, words, digests, s, 127),
+        b'e' => records::print_damages(name, given, base, words, digests, s, 1),
         _ => records::print_prefixes(name, given, base, words, digests, s),
     }
 }
@@ -58,6 +43,12 @@ fn kind_of(b: u8) -> Kind {
         return Kind::Query;
     }
     Kind::Tail
+}
+
+// The numbers that an entry is given, and where they end.
+struct Numbers {
+    given: Given,
+    next: usize,
 }
 
 // The numbers of a line, whose kind of record stands at a place.
@@ -74,12 +65,6 @@ fn given_at(line: &[u8], at: usize) -> Numbers {
         },
         next: position.next,
     }
-}
-
-// The numbers that an entry is given, and where they end.
-struct Numbers {
-    given: Given,
-    next: usize,
 }
 
 // How many domain bytes, halves of words, digest bytes and record bytes a case is lent.
@@ -103,7 +88,7 @@ fn put_together(
     ensures { λ r. ⌜ (r .base ≤ length (now (base .exit))) × (r .words ≤ length (now (words .exit))) × (r .digests ≤ length (now (digests .exit))) × (r .s ≤ length (now (s .exit))) ⌝ }
 {
     let a = script::field(line, from, stored, base);
-    let b = put_words(line, a.next, stored, words);
+    let b = script::words(line, a.next, stored, words);
     let c = script::field(line, b.next, stored, digests);
     let d = script::field(line, c.next, stored, s);
     Lengths {
@@ -114,33 +99,21 @@ fn put_together(
     }
 }
 
-// Puts the halves of a field's words together.
-fn put_words(line: &[u8], from: usize, stored: &[u8], words: &mut [u64]) -> Gathered
-    ensures { λ r. ⌜ r .len ≤ length (now (words .exit)) ⌝ }
-{
-    let mut bytes = [0u8; 8192];
-    let b = script::field(line, from, stored, &mut bytes);
-    let n = b.len;
-    Gathered {
-        len: halves(&bytes[..n], words),
-        next: b.next,
-    }
-}
-
 // Runs a case, whose fields stand from a place of its line on.
-fn run_fields(
-    name: &[u8],
-    done: u8,
-    given: Given,
-    line: &[u8],
-    from: usize,
-    stored: &[u8],
-    base: &mut [u8],
-    words: &mut [u64],
-    digests: &mut [u8],
-    s: &mut [u8],
-) {
-    let lengths = put_together(line, from, stored, base, words, digests, s);
+fn run_fields(name: &[u8], done: u8, given: Given, line: &[u8], from: usize, stored: &[u8]) {
+    let mut base = [0u8; 256];
+    let mut words = [0u64; 1024];
+    let mut digests = [0u8; 8192];
+    let mut s = [0u8; 24576];
+    let lengths = put_together(
+        line,
+        from,
+        stored,
+        &mut base,
+        &mut words,
+        &mut digests,
+        &mut s,
+    );
     let a = lengths.base;
     let b = lengths.words;
     let c = lengths.digests;
@@ -157,14 +130,7 @@ fn run_fields(
 }
 
 // Runs the case of a line of at most 4,096 bytes.
-fn run_line(
-    line: &[u8],
-    stored: &[u8],
-    base: &mut [u8],
-    words: &mut [u64],
-    digests: &mut [u8],
-    s: &mut [u8],
-) {
+fn run_line(line: &[u8], stored: &[u8]) {
     if line.len() > 4096 {
         return;
     }
@@ -178,33 +144,18 @@ fn run_line(
         line,
         numbers.next,
         stored,
-        base,
-        words,
-        digests,
-        s,
     );
 }
 
-// Every line.
+// Runs every line.
 fn run_cases(cases: &[u8], stored: &[u8]) {
-    let mut base = [0u8; 256];
-    let mut words = [0u64; 1024];
-    let mut digests = [0u8; 8192];
-    let mut s = [0u8; 24576];
     let mut from: usize = 0;
     while from < cases.len() {
         let end = script::find(cases, from, 10);
         if end < from {
             return;
         }
-        run_line(
-            &cases[from..end],
-            stored,
-            &mut base,
-            &mut words,
-            &mut digests,
-            &mut s,
-        );
+        run_line(&cases[from..end], stored);
         from = end + 1;
     }
 }
@@ -215,8 +166,8 @@ fn main() {
     let n = io::read_full(file, &mut stored);
     libc::close(file);
     let mut cases = room();
-    let script = os::open_read(b"cases");
-    let m = io::read_full(script, &mut cases);
-    libc::close(script);
+    let lines = os::open_read(b"cases");
+    let m = io::read_full(lines, &mut cases);
+    libc::close(lines);
     run_cases(&cases[..m], &stored[..n]);
 }

@@ -51,7 +51,14 @@ fn check(given: Given, base: &[u8], words: &[u64], digests: &[u8], s: &[u8]) -> 
 fn build(given: Given, words: &[u64], digests: &[u8], s: &mut [u8]) -> u32 {
     let kind = given.kind;
     match kind {
-        Kind::Query => 99,
+        Kind::Query => query_build::build_query(
+            s,
+            words,
+            digests,
+            given.n,
+            given.k,
+            given.position,
+        ),
         Kind::Tail => tail_build::build_tail(s, words, digests, given.n, given.k),
     }
 }
@@ -108,7 +115,7 @@ fn tell(given: Given, base: &[u8], words: &[u64], digests: &[u8], s: &[u8], tall
     count(tally, r.number);
 }
 
-// The record with byte i in place of the right one.
+// The record with another byte i.
 fn with_byte(
     given: Given,
     base: &[u8],
@@ -127,7 +134,7 @@ fn with_byte(
     s[i] = right;
 }
 
-// Byte i with its lowest bit changed, with its highest bit changed, and greater by one.
+// Byte i changed by each mask: 1, and from there on in steps of this size.
 fn damage(
     given: Given,
     base: &[u8],
@@ -135,18 +142,20 @@ fn damage(
     digests: &[u8],
     s: &mut [u8],
     i: usize,
+    step: usize,
     tally: &mut [u64],
 )
-    requires { ⌜ i < length (now s) ⌝ }
+    requires { ⌜ (i < length (now s)) × (0 < step) × (step < 256) ⌝ }
 {
     let b = s[i];
-    with_byte(given, base, words, digests, s, i, b ^ 1, tally);
-    with_byte(given, base, words, digests, s, i, b ^ 128, tally);
-    let more = std::num::wrapping_add_u8(b, 1);
-    with_byte(given, base, words, digests, s, i, more, tally);
+    let mut mask: usize = 1;
+    while mask < 256 {
+        with_byte(given, base, words, digests, s, i, b ^ mask as u8, tally);
+        mask += step;
+    }
 }
 
-// Every byte damaged three ways.
+// Every byte changed by each mask.
 pub fn print_damages(
     name: &[u8],
     given: Given,
@@ -154,11 +163,14 @@ pub fn print_damages(
     words: &[u64],
     digests: &[u8],
     s: &mut [u8],
-) {
+    step: usize,
+)
+    requires { ⌜ (0 < step) × (step < 256) ⌝ }
+{
     let mut tally = [0u64; 34];
     let mut i: usize = 0;
     while i < s.len() {
-        damage(given, base, words, digests, s, i, &mut tally);
+        damage(given, base, words, digests, s, i, step, &mut tally);
         i += 1;
     }
     print_tally(name, tally);

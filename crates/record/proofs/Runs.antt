@@ -9,9 +9,9 @@ use lib.Arith.{digits-div}
 use lib.Dec.{leb}
 use lib.Pow.{pow-pos}
 use lib.ListN.{length, take, drop, length-append, length-drop, length-map, length-take, take-append-drop}
-use lib.Seq.{take-at, drop-at, drop-drop, take-add, length-take-le}
+use lib.Seq.{take-at, take-take, drop-at, drop-drop, take-add, length-take-le}
 use Rattle.laws.specs.Lists.{part, runs, flat, leBytes, leValue}
-use Rattle.laws.proofs.Lists.{AllLong, Bytes, length-leBytes, leValue-leBytes, length-runs, runs-flat, flat-runs, length-flat, length-part, both-true, runs-long}
+use Rattle.laws.proofs.Lists.{AllLong, Bytes, take-drop, length-leBytes, leValue-leBytes, length-runs, runs-flat, flat-runs, length-flat, length-part, both-true, runs-long}
 use Rattle.field.specs.Words.{joined}
 use Rattle.record.specs.Format.{wordBytes, runBytes, runCount, runSize, runFits, runItems, afterRun}
 use Rattle.laws.proofs.Bytes.{AllBelow, leBytes-leValue, leValue-append, leBytes-add, leBytes-low, leValue-lt, below-part, below-drop, below-take}
@@ -50,6 +50,14 @@ word-by-halves i t h =
 
 pub wordBytes-joined : (hi lo : ℕ) → lo < 2 ^ 64 → wordBytes (joined hi lo) ≡ leBytes 8 lo ++ leBytes 8 hi
 wordBytes-joined hi lo h = leBytes-add 8 8 (joined hi lo) ∙ ap₂ (λ (x : List ℕ) (y : ℕ). x ++ leBytes 8 y) (leBytes-low 8 hi lo) (digits-div hi h)
+
+-- items of a part that has them all
+pub runs-take : (n c : ℕ) (l : List ℕ) → runs n c (take (n * c) l) ≡ runs n c l
+unfolding runs
+runs-take n zero l = refl
+runs-take n (suc c) l =
+    let e : n * suc c ≡ n + n * c = omega arith in
+    rw e (ap₂ (λ (x : List ℕ) (y : List ℕ). x ∷ runs n c y) (take-take n (n + n * c) l (omega arith)) refl ∙ ap (λ (xs : List (List ℕ)). take n l ∷ xs) (ap (runs n c) (sym (take-drop (n * c) n l)) ∙ runs-take n c (drop n l)))
 
 -- ---- what was written
 
@@ -171,3 +179,8 @@ word-run-held t h fits = (
 
 pub run-few : (size : ℕ) (t : List ℕ) → Bytes t → Few (runItems size t)
 run-few size t h = rw (length-runItems size t) (count-few t h)
+
+-- the items of the run at a place, by the bytes that they take
+pub items-there : (size : ℕ) (s : List ℕ) (i c : ℕ) → runCount (drop i s) ≡ c → runItems size (drop i s) ≡ runs size c (part (size * c) (i + 4) s)
+unfolding runItems part
+items-there size s i c e = rw e (ap (runs size c) (drop-drop 4 i s) ∙ sym (runs-take size c (drop (i + 4) s)))

@@ -1,8 +1,10 @@
 // Four messages of one length at once. They stand at the fronts of the four strides of a lent buffer, a chunk each, and the whole blocks of
-// what they have in common are hashed once. These are helpers for the crates above: each requires that its bytes fit.
+// what they have in common are hashed once. These are helpers for the crates above: each requires that its bytes fit, and nothing is said
+// of the buffer's other bytes.
 use compress::compress;
 use compress::iv;
 use digests::load;
+use groups::Group;
 use node::first_eight;
 use node::start_flag;
 use node::words_at;
@@ -103,23 +105,24 @@ pub fn begin(messages: &mut [u8], prefix: &[u8]) -> [u32; 8]
     first_blocks(key, 0, prefix, prefix.len() / 64)
 }
 
-// What the leaf messages of four groups, of which the first has the number `group`, have after the prefix.
+// What the leaf messages of four groups, of which the first is given, have after the prefix.
 pub fn put_leaf_rests(
     messages: &mut [u8],
     prefix: usize,
     width: usize,
-    group: usize,
+    group: Group,
     values: &[u64],
 )
-    requires { ⌜ (length (now values) ≡ 8 * width) × (prefix + (24 + 16 * width) ≤ 1024) × (4096 ≤ length (now messages)) × (group < 2 ^ 32) ⌝ }
-    ensures { λ _. ⌜ Each (prefix + (24 + 16 * width)) (now (messages .exit)) (λ k. part prefix (1024 * k) (now (messages .entry)) ++ leafRest width (group + k) (part width (width * k) (words (now (values .entry))))) ⌝ }
+    requires { ⌜ (length (now values) ≡ 8 * width) × (prefix + (24 + 16 * width) ≤ 1024) × (4096 ≤ length (now messages)) × (group .0 < 2 ^ 32) ⌝ }
+    ensures { λ _. ⌜ Each (prefix + (24 + 16 * width)) (now (messages .exit)) (λ k. part prefix (1024 * k) (now (messages .entry)) ++ leafRest width (group .0 + k) (part width (width * k) (words (now (values .entry))))) ⌝ }
 {
+    let first = group.0;
     let mut from: usize = 0;
     let mut at: usize = prefix;
     let mut k: usize = 0;
     while k < 4 {
         let end = from + 2 * width;
-        messages::leaf_rest(messages, at, width, group + k, &values[from..end]);
+        messages::leaf_rest(messages, at, width, first + k, &values[from..end]);
         from = end;
         at += 1024;
         k += 1;

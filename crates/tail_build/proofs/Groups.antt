@@ -5,10 +5,9 @@ use mathlib.Core.List.{List, [], _∷_, _++_, map, append-assoc, append-nil}
 use native.Mathlib.Omega.{arith}
 use native.Mathlib.Numerals.{add-one}
 use native.Mathlib.Nat.{mul-comm, mul-div-cancel, mul-le-mul-right}
-use lib.ListN.{length, take, drop, length-map}
-use lib.Seq.{take-take}
+use lib.ListN.{length, drop, length-map}
 use Rattle.laws.specs.Lists.{part, runs, flat, stored, leBytes}
-use Rattle.laws.proofs.Lists.{stored-nil, stored-append, take-drop, length-part}
+use Rattle.laws.proofs.Lists.{stored-nil, stored-append, length-part}
 use Rattle.merkle.specs.Tree.{pathOf}
 use Rattle.merkle.proofs.Levels.{length-path}
 use Rattle.messages.specs.Put.{Put}
@@ -18,6 +17,7 @@ use Rattle.record.specs.Trees.{groupAt, pathAt}
 use Rattle.record.specs.Format.{tailForm, tailGroupBytes, runBytes, itemsBytes, recordBytes}
 use Rattle.record.specs.Build.{digests, openGroup, openGroups, tailBytes}
 use Rattle.record.proofs.Widths.{present-powers, level-shape, width-pos, groups-times-width}
+use Rattle.record.proofs.Runs.{runs-take}
 use Rattle.record.proofs.Build.{length-openGroups}
 use Rattle.writing.specs.Paths.{pathFrom}
 use Rattle.tail_build.specs.Groups.{groupBytes, Room}
@@ -54,14 +54,6 @@ groups-end out at values tree width depth groups g r e h =
     rw (z, stored-nil) at e
 
 -- ---- the last level's groups
-
--- items of a part that has them all
-runs-take : (n c : ℕ) (l : List ℕ) → runs n c (take (n * c) l) ≡ runs n c l
-unfolding runs
-runs-take n zero l = refl
-runs-take n (suc c) l =
-    let e : n * suc c ≡ n + n * c = omega arith in
-    rw e (ap₂ (λ (x : List ℕ) (y : List ℕ). x ∷ runs n c y) (take-take n (n + n * c) l (omega arith)) refl ∙ ap (λ (xs : List (List ℕ)). take n l ∷ xs) (ap (runs n c) (sym (take-drop (n * c) n l)) ∙ runs-take n c (drop n l)))
 
 module _ (n k : ℕ) (small : n + k ≤ 24) (values tree : List ℕ) (long : length values ≡ levelLength n k n) where
   width : ℕ

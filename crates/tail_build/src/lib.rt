@@ -62,7 +62,7 @@ fn put_groups(out: &mut [u8], level: &[u64], tree: &[u8], n: usize, k: usize) ->
 }
 
 // How many bytes a tail record has.
-fn tail_size(n: usize, k: usize) -> usize
+pub fn tail_size(n: usize, k: usize) -> usize
     requires { ⌜ SizesFit n k ⌝ }
     ensures { λ r. ⌜ r ≡ tailSize present n k ⌝ }
 {

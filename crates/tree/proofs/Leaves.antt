@@ -8,7 +8,7 @@ use native.Mathlib.Numerals.{add-one}
 use lib.ListN.{length, take, drop}
 use lib.Seq.{drop-drop}
 use Rattle.laws.specs.Lists.{runs, flat, stored}
-use Rattle.laws.proofs.Lists.{length-runs, flat-append, stored-append, then-stored}
+use Rattle.laws.proofs.Lists.{length-runs, flat-append, then-stored}
 use Rattle.field.specs.Words.{words}
 use Rattle.blake3.specs.Digest.{hash}
 use Rattle.blake3.proofs.HashMode.{length-hash}
@@ -18,6 +18,7 @@ use Rattle.messages.specs.Put.{Put}
 use Rattle.digests.specs.Hashed.{Hashed}
 use Rattle.strides.proofs.Values.{group-words}
 use Rattle.fours.proofs.Splits.{length-flat-leaves, leaves-split}
+use Rattle.fours.proofs.Walk.{put-then}
 
 module _ (domain : List ℕ) (count width g : ℕ) (values : List ℕ) where
   -- the digest of group g, by the prefix that is kept
@@ -38,9 +39,8 @@ module _ (domain : List ℕ) (count width g : ℕ) (values : List ℕ) where
       let m : groups - g ≡ suc (groups - (g + 1)) = omega arith in
       let z : width * g + width ≡ width * (g + 1) = rw (add-one g) (omega (arith, mul-suc width g)) in
       let rest : List ℕ = flat (leavesFrom hash domain count width (suc g) (runs width (groups - (g + 1)) (drop width (drop (width * g) (words values))))) in
-      let q : stored tree′ k rest ≡ stored tree to (d ++ rest) = ap₂ (λ (t : List ℕ) (i : ℕ). stored t i rest) (p .bytes) (p .end) ∙ sym (stored-append tree to d rest) in
       ap₂ (λ (i : ℕ) (ws : List ℕ). stored tree′ k (flat (leavesFrom hash domain count width i (runs width (groups - (g + 1)) ws)))) (add-one g) (ap (λ i. drop i (words values)) (sym z) ∙ sym (drop-drop width (width * g) (words values)))
-      ∙ q ∙ ap (λ (y : List ℕ). stored tree to (y ++ rest)) x ∙ (rw m at f)
+      ∙ put-then tree to (length d) d tree′ k rest r p (ap (λ (y : List ℕ). stored tree to (y ++ rest)) x ∙ (rw m at f))
 
 -- the leaves up to a group, and those from it on, are all of them
 pub leaves-join : (domain : List ℕ) (count width done : ℕ) (ws t t1 t2 : List ℕ) → done ≤ count / width → t1 ≡ stored t 0 (flat (leavesFrom hash domain count width 0 (runs width done ws)))

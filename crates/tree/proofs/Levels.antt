@@ -8,7 +8,7 @@ use lib.Pow.{pow-pos}
 use lib.ListN.{length, take, drop, length-drop}
 use lib.Seq.{drop-drop, length-take-le}
 use Rattle.laws.specs.Lists.{part, runs, flat, stored}
-use Rattle.laws.proofs.Lists.{AllLong, length-runs, runs-long, flat-runs, runs-flat, length-flat, stored-nil, stored-append, stored-all, stored-same, stored-over, then-stored, take-stored, drop-stored, part-same, flat-append}
+use Rattle.laws.proofs.Lists.{AllLong, length-runs, runs-long, flat-runs, runs-flat, length-flat, stored-all, stored-same, stored-over, then-stored, take-stored, drop-stored, part-same, flat-append}
 use Rattle.blake3.specs.Digest.{hash}
 use Rattle.blake3.proofs.HashMode.{length-hash}
 use Rattle.merkle.specs.Message.{prefixed, nodePrefix}
@@ -18,6 +18,7 @@ use Rattle.merkle.proofs.Levels.{length-parents, parents-long, length-endToEnd,
 use Rattle.messages.specs.Put.{Put}
 use Rattle.digests.specs.Hashed.{Hashed}
 use Rattle.fours.proofs.Splits.{runs-same, parents-split}
+use Rattle.fours.proofs.Walk.{put-then}
 
 -- ---- one level above another
 
@@ -40,9 +41,9 @@ module _ (domain : List ℕ) (level half j src dst k below : ℕ) (tree₀ tree 
       let m : 2 * (half - j) ≡ suc (suc (2 * (half - (j + 1)))) = omega arith in
       let s : src + 32 + 32 ≡ src + 64 = omega arith in
       let rest : List ℕ = flat (parents hash domain level (runs 32 (2 * (half - (j + 1))) (drop (src + 64) tree₀))) in
-      let q : stored tree′ k rest ≡ stored tree dst (d ++ rest) = ap₂ (λ (t : List ℕ) (i : ℕ). stored t i rest) (p .bytes) (p .end) ∙ sym (stored-append tree dst d rest) in
-      q ∙ ap (λ (u : List ℕ). stored tree dst (u ++ rest)) (z ∙ ap₂ (λ (a b : List ℕ). nodeDigest hash domain level a b) x y)
-      ∙ (rw (m, drop-drop 32 src tree₀, drop-drop 32 (src + 32) tree₀, s) at f)
+      put-then tree dst (length d) d tree′ k rest out p
+      (ap (λ (u : List ℕ). stored tree dst (u ++ rest)) (z ∙ ap₂ (λ (a b : List ℕ). nodeDigest hash domain level a b) x y)
+      ∙ (rw (m, drop-drop 32 src tree₀, drop-drop 32 (src + 32) tree₀, s) at f))
 
 -- the parents up to one, and those from it on, are all of them
 pub parents-join : (domain : List ℕ) (level from half done : ℕ) (t t1 t2 : List ℕ) → done ≤ half → from + 96 * half ≤ length t

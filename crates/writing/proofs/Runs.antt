@@ -1,12 +1,10 @@
 -- Counted runs, put in two steps: the count, then the items. And a level's path is a path from a byte of the lent trees on.
-use Prim.Native.Nat.{ℕ, zero, suc, _+_, _-_, _*_, _/_, _≤_}
-use mathlib.Core.Path.{_≡_, refl, sym, _∙_, ap, ap₂}
-use mathlib.Core.List.{List, [], _∷_, _++_, map}
-use native.Mathlib.Omega.{arith}
-use lib.ListN.{length, take, drop, length-map}
-use lib.Seq.{take-take}
+use Prim.Native.Nat.{ℕ, _+_, _-_, _*_, _/_, _≤_}
+use mathlib.Core.Path.{_≡_, _∙_, ap}
+use mathlib.Core.List.{List, map}
+use lib.ListN.{length, drop, length-map}
 use Rattle.laws.specs.Lists.{part, runs, flat, leBytes}
-use Rattle.laws.proofs.Lists.{take-drop, length-part}
+use Rattle.laws.proofs.Lists.{length-part}
 use Rattle.field.specs.Words.{words}
 use Rattle.merkle.specs.Tree.{groupOf, depthOf, treeSize, path, levelsOf, pathOf}
 use Rattle.merkle.proofs.Levels.{length-path}
@@ -14,6 +12,7 @@ use Rattle.messages.specs.Put.{Put}
 use Rattle.messages.proofs.Stores.{then-put, same-put}
 use Rattle.record.specs.Format.{wordBytes, runBytes}
 use Rattle.record.specs.Build.{digests}
+use Rattle.record.proofs.Runs.{runs-take}
 use Rattle.writing.specs.Paths.{pathFrom}
 use Rattle.writing.proofs.Numbers.{words-there}
 
@@ -36,14 +35,6 @@ pub digests-put : (o : List ℕ) (from : ℕ) (trees : List ℕ) (tree depth gro
 unfolding pathFrom
 digests-put o from trees tree depth groups g o1 j o2 r p q =
     run-put o from depth (32 * depth) (pathFrom depth trees tree groups g) o1 j o2 r (length-path depth (runs 32 (2 * groups - 1) (drop tree trees)) g) p q
-
--- items of a part that has them all
-runs-take : (n c : ℕ) (l : List ℕ) → runs n c (take (n * c) l) ≡ runs n c l
-unfolding runs
-runs-take n zero l = refl
-runs-take n (suc c) l =
-    let e : n * suc c ≡ n + n * c = omega arith in
-    rw e (ap₂ (λ (x : List ℕ) (y : List ℕ). x ∷ runs n c y) (take-take n (n + n * c) l (omega arith)) refl ∙ ap (λ (xs : List (List ℕ)). take n l ∷ xs) (ap (runs n c) (sym (take-drop (n * c) n l)) ∙ runs-take n c (drop n l)))
 
 -- the path of a place, off the tree that stands from digest i on
 pub path-of-digests : (count width place i : ℕ) (trees : List ℕ)

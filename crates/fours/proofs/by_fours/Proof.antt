@@ -1,7 +1,6 @@
 -- `fours::by_fours` meets its contract.
 use borrow.Author.Needs.{needs}
 use borrow.Author.Tests.{le-leb, lt-leb}
-use native.Mathlib.Omega.{arith}
 use Rattle.fours.specs.Fours.{byFours}
 use Rattle.fours.proofs.by_fours.Statement.{statement}
 use Rattle.fours.proofs.by_fours.Tie as tie

@@ -1,5 +1,4 @@
 -- `fours::put_parents` meets its contract. The loop's invariant: storing the parents that are left gives the final buffer; the level below and the messages' prefixes are kept.
-use denote.Ref.{now}
 use Prim.Native.Nat.{ℕ, _≤_, _-_, _+_, _*_, _%_}
 use mathlib.Core.Path.{_≡_, refl, _∙_, ap}
 use native.Mathlib.Omega.{arith}

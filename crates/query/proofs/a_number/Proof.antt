@@ -6,17 +6,17 @@ use Rattle.query.proofs.a_number.Tie as tie
 use Rattle.query.proofs.a_number.Reads as reads
 use Rattle.query.proofs.a_number.Lts as lts
 use Rattle.levels.proofs.level_width.Reads as level-width-reads
-use Rattle.opening.proofs.opening_number.Reads as opening-number-reads
+use Rattle.opening.proofs.opening_again.Reads as opening-again-reads
 use Rattle.query.proofs.holds.Reads as holds-reads
 
-mul-opening-number : tie.Need-mul-opening-number
-mul-opening-number c = search needs
+mul-opening-again : tie.Need-mul-opening-again
+mul-opening-again c = search needs
 
-opening-number-requires : tie.Need-opening-number-requires
-opening-number-requires c κs = search needs
+opening-again-requires : tie.Need-opening-again-requires
+opening-again-requires c κs = search needs
 
 returns : tie.Need-returns
-returns c = a-stops _ _ _ _ _ _ _ _ _ _ _ (c .before .opening-number .ensures) (c .if1 .taken)
+returns c = a-stops _ _ _ _ _ _ _ _ _ _ _ (c .before .opening-again .ensures) (c .if1 .taken)
 
 level-width-requires : tie.Need-level-width-requires
 level-width-requires c κs = search needs
@@ -25,10 +25,10 @@ mul-holds : tie.Need-mul-holds
 mul-holds c = search needs
 
 holds-requires : tie.Need-holds-requires
-holds-requires c κs = opened-wide _ _ _ _ _ _ _ _ _ _ _ _ (c .before .before .before .before .before .pre .0) (c .before .before .opening-number .ensures) (c .before .if1 .left) (c .level-width .ensures) (omega arith)
+holds-requires c κs = opened-wide _ _ _ _ _ _ _ _ _ _ _ _ (c .before .before .before .before .before .pre .0) (c .before .before .opening-again .ensures) (c .before .if1 .left) (c .level-width .ensures) (omega arith)
 
 returns-2 : tie.Need-returns-2
-returns-2 c = no-a _ _ _ _ _ _ _ _ _ _ _ (c .before .before .before .before .opening-number .ensures) (c .before .before .before .if1 .left) _ (c .before .before .level-width .ensures) _ (c .before .holds .ensures) (c .if2 .taken)
+returns-2 c = no-a _ _ _ _ _ _ _ _ _ _ _ (c .before .before .before .before .opening-again .ensures) (c .before .before .before .if1 .left) _ (c .before .before .level-width .ensures) _ (c .before .holds .ensures) (c .if2 .taken)
 
 mul-if3 : tie.Need-mul-if3
 mul-if3 c = search needs
@@ -37,16 +37,16 @@ add-if3 : tie.Need-add-if3
 add-if3 c = search needs
 
 div-if3 : tie.Need-div-if3
-div-if3 c = let h = opened-wide _ _ _ _ _ _ _ _ _ _ _ _ (c .before .before .before .before .before .before .before .pre .0) (c .before .before .before .before .opening-number .ensures) (c .before .before .before .if1 .left) (c .before .before .level-width .ensures) (omega arith) in search needs
+div-if3 c = let h = opened-wide _ _ _ _ _ _ _ _ _ _ _ _ (c .before .before .before .before .before .before .before .pre .0) (c .before .before .before .before .opening-again .ensures) (c .before .before .before .if1 .left) (c .before .before .level-width .ensures) (omega arith) in search needs
 
 mul-if3-2 : tie.Need-mul-if3-2
 mul-if3-2 c = search needs
 
 div-if3-2 : tie.Need-div-if3-2
-div-if3-2 c = let h = opened-wide _ _ _ _ _ _ _ _ _ _ _ _ (c .before .before .before .before .before .before .before .pre .0) (c .before .before .before .before .opening-number .ensures) (c .before .before .before .if1 .left) (c .before .before .level-width .ensures) (omega arith) in search needs
+div-if3-2 c = let h = opened-wide _ _ _ _ _ _ _ _ _ _ _ _ (c .before .before .before .before .before .before .before .pre .0) (c .before .before .before .before .opening-again .ensures) (c .before .before .before .if1 .left) (c .before .before .level-width .ensures) (omega arith) in search needs
 
 returns-3 : tie.Need-returns-3
-returns-3 c = two-groups _ _ _ _ _ _ _ _ _ _ _ (c .before .before .before .before .before .opening-number .ensures) (c .before .before .before .before .if1 .left) _ (c .before .before .before .level-width .ensures) _ (c .before .before .holds .ensures) (c .before .if2 .left) (c .if3 .taken)
+returns-3 c = two-groups _ _ _ _ _ _ _ _ _ _ _ (c .before .before .before .before .before .opening-again .ensures) (c .before .before .before .before .if1 .left) _ (c .before .before .before .level-width .ensures) _ (c .before .before .holds .ensures) (c .before .if2 .left) (c .if3 .taken)
 
 mul-holds-2 : tie.Need-mul-holds-2
 mul-holds-2 c = search needs
@@ -55,20 +55,20 @@ add-holds : tie.Need-add-holds
 add-holds c = search needs
 
 holds-requires-2 : tie.Need-holds-requires-2
-holds-requires-2 c κs = opened-wide _ _ _ _ _ _ _ _ _ _ _ _ (c .before .before .before .before .before .before .before .before .pre .0) (c .before .before .before .before .before .opening-number .ensures) (c .before .before .before .before .if1 .left) (c .before .before .before .level-width .ensures) (omega arith)
+holds-requires-2 c κs = opened-wide _ _ _ _ _ _ _ _ _ _ _ _ (c .before .before .before .before .before .before .before .before .pre .0) (c .before .before .before .before .before .opening-again .ensures) (c .before .before .before .before .if1 .left) (c .before .before .before .level-width .ensures) (omega arith)
 
 returns-4 : tie.Need-returns-4
-returns-4 c = no-b _ _ _ _ _ _ _ _ _ _ _ (c .before .before .before .before .before .before .before .opening-number .ensures) (c .before .before .before .before .before .before .if1 .left) _ (c .before .before .before .before .before .level-width .ensures) _ (c .before .before .before .before .holds .ensures) (c .before .before .before .if2 .left) (c .before .before .if3 .left) _ (c .before .holds2 .ensures) (c .if4 .taken)
+returns-4 c = no-b _ _ _ _ _ _ _ _ _ _ _ (c .before .before .before .before .before .before .before .opening-again .ensures) (c .before .before .before .before .before .before .if1 .left) _ (c .before .before .before .before .before .level-width .ensures) _ (c .before .before .before .before .holds .ensures) (c .before .before .before .if2 .left) (c .before .before .if3 .left) _ (c .before .holds2 .ensures) (c .if4 .taken)
 
 returns-5 : tie.Need-returns-5
-returns-5 c = both-held _ _ _ _ _ _ _ _ _ _ _ (c .before .before .before .before .before .before .before .opening-number .ensures) (c .before .before .before .before .before .before .if1 .left) _ (c .before .before .before .before .before .level-width .ensures) _ (c .before .before .before .before .holds .ensures) (c .before .before .before .if2 .left) (c .before .before .if3 .left) _ (c .before .holds2 .ensures) (c .if4 .left)
+returns-5 c = both-held _ _ _ _ _ _ _ _ _ _ _ (c .before .before .before .before .before .before .before .opening-again .ensures) (c .before .before .before .before .before .before .if1 .left) _ (c .before .before .before .before .before .level-width .ensures) _ (c .before .before .before .before .holds .ensures) (c .before .before .before .if2 .left) (c .before .before .if3 .left) _ (c .before .holds2 .ensures) (c .if4 .left)
 
 pub a-number-spec : {M : Type 1} → statement M
 a-number-spec =
     tie.close
     (tie.spec
-    mul-opening-number
-    opening-number-requires
+    mul-opening-again
+    opening-again-requires
     returns
     level-width-requires
     mul-holds

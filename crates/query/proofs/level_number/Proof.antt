@@ -1,3 +1,4 @@
+use Rattle.query.proofs.Again.{known-read}
 use Rattle.query.proofs.Level.{pair-small, level-room, a-says-no, c-says-no, not-folded, all-hold}
 use native.Mathlib.Omega.{arith}
 use borrow.Author.Needs.{needs}
@@ -39,7 +40,7 @@ load-requires : tie.Need-load-requires
 load-requires c κs = search needs
 
 a-number-requires : tie.Need-a-number-requires
-a-number-requires c κs = ((level-room _ _ _ _ _ _ _ _ _ _ (c .before .before .before .before .before .before .before .before .before .pre .0) (c .before .before .before .before .before .before .before .before .before .pre .1) (c .before .before .before .before .before .before .before .before .before .pre .2) (c .before .before .before .before .before .before .before .before .before .pre .3)) .a-readable, pair-small _ _ _ _ _ _ _ _ (c .before .before .before .before .before .before .before .before .before .pre .0) (c .before .before .before .before .before .before .before .before .before .pre .1) (c .before .before .before .before .pair-of .ensures))
+a-number-requires c κs = ((level-room _ _ _ _ _ _ _ _ _ _ (c .before .before .before .before .before .before .before .before .before .pre .0) (c .before .before .before .before .before .before .before .before .before .pre .1) (c .before .before .before .before .before .before .before .before .before .pre .2) (c .before .before .before .before .before .before .before .before .before .pre .3)) .a-readable, pair-small _ _ _ _ _ _ _ _ (c .before .before .before .before .before .before .before .before .before .pre .0) (c .before .before .before .before .before .before .before .before .before .pre .1) (c .before .before .before .before .pair-of .ensures), c .before .before .before .before .before .before .before .before .before .pre .1, known-read _ _ _ _ _ _ _ _ _ _ (c .before .before .before .before .pair-of .ensures) (c .load .ensures) (c .before .before .before .before .before .before .before .before .before .pre .4))
 
 returns : tie.Need-returns
 returns c = a-says-no _ _ _ _ _ _ _ _ _ _ _ _ _ _ (c .before .before .before .before .before .before .before .before .before .before .before .pre .2) (c .before .before .before .before .before .word-at .ensures) (c .before .before .before .before .word-at2 .ensures) (c .before .before .before .word-at3 .ensures) (c .before .before .before .before .before .before .pair-of .ensures) _ (c .before .before .load .ensures) _ (c .before .a-number .ensures) (c .if1 .taken)

@@ -1,16 +1,15 @@
 -- `query_cases::run_cases` is safe and ends.
-use Prim.Native.Nat.{_-_}
-use mathlib.Core.Path.{_≡_}
+use Prim.Native.Nat.{_≤_, _-_}
 use lib.ListN.{length}
 use borrow.Author.Needs.{needs}
 use Rattle.query_cases.proofs.run_cases.Statement.{statement}
 use Rattle.query_cases.proofs.run_cases.Tie as tie
 
 abbrev Inv-loop : tie.InvT-loop
-Inv-loop cases stored base₀ words₀ digests₀ s₀ from₀ base words digests s from = (length base ≡ 256) × (length words ≡ 1024) × (length digests ≡ 8192) × (length s ≡ 24576)
+Inv-loop cases stored from₀ from = from₀ ≤ from
 
 abbrev μ-loop : tie.MeasureT-loop
-μ-loop cases stored base₀ words₀ digests₀ s₀ from₀ base words digests s from = length cases - from
+μ-loop cases stored from₀ from = length cases - from
 
 loop-holds : tie.Need-loop-holds Inv-loop μ-loop
 loop-holds c = search needs
@@ -26,18 +25,6 @@ part-run-line-start c = search needs
 
 part-run-line-end : tie.Need-part-run-line-end Inv-loop μ-loop
 part-run-line-end c = search needs
-
-slice-aggregate-run-line : tie.Need-slice-aggregate-run-line Inv-loop μ-loop
-slice-aggregate-run-line c = search needs
-
-slice-aggregate-run-line-2 : tie.Need-slice-aggregate-run-line-2 Inv-loop μ-loop
-slice-aggregate-run-line-2 c = search needs
-
-slice-aggregate-run-line-3 : tie.Need-slice-aggregate-run-line-3 Inv-loop μ-loop
-slice-aggregate-run-line-3 c = search needs
-
-slice-aggregate-run-line-4 : tie.Need-slice-aggregate-run-line-4 Inv-loop μ-loop
-slice-aggregate-run-line-4 c = search needs
 
 run-line-requires : tie.Need-run-line-requires Inv-loop μ-loop
 run-line-requires c κs = search needs
@@ -65,10 +52,6 @@ run-cases-spec =
     returns
     part-run-line-start
     part-run-line-end
-    slice-aggregate-run-line
-    slice-aggregate-run-line-2
-    slice-aggregate-run-line-3
-    slice-aggregate-run-line-4
     run-line-requires
     add-from
     loop-less

@@ -5,47 +5,47 @@ use borrow.Author.Needs.{needs}
 use Rattle.query_cases.proofs.run_fields.Statement.{statement}
 use Rattle.query_cases.proofs.run_fields.Tie as tie
 
+slice-aggregate-put-together : tie.Need-slice-aggregate-put-together
+slice-aggregate-put-together c = search needs
+
+slice-aggregate-put-together-2 : tie.Need-slice-aggregate-put-together-2
+slice-aggregate-put-together-2 c = search needs
+
+slice-aggregate-put-together-3 : tie.Need-slice-aggregate-put-together-3
+slice-aggregate-put-together-3 c = search needs
+
+slice-aggregate-put-together-4 : tie.Need-slice-aggregate-put-together-4
+slice-aggregate-put-together-4 c = search needs
+
 put-together-requires : tie.Need-put-together-requires
 put-together-requires c κs = search needs
 
-slice-reshare-prefix-run : tie.Need-slice-reshare-prefix-run
-slice-reshare-prefix-run c = search needs
+array-share-prefix-base : tie.Need-array-share-prefix-base
+array-share-prefix-base c = search needs
 
 slice-aggregate-run : tie.Need-slice-aggregate-run
 slice-aggregate-run c = sym (length-take-le _ _ (search needs))
 
-slice-reshare-prefix-run-2 : tie.Need-slice-reshare-prefix-run-2
-slice-reshare-prefix-run-2 c = search needs
+array-share-prefix-words : tie.Need-array-share-prefix-words
+array-share-prefix-words c = search needs
 
 slice-aggregate-run-2 : tie.Need-slice-aggregate-run-2
 slice-aggregate-run-2 c = sym (length-take-le _ _ (search needs))
 
-slice-reshare-prefix-run-3 : tie.Need-slice-reshare-prefix-run-3
-slice-reshare-prefix-run-3 c = search needs
+array-share-prefix-digests : tie.Need-array-share-prefix-digests
+array-share-prefix-digests c = search needs
 
 slice-aggregate-run-3 : tie.Need-slice-aggregate-run-3
 slice-aggregate-run-3 c = sym (length-take-le _ _ (search needs))
 
-slice-relend-prefix-run : tie.Need-slice-relend-prefix-run
-slice-relend-prefix-run c = search needs
+array-borrow-prefix-s : tie.Need-array-borrow-prefix-s
+array-borrow-prefix-s c = search needs
 
 slice-aggregate-run-4 : tie.Need-slice-aggregate-run-4
 slice-aggregate-run-4 c = sym (length-take-le _ _ (search needs))
 
 run-requires : tie.Need-run-requires
 run-requires c κs = search needs
-
-same-length : tie.Need-same-length
-same-length c = search needs
-
-same-length-2 : tie.Need-same-length-2
-same-length-2 c = search needs
-
-same-length-3 : tie.Need-same-length-3
-same-length-3 c = search needs
-
-same-length-4 : tie.Need-same-length-4
-same-length-4 c = search needs
 
 returns : tie.Need-returns
 returns c = search needs
@@ -54,18 +54,18 @@ pub run-fields-spec : {M : Type 1} → statement M
 run-fields-spec =
     tie.close
     (tie.spec
+    slice-aggregate-put-together
+    slice-aggregate-put-together-2
+    slice-aggregate-put-together-3
+    slice-aggregate-put-together-4
     put-together-requires
-    slice-reshare-prefix-run
+    array-share-prefix-base
     slice-aggregate-run
-    slice-reshare-prefix-run-2
+    array-share-prefix-words
     slice-aggregate-run-2
-    slice-reshare-prefix-run-3
+    array-share-prefix-digests
     slice-aggregate-run-3
-    slice-relend-prefix-run
+    array-borrow-prefix-s
     slice-aggregate-run-4
     run-requires
-    same-length
-    same-length-2
-    same-length-3
-    same-length-4
     returns)

@@ -35,18 +35,6 @@ slice-aggregate-run-fields c = sym (length-take-le _ _ (search needs))
 run-fields-requires : tie.Need-run-fields-requires
 run-fields-requires c κs = search needs
 
-same-length : tie.Need-same-length
-same-length c = search needs
-
-same-length-2 : tie.Need-same-length-2
-same-length-2 c = search needs
-
-same-length-3 : tie.Need-same-length-3
-same-length-3 c = search needs
-
-same-length-4 : tie.Need-same-length-4
-same-length-4 c = search needs
-
 returns-2 : tie.Need-returns-2
 returns-2 c = search needs
 
@@ -64,8 +52,4 @@ run-line-spec =
     byte-at-requires
     slice-aggregate-run-fields
     run-fields-requires
-    same-length
-    same-length-2
-    same-length-3
-    same-length-4
     returns-2)

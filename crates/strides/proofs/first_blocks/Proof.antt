@@ -2,8 +2,7 @@
 use denote.Ref.{now}
 use Prim.Native.Nat.{_≤_, _-_, _*_}
 use mathlib.Core.Path.{_≡_, refl}
-use native.Mathlib.Omega.{arith}
-use lib.ListN.{length, drop}
+use lib.ListN.{drop}
 use borrow.Author.Needs.{needs}
 use Rattle.chunk.proofs.Chunk.{next-law}
 use Rattle.strides.specs.Strides.{blocksFrom, firstBlocks}

@@ -14,12 +14,12 @@ use Rattle.strides.proofs.put_leaf_rests.Statement.{statement}
 use Rattle.strides.proofs.put_leaf_rests.Tie as tie
 
 abbrev Inv-loop : tie.InvT-loop
-Inv-loop messages₀ prefix width group values from₀ at₀ k₀ messages from at k =
+Inv-loop messages₀ prefix width values first from₀ at₀ k₀ messages from at k =
     (k ≤ 4) × (from ≡ 2 * (width * k)) × (at ≡ 1024 * k + prefix) × (length messages ≡ length messages₀)
-    × Filled messages₀ prefix (24 + 16 * width) (λ j. leafRest width (group + j) (part width (width * j) (words values))) k messages
+    × Filled messages₀ prefix (24 + 16 * width) (λ j. leafRest width (first + j) (part width (width * j) (words values))) k messages
 
 abbrev μ-loop : tie.MeasureT-loop
-μ-loop messages₀ prefix width group values from₀ at₀ k₀ messages from at k = 4 - k
+μ-loop messages₀ prefix width values first from₀ at₀ k₀ messages from at k = 4 - k
 
 loop-holds : tie.Need-loop-holds Inv-loop μ-loop
 loop-holds c = (search needs, search needs, search needs, refl, filled-begin _ _ _ _)

@@ -1,5 +1,4 @@
 -- `strides::put_node_rests` meets its contract. The loop's invariant: the messages so far are whole, and the prefixes of the others stand.
-use denote.Ref.{now}
 use Prim.Native.Nat.{_≤_, _-_, _+_, _*_}
 use mathlib.Core.Path.{_≡_, refl}
 use mathlib.Core.List.{_++_}

@@ -1,10 +1,9 @@
 -- `strides::put_prefixes` meets its contract. The loop's invariant: the strides so far have the prefix at their fronts.
-use Prim.Native.Nat.{_≤_, _-_, _+_, _*_}
+use Prim.Native.Nat.{_≤_, _-_, _*_}
 use mathlib.Core.Path.{_≡_, refl}
 use native.Mathlib.Omega.{arith}
 use lib.ListN.{length}
 use borrow.Author.Needs.{needs}
-use Rattle.laws.specs.Lists.{part}
 use Rattle.strides.proofs.Filling.{Filled, filled-begin, filled-step, prefixes-end}
 use Rattle.strides.proofs.put_prefixes.Statement.{statement}
 use Rattle.strides.proofs.put_prefixes.Tie as tie

@@ -1,5 +1,4 @@
 -- `tree::put_parents_from` meets its contract. The loop's invariant: storing the parents that are left gives the final buffer; the level below and the message's prefix are kept.
-use denote.Ref.{now}
 use Prim.Native.Nat.{ℕ, _≤_, _-_, _+_, _*_}
 use mathlib.Core.Path.{_≡_, refl, _∙_}
 use lib.ListN.{length, take, drop}

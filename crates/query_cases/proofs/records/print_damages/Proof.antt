@@ -7,10 +7,10 @@ use Rattle.query_cases.proofs.records.print_damages.Statement.{statemen
 use Rattle.query_cases.proofs.records.print_damages.Tie as tie
 
 abbrev Inv-loop : tie.InvT-loop
-Inv-loop name given base words digests s₀ tally₀ i₀ s tally i = (length s ≡ length s₀) × (length tally ≡ 34)
+Inv-loop name given base words digests s₀ step tally₀ i₀ s tally i = (length s ≡ length s₀) × (length tally ≡ 34)
 
 abbrev μ-loop : tie.MeasureT-loop
-μ-loop name given base words digests s₀ tally₀ i₀ s tally i = length s₀ - i
+μ-loop name given base words digests s₀ step tally₀ i₀ s tally i = length s₀ - i
 
 loop-holds : tie.Need-loop-holds Inv-loop μ-loop
 loop-holds c = search needs

@@ -1,0 +1,215 @@
+//! A deposit: its table committed, then folded by the checker's challenges, so that records can be built.
+
+use crate::raw;
+use crate::record::{QueryRecord, TailRecord};
+use crate::refusal::Refusal;
+use crate::ring::variables;
+use crate::root::Root;
+use crate::sizes::{level_words, tree_bytes, Sizes};
+use crate::tree::{build_into, fold_tree_width, level_domain, root_of};
+use crate::word::{halves, words, Word};
+
+/// A committed table: its gammas, its codeword (level 0) and level 0's tree. The buffers have room for all levels, which [`Deposit::fold`]
+/// fills.
+pub struct Deposit {
+    base: Vec<u8>,
+    sizes: Sizes,
+    gammas: Vec<u64>,
+    levels: Vec<u64>,
+    trees: Vec<u8>,
+}
+
+impl Deposit {
+    /// Commits a table of 2^n words, n from 1 to 20, under a base domain of at most 200 bytes. Refused with 5 where the length is no power
+    /// of two, with 4 where n or k is out of range, with 7 where the base domain is too long.
+    ///
+    /// ```
+    /// use dequmlo::{Deposit, Word};
+    /// let deposit = Deposit::commit(b"example", 1, &[Word(5), Word(9)])?;
+    /// assert_eq!(deposit.codeword()[..2], [Word(5), Word(9)]);
+    /// assert_eq!(Deposit::commit(b"example", 5, &[Word(5), Word(9)]).err().unwrap().number, 4);
+    /// # Ok::<(), dequmlo::Refusal>(())
+    /// ```
+    pub fn commit(base: &[u8], k: usize, table: &[Word]) -> Result<Deposit, Refusal> {
+        let sizes = Sizes::of(variables(table.len())?, k)?;
+        let table = halves(table);
+        let mut gammas = vec![0u64; 2 * sizes.gamma_words];
+        let mut levels = Vec::with_capacity(2 * sizes.levels_words);
+        levels.resize(2 * sizes.codeword_words, 0u64);
+        let mut trees = Vec::with_capacity(sizes.trees_bytes);
+        trees.resize(sizes.tree_bytes, 0u8);
+        Refusal::unless_done(unsafe {
+            raw::dequmlo_commit(
+                sizes.n,
+                k,
+                base.as_ptr(),
+                base.len(),
+                table.as_ptr(),
+                table.len(),
+                gammas.as_mut_ptr(),
+                gammas.len(),
+                levels.as_mut_ptr(),
+                levels.len(),
+                trees.as_mut_ptr(),
+                trees.len(),
+            )
+        })?;
+        Ok(Deposit {
+            base: base.to_vec(),
+            sizes,
+            gammas,
+            levels,
+            trees,
+        })
+    }
+
+    /// What n and k fix.
+    pub fn sizes(&self) -> Sizes {
+        self.sizes
+    }
+
+    /// Level 0's root: what the office keeps.
+    pub fn root(&self) -> Root {
+        root_of(&self.trees)
+    }
+
+    /// The gammas (j, i), j outer.
+    pub fn gammas(&self) -> Vec<Word> {
+        words(&self.gammas)
+    }
+
+    /// The codeword: 2^k blocks, of which the first is the table.
+    pub fn codeword(&self) -> Vec<Word> {
+        words(&self.levels)
+    }
+
+    /// Folds by one challenge for each variable and builds every level's tree.
+    pub fn fold(self, challenges: &[Word]) -> Result<Folded, Refusal> {
+        self.fold_with(challenges, |_| ())
+    }
+
+    /// As [`Deposit::fold`]; `done` is called with each level's number once it and its tree are made.
+    pub fn fold_with(
+        mut self,
+        challenges: &[Word],
+        mut done: impl FnMut(usize),
+    ) -> Result<Folded, Refusal> {
+        let Sizes { n, k, .. } = self.sizes;
+        if challenges.len() != n {
+            return Err(Refusal::of(5));
+        }
+        let mut roots = vec![self.root()];
+        for (l, r) in challenges.iter().enumerate() {
+            roots.push(self.next_level(n, k, l, *r)?);
+            done(l + 1);
+        }
+        Ok(Folded {
+            sizes: self.sizes,
+            levels: self.levels,
+            trees: self.trees,
+            roots,
+        })
+    }
+
+    /// Level l + 1 and its tree, after those of level l. Its root.
+    fn next_level(&mut self, n: usize, k: usize, l: usize, r: Word) -> Result<Root, Refusal> {
+        let (from, to) = (2 * level_words(n, k, l), 2 * level_words(n, k, l + 1));
+        let start = self.levels.len();
+        self.levels.resize(start + to, 0);
+        let (before, next) = self.levels.split_at_mut(start);
+        let level = &before[start - from..];
+        let answer = unsafe {
+            raw::dequmlo_fold(
+                n - l,
+                k,
+                0,
+                r.raw(),
+                level.as_ptr(),
+                level.len(),
+                next.as_mut_ptr(),
+                next.len(),
+            )
+        };
+        Refusal::unless_done(answer.number)?;
+        let count = to / 2;
+        let start = self.trees.len();
+        self.trees.resize(start + tree_bytes(count), 0);
+        let tree = &mut self.trees[start..];
+        build_into(
+            &level_domain(&self.base, l + 1),
+            count,
+            fold_tree_width(count),
+            next,
+            tree,
+        )?;
+        Ok(root_of(tree))
+    }
+}
+
+/// A deposit folded by a list of challenges: all levels and their trees, from which records are built.
+pub struct Folded {
+    sizes: Sizes,
+    levels: Vec<u64>,
+    trees: Vec<u8>,
+    roots: Vec<Root>,
+}
+
+impl Folded {
+    /// The roots of levels 0 to n.
+    pub fn roots(&self) -> Vec<Root> {
+        self.roots.clone()
+    }
+
+    /// The last level: 2^k words, of which the first is the terminal claim.
+    pub fn last_level(&self) -> Vec<Word> {
+        words(self.last_halves())
+    }
+
+    /// The terminal claim: the table's multilinear extension at the challenges.
+    pub fn claim(&self) -> Word {
+        self.last_level()[0]
+    }
+
+    /// The query record at a position below 2^(n+k).
+    pub fn query(&self, position: usize) -> Result<QueryRecord, Refusal> {
+        let mut out = vec![0u8; self.sizes.query_bytes];
+        Refusal::unless_done(unsafe {
+            raw::dequmlo_build_query(
+                out.as_mut_ptr(),
+                out.len(),
+                self.levels.as_ptr(),
+                self.levels.len(),
+                self.trees.as_ptr(),
+                self.trees.len(),
+                self.sizes.n,
+                self.sizes.k,
+                position,
+            )
+        })?;
+        Ok(QueryRecord::from(out))
+    }
+
+    /// The tail record.
+    pub fn tail(&self) -> Result<TailRecord, Refusal> {
+        let level = self.last_halves();
+        let tree = &self.trees[self.trees.len() - tree_bytes(level.len() / 2)..];
+        let mut out = vec![0u8; self.sizes.tail_bytes];
+        Refusal::unless_done(unsafe {
+            raw::dequmlo_build_tail(
+                out.as_mut_ptr(),
+                out.len(),
+                level.as_ptr(),
+                level.len(),
+                tree.as_ptr(),
+                tree.len(),
+                self.sizes.n,
+                self.sizes.k,
+            )
+        })?;
+        Ok(TailRecord::from(out))
+    }
+
+    fn last_halves(&self) -> &[u64] {
+        &self.levels[self.levels.len() - (2 << self.sizes.k)..]
+    }
+}

@@ -1,0 +1,220 @@
+//! The archive's functions, as include/dequmlo.h declares them. A lent slice is a pointer and a count of elements.
+
+#[repr(C)]
+#[derive(Clone, Copy)]
+pub struct Word {
+    pub lo: u64,
+    pub hi: u64,
+}
+
+#[repr(C)]
+pub struct Sizes {
+    pub number: u32,
+    pub table: usize,
+    pub gammas: usize,
+    pub codeword: usize,
+    pub tree: usize,
+    pub levels: usize,
+    pub trees: usize,
+    pub query: usize,
+    pub tail: usize,
+}
+
+#[repr(C)]
+pub struct Digested {
+    pub number: u32,
+    pub bytes: [u8; 32],
+}
+
+#[repr(C)]
+pub struct Folded {
+    pub number: u32,
+    pub n: usize,
+}
+
+#[repr(C)]
+pub struct Checked {
+    pub number: u32,
+    pub level: u32,
+}
+
+#[repr(C)]
+pub struct Compared {
+    pub number: u32,
+    pub first: usize,
+    pub second: usize,
+}
+
+#[repr(C)]
+pub struct Answered {
+    pub number: u32,
+    pub word: Word,
+}
+
+#[repr(C)]
+pub struct Coefficients {
+    pub words: [Word; 128],
+}
+
+#[repr(C)]
+pub struct Parameters {
+    pub k: usize,
+    pub queries: usize,
+    pub domain: [u8; 24],
+    pub length: usize,
+}
+
+extern "C" {
+    pub fn dequmlo_sizes(n: usize, k: usize) -> Sizes;
+    pub fn dequmlo_digest(input: *const u8, input_length: usize) -> Digested;
+    pub fn dequmlo_commit(
+        n: usize,
+        k: usize,
+        base: *const u8,
+        base_length: usize,
+        table: *const u64,
+        table_length: usize,
+        gammas: *mut u64,
+        gammas_length: usize,
+        codeword: *mut u64,
+        codeword_length: usize,
+        tree: *mut u8,
+        tree_length: usize,
+    ) -> u32;
+    pub fn dequmlo_fold(
+        n: usize,
+        k: usize,
+        var: usize,
+        r: Word,
+        codeword: *const u64,
+        codeword_length: usize,
+        out: *mut u64,
+        out_length: usize,
+    ) -> Folded;
+    pub fn dequmlo_fold_tree_width(length: usize) -> usize;
+    pub fn dequmlo_tree(
+        domain: *const u8,
+        domain_length: usize,
+        count: usize,
+        width: usize,
+        values: *const u64,
+        values_length: usize,
+        tree: *mut u8,
+        tree_length: usize,
+    ) -> u32;
+    pub fn dequmlo_open(
+        count: usize,
+        width: usize,
+        place: usize,
+        tree: *const u8,
+        tree_length: usize,
+        path: *mut u8,
+        path_length: usize,
+    ) -> u32;
+    pub fn dequmlo_root_of_path(
+        domain: *const u8,
+        domain_length: usize,
+        count: usize,
+        width: usize,
+        place: usize,
+        values: *const u64,
+        values_length: usize,
+        path: *const u8,
+        path_length: usize,
+    ) -> Digested;
+    pub fn dequmlo_build_query(
+        out: *mut u8,
+        out_length: usize,
+        levels: *const u64,
+        levels_length: usize,
+        trees: *const u8,
+        trees_length: usize,
+        n: usize,
+        k: usize,
+        position: usize,
+    ) -> u32;
+    pub fn dequmlo_check_query(
+        base: *const u8,
+        base_length: usize,
+        n: usize,
+        k: usize,
+        position: usize,
+        challenges: *const u64,
+        challenges_length: usize,
+        roots: *const u8,
+        roots_length: usize,
+        record: *const u8,
+        record_length: usize,
+    ) -> Checked;
+    pub fn dequmlo_build_tail(
+        out: *mut u8,
+        out_length: usize,
+        level: *const u64,
+        level_length: usize,
+        tree: *const u8,
+        tree_length: usize,
+        n: usize,
+        k: usize,
+    ) -> u32;
+    pub fn dequmlo_check_tail(
+        base: *const u8,
+        base_length: usize,
+        n: usize,
+        k: usize,
+        root: *const u8,
+        root_length: usize,
+        claim: Word,
+        record: *const u8,
+        record_length: usize,
+    ) -> u32;
+    pub fn dequmlo_compare(
+        base: *const u8,
+        base_length: usize,
+        n: usize,
+        k: usize,
+        position: usize,
+        challenges: *const u64,
+        challenges_length: usize,
+        roots: *const u8,
+        roots_length: usize,
+        first: *const u8,
+        first_length: usize,
+        second: *const u8,
+        second_length: usize,
+        first_message: *mut u8,
+        first_message_length: usize,
+        second_message: *mut u8,
+        second_message_length: usize,
+    ) -> Compared;
+    pub fn dequmlo_partial_evals(
+        n: usize,
+        packed: *const u64,
+        packed_length: usize,
+        eq: *const u64,
+        eq_length: usize,
+        out: *mut u64,
+        out_length: usize,
+    ) -> u32;
+    pub fn dequmlo_fold_partials(s: *const u64, s_length: usize, rb: Coefficients) -> Answered;
+    pub fn dequmlo_materialize(
+        n: usize,
+        z: *const u64,
+        z_length: usize,
+        rb: Coefficients,
+        out: *mut u64,
+        out_length: usize,
+    ) -> u32;
+    pub fn dequmlo_eval_at(
+        n: usize,
+        z: *const u64,
+        z_length: usize,
+        rb: Coefficients,
+        point: *const u64,
+        point_length: usize,
+    ) -> Answered;
+    pub fn dequmlo_default_parameters() -> Parameters;
+    pub fn dequmlo_fastchunk() -> Parameters;
+    pub fn dequmlo_balanced() -> Parameters;
+    pub fn dequmlo_compactwrap() -> Parameters;
+    pub fn dequmlo_deepwrap() -> Parameters;
+}

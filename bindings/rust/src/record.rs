@@ -1,0 +1,173 @@
+//! Records, and the statement under which they are checked and compared.
+
+use crate::raw;
+use crate::refusal::Refusal;
+use crate::root::Root;
+use crate::sizes::Sizes;
+use crate::word::{halves, Word};
+
+/// The bytes of a query record. Bytes that came from elsewhere may be anything: the check says what they are worth.
+#[derive(Clone, Debug, PartialEq, Eq)]
+pub struct QueryRecord(Vec<u8>);
+
+/// The bytes of a tail record.
+#[derive(Clone, Debug, PartialEq, Eq)]
+pub struct TailRecord(Vec<u8>);
+
+impl From<Vec<u8>> for QueryRecord {
+    fn from(bytes: Vec<u8>) -> QueryRecord {
+        QueryRecord(bytes)
+    }
+}
+
+impl From<Vec<u8>> for TailRecord {
+    fn from(bytes: Vec<u8>) -> TailRecord {
+        TailRecord(bytes)
+    }
+}
+
+impl QueryRecord {
+    /// The record's bytes.
+    pub fn bytes(&self) -> &[u8] {
+        &self.0
+    }
+}
+
+impl TailRecord {
+    /// The record's bytes.
+    pub fn bytes(&self) -> &[u8] {
+        &self.0
+    }
+}
+
+/// Two messages that differ and have one BLAKE3 digest.
+#[derive(Clone, Debug, PartialEq, Eq)]
+pub struct Collision {
+    /// The first record's message.
+    pub first: Vec<u8>,
+    /// The second record's message.
+    pub second: Vec<u8>,
+}
+
+/// What records are checked under: the base domain, n, k, one challenge for each variable, and the roots of levels 0 to n.
+#[derive(Clone, Debug, PartialEq, Eq)]
+pub struct Statement {
+    base: Vec<u8>,
+    sizes: Sizes,
+    challenges: Vec<u64>,
+    roots: Vec<u8>,
+}
+
+impl Statement {
+    /// Refused with 4 where n is not from 1 to 20 or k is above 4, with 5 where there are not n challenges or n + 1 roots, with 7 where
+    /// the base domain has more than 200 bytes.
+    pub fn new(
+        base: &[u8],
+        n: usize,
+        k: usize,
+        challenges: &[Word],
+        roots: &[Root],
+    ) -> Result<Statement, Refusal> {
+        let sizes = Sizes::of(n, k)?;
+        if challenges.len() != n || roots.len() != n + 1 {
+            return Err(Refusal::of(5));
+        }
+        if base.len() > 200 {
+            return Err(Refusal::of(7));
+        }
+        Ok(Statement {
+            base: base.to_vec(),
+            sizes,
+            challenges: halves(challenges),
+            roots: roots.iter().flat_map(|r| r.0).collect(),
+        })
+    }
+
+    /// What n and k fix.
+    pub fn sizes(&self) -> Sizes {
+        self.sizes
+    }
+
+    /// Accepts a query record at a position, or names the check that failed.
+    pub fn check_query(&self, position: usize, record: &QueryRecord) -> Result<(), Refusal> {
+        let answer = unsafe {
+            raw::dequmlo_check_query(
+                self.base.as_ptr(),
+                self.base.len(),
+                self.sizes.n,
+                self.sizes.k,
+                position,
+                self.challenges.as_ptr(),
+                self.challenges.len(),
+                self.roots.as_ptr(),
+                self.roots.len(),
+                record.0.as_ptr(),
+                record.0.len(),
+            )
+        };
+        match answer.number {
+            0 => Ok(()),
+            number @ 16..=26 => Err(Refusal {
+                number,
+                level: Some(answer.level),
+            }),
+            number => Err(Refusal::of(number)),
+        }
+    }
+
+    /// Accepts a tail record against the terminal claim, or names the check that failed.
+    pub fn check_tail(&self, claim: Word, record: &TailRecord) -> Result<(), Refusal> {
+        let root = &self.roots[self.roots.len() - 32..];
+        Refusal::unless_done(unsafe {
+            raw::dequmlo_check_tail(
+                self.base.as_ptr(),
+                self.base.len(),
+                self.sizes.n,
+                self.sizes.k,
+                root.as_ptr(),
+                root.len(),
+                claim.raw(),
+                record.0.as_ptr(),
+                record.0.len(),
+            )
+        })
+    }
+
+    /// Compares two records that are both accepted at a position: where they differ, two messages that differ and have one digest. Refused
+    /// with 32 where one is not accepted, with 33 where they are the same.
+    pub fn compare(
+        &self,
+        position: usize,
+        first: &QueryRecord,
+        second: &QueryRecord,
+    ) -> Result<Collision, Refusal> {
+        let mut messages = [[0u8; 512]; 2];
+        let [a, b] = &mut messages;
+        let answer = unsafe {
+            raw::dequmlo_compare(
+                self.base.as_ptr(),
+                self.base.len(),
+                self.sizes.n,
+                self.sizes.k,
+                position,
+                self.challenges.as_ptr(),
+                self.challenges.len(),
+                self.roots.as_ptr(),
+                self.roots.len(),
+                first.0.as_ptr(),
+                first.0.len(),
+                second.0.as_ptr(),
+                second.0.len(),
+                a.as_mut_ptr(),
+                a.len(),
+                b.as_mut_ptr(),
+                b.len(),
+            )
+        };
+        Refusal::unless_done(answer.number)?;
+        Ok(Collision {
+            first: a[..answer.first].to_vec(),
+            second: b[..answer.second].to_vec(),
+        })
+    }
+}

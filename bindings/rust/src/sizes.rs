@@ -1,0 +1,120 @@
+//! The sizes that n and k fix. The archive refuses any other with 5.
+
+use crate::raw;
+use crate::refusal::Refusal;
+use crate::tree::fold_tree_width;
+
+/// What n and k fix: how many words and bytes each buffer has.
+///
+/// ```
+/// let sizes = dequmlo::Sizes::of(18, 2).unwrap();
+/// assert_eq!(sizes.codeword_words, 1 << 20);
+/// assert_eq!(sizes.query_bytes, 14_884);
+/// assert_eq!(sizes.tail_bytes, 148);
+/// assert_eq!(dequmlo::Sizes::of(21, 0).unwrap_err().number, 4);
+/// ```
+#[derive(Clone, Copy, Debug, PartialEq, Eq)]
+pub struct Sizes {
+    /// n: the table has 2^n words.
+    pub n: usize,
+    /// k: the codeword has 2^k blocks.
+    pub k: usize,
+    /// The words of the table.
+    pub table_words: usize,
+    /// The gammas.
+    pub gamma_words: usize,
+    /// The words of the codeword, which is level 0.
+    pub codeword_words: usize,
+    /// The bytes of level 0's tree.
+    pub tree_bytes: usize,
+    /// The words of all levels.
+    pub levels_words: usize,
+    /// The bytes of all levels' trees.
+    pub trees_bytes: usize,
+    /// The bytes of a query record.
+    pub query_bytes: usize,
+    /// The bytes of a tail record.
+    pub tail_bytes: usize,
+}
+
+impl Sizes {
+    /// The sizes for n from 1 to 20 and k up to 4; any others are refused with 4.
+    pub fn of(n: usize, k: usize) -> Result<Sizes, Refusal> {
+        let sizes = unsafe { raw::dequmlo_sizes(n, k) };
+        Refusal::unless_done(sizes.number)?;
+        Ok(Sizes {
+            n,
+            k,
+            table_words: sizes.table,
+            gamma_words: sizes.gammas,
+            codeword_words: sizes.codeword,
+            tree_bytes: sizes.tree,
+            levels_words: sizes.levels,
+            trees_bytes: sizes.trees,
+            query_bytes: sizes.query,
+            tail_bytes: sizes.tail,
+        })
+    }
+}
+
+/// The words of level l.
+pub(crate) fn level_words(n: usize, k: usize, l: usize) -> usize {
+    1 << (n + k - l)
+}
+
+/// The bytes of the tree over a level of this many words.
+pub(crate) fn tree_bytes(words: usize) -> usize {
+    32 * (2 * (words / fold_tree_width(words)) - 1)
+}
+
+#[cfg(test)]
+mod tests {
+    use super::Sizes;
+    use crate::raw;
+
+    /// The archive asks for lengths (5) before it asks for the position (11) or the base domain (7), so these answers say that every
+    /// length was the one that it wants. The buffers are never touched.
+    #[test]
+    fn the_archive_wants_these_sizes() {
+        for (n, k) in (1..=20).flat_map(|n| (0..=4).map(move |k| (n, k))) {
+            let sizes = Sizes::of(n, k).unwrap();
+            let mut levels = vec![0u64; 2 * sizes.levels_words];
+            let mut trees = vec![0u8; sizes.trees_bytes];
+            let mut out = vec![0u8; sizes.query_bytes];
+            let built = unsafe {
+                raw::dequmlo_build_query(
+                    out.as_mut_ptr(),
+                    out.len(),
+                    levels.as_ptr(),
+                    levels.len(),
+                    trees.as_ptr(),
+                    trees.len(),
+                    n,
+                    k,
+                    usize::MAX,
+                )
+            };
+            assert_eq!(built, 11, "n {n} k {k}");
+            let table = vec![0u64; 2 * sizes.table_words];
+            let mut gammas = vec![0u64; 2 * sizes.gamma_words];
+            let base = [0u8; 201];
+            let committed = unsafe {
+                raw::dequmlo_commit(
+                    n,
+                    k,
+                    base.as_ptr(),
+                    base.len(),
+                    table.as_ptr(),
+                    table.len(),
+                    gammas.as_mut_ptr(),
+                    gammas.len(),
+                    levels.as_mut_ptr(),
+                    2 * sizes.codeword_words,
+                    trees.as_mut_ptr(),
+                    sizes.tree_bytes,
+                )
+            };
+            assert_eq!(committed, 7, "n {n} k {k}");
+        }
+    }
+}

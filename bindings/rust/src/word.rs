@@ -1,0 +1,70 @@
+//! Words, and tables of words as the archive takes them.
+
+use crate::raw;
+use std::fmt;
+use std::str::FromStr;
+
+/// An element of GF(2^128): bit i is the coefficient of x^i. It is written as 32 hexadecimal digits, highest first.
+///
+/// ```
+/// use dequmlo::Word;
+/// let word: Word = "0000000000000000000000000000001d".parse().unwrap();
+/// assert_eq!(word, Word(29));
+/// assert_eq!(word.to_string(), "0000000000000000000000000000001d");
+/// assert!("1d".parse::<Word>().is_err());
+/// ```
+#[derive(Clone, Copy, Debug, Default, PartialEq, Eq, Hash)]
+pub struct Word(pub u128);
+
+impl From<u128> for Word {
+    fn from(bits: u128) -> Word {
+        Word(bits)
+    }
+}
+
+impl fmt::Display for Word {
+    fn fmt(&self, f: &mut fmt::Formatter) -> fmt::Result {
+        write!(f, "{:032x}", self.0)
+    }
+}
+
+impl FromStr for Word {
+    type Err = &'static str;
+    fn from_str(text: &str) -> Result<Word, Self::Err> {
+        if text.len() != 32 || !text.bytes().all(|b| b.is_ascii_hexdigit()) {
+            return Err("a word is 32 hexadecimal digits, highest first");
+        }
+        Ok(Word(
+            u128::from_str_radix(text, 16).expect("32 hexadecimal digits are 128 bits"),
+        ))
+    }
+}
+
+impl Word {
+    pub(crate) fn raw(self) -> raw::Word {
+        raw::Word {
+            lo: self.0 as u64,
+            hi: (self.0 >> 64) as u64,
+        }
+    }
+
+    pub(crate) fn of(raw: raw::Word) -> Word {
+        Word(u128::from(raw.hi) << 64 | u128::from(raw.lo))
+    }
+}
+
+/// The halves of words, the low half of each first.
+pub(crate) fn halves(words: &[Word]) -> Vec<u64> {
+    words
+        .iter()
+        .flat_map(|w| [w.0 as u64, (w.0 >> 64) as u64])
+        .collect()
+}
+
+/// The words of halves.
+pub(crate) fn words(halves: &[u64]) -> Vec<Word> {
+    halves
+        .chunks_exact(2)
+        .map(|h| Word(u128::from(h[1]) << 64 | u128::from(h[0])))
+        .collect()
+}

@@ -1,0 +1,9 @@
+//! The commands, one to a module.
+
+pub mod check;
+pub mod commit;
+pub mod compare;
+pub mod demo;
+pub mod explain;
+pub mod open;
+pub mod tail;

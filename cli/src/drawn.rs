@@ -1,0 +1,82 @@
+//! Challenges and positions: from the checker's files, or, for trying it out, drawn from a seed text.
+
+use crate::files::read_text;
+use crate::options::Options;
+use crate::outcome::Failure;
+use crate::seal::{list, Shape};
+use dequmlo::Word;
+use std::collections::BTreeSet;
+
+/// What a person must know about challenges from a seed.
+pub const SEED_WARNING: &str = "the challenges come from a seed text: good for trying it out, and no substitute for challenges that the \
+                                checker draws itself after the root is known";
+
+/// The challenges that the options name, and where they come from; none where they name none.
+pub fn challenges(options: &Options, n: usize) -> Result<Option<(Vec<Word>, String)>, Failure> {
+    let seed = options.text("--seed")?;
+    match (options.path("--challenges"), seed) {
+        (Some(_), Some(_)) => Err(Failure("--challenges and --seed exclude each other".into())),
+        (Some(path), None) => {
+            let words: Vec<Word> = list(&path)?;
+            if words.len() != n {
+                return Err(Failure(format!(
+                    "{} has {} words, and n is {n}",
+                    path.display(),
+                    words.len()
+                )));
+            }
+            Ok(Some((words, format!("from {}", path.display()))))
+        }
+        (None, Some(seed)) => Ok(Some((
+            (0..n).map(|l| challenge(&seed, l)).collect(),
+            format!("drawn from the seed {seed:?}"),
+        ))),
+        (None, None) => Ok(None),
+    }
+}
+
+/// The positions that the options name, rising, each once; none where they name none.
+pub fn positions(options: &Options) -> Result<Option<Vec<usize>>, Failure> {
+    let given = match (options.text("--at")?, options.path("--positions")) {
+        (Some(_), Some(_)) => {
+            return Err(Failure("--at and --positions exclude each other".into()))
+        }
+        (Some(text), None) => text.replace(',', " "),
+        (None, Some(path)) => read_text(&path)?,
+        (None, None) => return Ok(None),
+    };
+    let read = |word: &str| {
+        word.parse()
+            .map_err(|_| Failure(format!("`{word}` is no position")))
+    };
+    let positions: BTreeSet<usize> = given
+        .split_whitespace()
+        .map(read)
+        .collect::<Result<_, _>>()?;
+    Ok(Some(positions.into_iter().collect()))
+}
+
+/// So many positions, or all if there are fewer, drawn from a seed text.
+pub fn seeded_positions(seed: &str, shape: &Shape, count: usize) -> Vec<usize> {
+    let all = 1usize << (shape.n + shape.k);
+    let count = count.min(all);
+    let mut drawn = BTreeSet::new();
+    let mut i = 0;
+    while drawn.len() < count {
+        drawn.insert(draw(seed, "position", i) as usize % all);
+        i += 1;
+    }
+    drawn.into_iter().collect()
+}
+
+fn challenge(seed: &str, level: usize) -> Word {
+    Word(draw(seed, "challenge", level))
+}
+
+/// The first 16 bytes of the digest of a name, a number and the seed.
+fn draw(seed: &str, name: &str, i: usize) -> u128 {
+    let message = format!("seal/seed/{name}/{i}/{seed}");
+    let digest =
+        dequmlo::digest(message.as_bytes()).expect("a command line is shorter than 2^24 bytes");
+    u128::from_le_bytes(digest[..16].try_into().expect("16 of 32 bytes"))
+}

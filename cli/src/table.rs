@@ -1,0 +1,79 @@
+//! A file as a table of words: 16 bytes each, little-endian, zeros after the file, and the file's byte length as the last word, so that the
+//! length too is under the root. The table has 2^n words, n from 1 to 20.
+
+use crate::outcome::Failure;
+use dequmlo::Word;
+use std::fs::File;
+use std::io::Read;
+use std::path::Path;
+
+/// A file's length and its table.
+pub struct Table {
+    pub bytes: usize,
+    pub words: Vec<Word>,
+}
+
+/// The table of a file; a sentence where the file is too large, of which then no more is read than shows that.
+pub fn read_table(path: &Path) -> Result<Result<Table, String>, Failure> {
+    let mut bytes = Vec::new();
+    File::open(path)
+        .and_then(|file| file.take(MOST_BYTES as u64 + 1).read_to_end(&mut bytes))
+        .map_err(|e| Failure(format!("cannot read {}: {e}", path.display())))?;
+    Ok(table_of(&bytes).map(|words| Table {
+        bytes: bytes.len(),
+        words,
+    }))
+}
+
+/// The largest file: all of 2^20 words but the last.
+const MOST_BYTES: usize = 16 * ((1 << 20) - 1);
+
+/// The table of these bytes, or a sentence where they are too many.
+fn table_of(bytes: &[u8]) -> Result<Vec<Word>, String> {
+    if bytes.len() > MOST_BYTES {
+        return Err(format!(
+            "the file has more than {MOST_BYTES} bytes, the most that a deposit has (n = 20); divide it and seal each part"
+        ));
+    }
+    let count = (bytes.len().div_ceil(16) + 1).next_power_of_two().max(2);
+    let mut table = vec![Word(0); count];
+    for (word, chunk) in table.iter_mut().zip(bytes.chunks(16)) {
+        let mut padded = [0; 16];
+        padded[..chunk.len()].copy_from_slice(chunk);
+        *word = Word(u128::from_le_bytes(padded));
+    }
+    table[count - 1] = Word(bytes.len() as u128);
+    Ok(table)
+}
+
+#[cfg(test)]
+mod tests {
+    use super::{table_of, MOST_BYTES};
+    use dequmlo::Word;
+
+    #[test]
+    fn a_small_file() {
+        assert_eq!(table_of(b"").unwrap(), [Word(0), Word(0)]);
+        assert_eq!(table_of(b"\x01\x02").unwrap(), [Word(0x0201), Word(2)]);
+        assert_eq!(
+            table_of(&[255; 17]).unwrap(),
+            [Word(u128::MAX), Word(255), Word(0), Word(17)]
+        );
+    }
+
+    #[test]
+    fn the_length_never_shares_a_word_with_the_file() {
+        assert_eq!(table_of(&[1; 16]).unwrap().len(), 2);
+        assert_eq!(table_of(&[1; 32]).unwrap().len(), 4);
+        assert_eq!(table_of(&[1; 48]).unwrap().len(), 4);
+        assert_eq!(table_of(&[1; 49]).unwrap().len(), 8);
+    }
+
+    #[test]
+    fn the_largest_file_and_one_byte_more() {
+        assert_eq!(table_of(&vec![1; MOST_BYTES]).unwrap().len(), 1 << 20);
+        assert!(table_of(&vec![1; MOST_BYTES + 1])
+            .unwrap_err()
+            .contains("more than 16777200 bytes"));
+    }
+}

@@ -1,0 +1,122 @@
+// The messages nearest the root in which two accepted query records differ, at the lowest level that differs, path a before path c. These
+// are helpers for the crate above: each requires.
+use compare_opening::pick_opening;
+use query::pair_of;
+use reader::Level;
+use reader::level_at;
+ghost use mathlib.Core.Path.{_≡_};
+ghost use Prim.Native.Nat.{_<_};
+ghost use lib.ListN.{length};
+ghost use Rattle.blake3.specs.Digest.{hash};
+ghost use Rattle.record.specs.Widths.{present};
+ghost use Rattle.comparing.specs.Compare.{recordsFound};
+ghost use Rattle.differing.specs.Chains.{Picked};
+ghost use Rattle.compare_levels.specs.Levels.{pathFound, placesFound, LevelSized, Comparable};
+
+// Of the levels at these places of two records: path c, which is of the next level, or else path a.
+fn pick_path(
+    base: &[u8],
+    n: usize,
+    k: usize,
+    l: usize,
+    q: usize,
+    next: bool,
+    s: &[u8],
+    x: Level,
+    t: &[u8],
+    y: Level,
+    first: &mut [u8],
+    second: &mut [u8],
+) -> usize
+    requires { ⌜ (q < 16777216) × (LevelSized (now base) n k l (now s) x) × (LevelSized (now base) n k l (now t) y) × (length (now first) ≡ 512) × (length (now second) ≡ 512) ⌝ }
+    ensures { λ r. ⌜ Picked (pathFound (now (base .entry)) n k l q next (now (s .entry)) x (now (t .entry)) y) (now (first .entry)) (now (second .entry)) (now (first .exit)) (now (second .exit)) r ⌝ }
+{
+    if next {
+        return pick_opening(
+            base,
+            n,
+            k,
+            l + 1,
+            q,
+            s,
+            x.c_group,
+            x.c_path,
+            t,
+            y.c_group,
+            y.c_path,
+            first,
+            second,
+        );
+    }
+    pick_opening(
+        base,
+        n,
+        k,
+        l,
+        2 * q,
+        s,
+        x.a_group,
+        x.a_path,
+        t,
+        y.a_group,
+        y.a_path,
+        first,
+        second,
+    )
+}
+
+// Path a before path c.
+fn pick_level(
+    base: &[u8],
+    n: usize,
+    k: usize,
+    l: usize,
+    q: usize,
+    s: &[u8],
+    x: Level,
+    t: &[u8],
+    y: Level,
+    first: &mut [u8],
+    second: &mut [u8],
+) -> usize
+    requires { ⌜ (q < 16777216) × (LevelSized (now base) n k l (now s) x) × (LevelSized (now base) n k l (now t) y) × (length (now first) ≡ 512) × (length (now second) ≡ 512) ⌝ }
+    ensures { λ r. ⌜ Picked (placesFound (now (base .entry)) n k l q (now (s .entry)) x (now (t .entry)) y) (now (first .entry)) (now (second .entry)) (now (first .exit)) (now (second .exit)) r ⌝ }
+{
+    let m = pick_path(base, n, k, l, q, false, s, x, t, y, first, second);
+    if m != 0 {
+        return m;
+    }
+    pick_path(base, n, k, l, q, true, s, x, t, y, first, second)
+}
+
+// Level by level, the lowest first.
+pub fn pick_levels(
+    base: &[u8],
+    n: usize,
+    k: usize,
+    position: usize,
+    s: &[u8],
+    t: &[u8],
+    first: &mut [u8],
+    second: &mut [u8],
+) -> usize
+    requires { ⌜ Comparable (now base) n k position (now s) (now t) (now first) (now second) ⌝ }
+    ensures { λ r. ⌜ Picked (recordsFound hash present (now (base .entry)) n k position (now (s .entry)) (now (t .entry))) (now (first .entry)) (now (second .entry)) (now (first .exit)) (now (second .exit)) r ⌝ }
+{
+    let mut l: usize = 0;
+    let mut i: usize = 4;
+    let mut j: usize = 4;
+    while l < n {
+        let x = level_at(s, i);
+        let y = level_at(t, j);
+        let q = pair_of(position, l);
+        let m = pick_level(base, n, k, l, q, s, x, t, y, first, second);
+        if m != 0 {
+            return m;
+        }
+        i = x.next;
+        j = y.next;
+        l += 1;
+    }
+    0
+}

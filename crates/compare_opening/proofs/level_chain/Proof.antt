@@ -1,0 +1,67 @@
+use native.Mathlib.Omega.{arith}
+use Rattle.digests.proofs.Messages.{message-length, prefix-is}
+use Rattle.opening.proofs.Levels.{sized-room, domain-room}
+use Rattle.compare_opening.proofs.Opening.{domain-there, chain-fits, chain-is}
+use borrow.Author.Needs.{needs}
+use Rattle.compare_opening.proofs.level_chain.Statement.{statement}
+use Rattle.compare_opening.proofs.level_chain.Tie as tie
+use Rattle.compare_opening.proofs.level_chain.Reads as reads
+use Rattle.compare_opening.proofs.level_chain.Lts as lts
+use Rattle.chains.proofs.put_chain.Reads as put-chain-reads
+use Rattle.levels.proofs.level_depth.Reads as level-depth-reads
+use Rattle.levels.proofs.level_domain.Reads as level-domain-reads
+use Rattle.levels.proofs.level_length.Reads as level-length-reads
+use Rattle.levels.proofs.level_width.Reads as level-width-reads
+
+slice-aggregate-level-domain : tie.Need-slice-aggregate-level-domain
+slice-aggregate-level-domain c = search needs
+
+level-domain-requires : tie.Need-level-domain-requires
+level-domain-requires c κs = search needs
+
+level-length-requires : tie.Need-level-length-requires
+level-length-requires c κs = search needs
+
+level-width-requires : tie.Need-level-width-requires
+level-width-requires c κs = search needs
+
+level-depth-requires : tie.Need-level-depth-requires
+level-depth-requires c κs = search needs
+
+array-share-prefix-domain : tie.Need-array-share-prefix-domain
+array-share-prefix-domain c = let h = sized-room _ _ _ _ _ _ _ (c .before .before .before .before .before .before .before .before .before .before .pre .0) in omega arith
+
+slice-aggregate-put-chain : tie.Need-slice-aggregate-put-chain
+slice-aggregate-put-chain c = let h = sized-room _ _ _ _ _ _ _ (c .before .before .before .before .before .before .before .before .before .before .before .pre .0) in message-length _ _ _ _ _ _ (c .before .before .before .before .before .before .level-domain .ensures) (omega arith)
+
+add-put-chain : tie.Need-add-put-chain
+add-put-chain c = let h = sized-room _ _ _ _ _ _ _ (c .before .before .before .before .before .before .before .before .before .before .before .pre .0) in search needs
+
+add-put-chain-2 : tie.Need-add-put-chain-2
+add-put-chain-2 c = let h = sized-room _ _ _ _ _ _ _ (c .before .before .before .before .before .before .before .before .before .before .before .pre .0) in search needs
+
+put-chain-requires : tie.Need-put-chain-requires
+put-chain-requires c κs = let h = sized-room _ _ _ _ _ _ _ (c .before .before .before .before .before .before .before .before .before .before .before .pre .0) in (domain-room _ _ _ _ _ (c .before .before .before .before .before .before .level-domain .ensures) (omega arith) (h .domain-short), omega arith, omega arith, omega arith, omega arith, chain-fits _ _ _ _ _ _ _ (c .before .before .before .before .before .before .before .before .before .before .before .pre .0) _ _ _ _ (domain-there _ _ _ _ _ (c .before .before .before .before .before .before .level-domain .ensures) (omega arith)) (c .before .before .before .level-width .ensures) (c .before .before .level-depth .ensures) (c .before .before .before .before .before .before .before .before .before .before .before .pre .1), omega arith)
+
+same-length : tie.Need-same-length
+same-length c = search needs
+
+returns : tie.Need-returns
+returns c = let h = sized-room _ _ _ _ _ _ _ (c .before .before .before .before .before .before .before .before .before .before .before .before .before .before .pre .0) in (omega (arith, c .before .before .before .before .before .before .before .before .before .level-domain .ensures .end), chain-is _ _ _ _ _ _ _ (c .before .before .before .before .before .before .before .before .before .before .before .before .before .before .pre .0) _ _ _ _ _ _ _ (c .before .before .put-chain .ensures) (prefix-is _ _ _ _ _ (c .before .before .before .before .before .before .before .before .before .level-domain .ensures) (omega arith)) (c .before .before .before .before .before .before .before .level-length .ensures) (c .before .before .before .before .before .before .level-width .ensures) (c .before .before .before .before .before .level-depth .ensures))
+
+pub level-chain-spec : {M : Type 1} → statement M
+level-chain-spec =
+    tie.close
+    (tie.spec
+    slice-aggregate-level-domain
+    level-domain-requires
+    level-length-requires
+    level-width-requires
+    level-depth-requires
+    array-share-prefix-domain
+    slice-aggregate-put-chain
+    add-put-chain
+    add-put-chain-2
+    put-chain-requires
+    same-length
+    returns)

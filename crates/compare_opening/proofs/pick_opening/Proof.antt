@@ -1,0 +1,80 @@
+use Rattle.opening.proofs.Levels.{sized-room}
+use Rattle.compare_opening.proofs.Opening.{chains-there, picked-opening}
+use borrow.Author.Needs.{needs}
+use Rattle.compare_opening.proofs.pick_opening.Statement.{statement}
+use Rattle.compare_opening.proofs.pick_opening.Tie as tie
+use Rattle.compare_opening.proofs.pick_opening.Reads as reads
+use Rattle.compare_opening.proofs.pick_opening.Lts as lts
+use Rattle.compare_opening.proofs.level_chain.Reads as level-chain-reads
+use Rattle.differing.proofs.pick_last.Reads as pick-last-reads
+use Rattle.levels.proofs.level_depth.Reads as level-depth-reads
+use Rattle.levels.proofs.level_width.Reads as level-width-reads
+
+slice-aggregate-level-chain : tie.Need-slice-aggregate-level-chain
+slice-aggregate-level-chain c = search needs
+
+level-chain-requires : tie.Need-level-chain-requires
+level-chain-requires c κs = search needs
+
+slice-aggregate-level-chain-2 : tie.Need-slice-aggregate-level-chain-2
+slice-aggregate-level-chain-2 c = search needs
+
+level-chain-requires-2 : tie.Need-level-chain-requires-2
+level-chain-requires-2 c κs = search needs
+
+level-width-requires : tie.Need-level-width-requires
+level-width-requires c κs = search needs
+
+level-depth-requires : tie.Need-level-depth-requires
+level-depth-requires c κs = search needs
+
+slice-aggregate-pick-last : tie.Need-slice-aggregate-pick-last
+slice-aggregate-pick-last c = search needs
+
+slice-aggregate-pick-last-2 : tie.Need-slice-aggregate-pick-last-2
+slice-aggregate-pick-last-2 c = search needs
+
+add-pick-last : tie.Need-add-pick-last
+add-pick-last c = let h = sized-room _ _ _ _ _ _ _ (c .before .before .before .before .before .before .before .before .before .before .before .before .before .before .before .pre .0) in let e = c .before .before .before .before .before .before .before .before .level-chain .ensures .0 in search needs
+
+mul-pick-last : tie.Need-mul-pick-last
+mul-pick-last c = let h = sized-room _ _ _ _ _ _ _ (c .before .before .before .before .before .before .before .before .before .before .before .before .before .before .before .pre .0) in let e = c .before .before .before .before .before .before .before .before .level-chain .ensures .0 in search needs
+
+add-pick-last-2 : tie.Need-add-pick-last-2
+add-pick-last-2 c = let h = sized-room _ _ _ _ _ _ _ (c .before .before .before .before .before .before .before .before .before .before .before .before .before .before .before .pre .0) in let e = c .before .before .before .before .before .before .before .before .level-chain .ensures .0 in search needs
+
+add-pick-last-3 : tie.Need-add-pick-last-3
+add-pick-last-3 c = let h = sized-room _ _ _ _ _ _ _ (c .before .before .before .before .before .before .before .before .before .before .before .before .before .before .before .pre .0) in let e = c .before .before .before .before .before .before .before .before .level-chain .ensures .0 in search needs
+
+pick-last-requires : tie.Need-pick-last-requires
+pick-last-requires c κs = chains-there _ _ _ _ _ _ _ _ _ _ _ (c .before .before .before .before .before .before .before .before .before .before .before .before .before .before .before .before .before .pre .0) (c .before .before .before .before .before .before .before .before .before .before .before .before .before .before .before .before .before .pre .1) _ _ _ (c .before .before .before .before .before .before .before .before .before .before .level-chain .ensures .0) (c .before .before .before .before .before .level-width .ensures) (c .before .before .before .before .level-depth .ensures) _ _ _ _ (c .before .before .before .before .before .before .before .before .before .before .level-chain .ensures .1) (c .before .before .before .before .before .before .before .level-chain2 .ensures .1) (search needs) (search needs) _ _ (c .before .before .before .before .before .before .before .before .before .before .before .before .before .before .before .before .before .pre .2) (c .before .before .before .before .before .before .before .before .before .before .before .before .before .before .before .before .before .pre .3)
+
+same-length : tie.Need-same-length
+same-length c = search needs
+
+same-length-2 : tie.Need-same-length-2
+same-length-2 c = search needs
+
+returns : tie.Need-returns
+returns c = picked-opening _ _ _ _ _ _ _ _ _ _ _ (c .before .before .before .before .before .before .before .before .before .before .before .before .before .before .before .before .before .before .before .before .before .before .pre .0) (c .before .before .before .before .before .before .before .before .before .before .before .before .before .before .before .before .before .before .before .before .before .before .pre .1) _ _ _ (c .before .before .before .before .before .before .before .before .before .before .before .before .before .before .before .level-chain .ensures .0) (c .before .before .before .before .before .before .before .before .before .before .level-width .ensures) (c .before .before .before .before .before .before .before .before .before .level-depth .ensures) _ _ _ _ (c .before .before .before .before .before .before .before .before .before .before .before .before .before .before .before .level-chain .ensures .1) (c .before .before .before .before .before .before .before .before .before .before .before .before .level-chain2 .ensures .1) (search needs) (search needs) _ _ _ _ _ (c .before .before .before .before .pick-last .ensures)
+
+pub pick-opening-spec : {M : Type 1} → statement M
+pick-opening-spec =
+    tie.close
+    (tie.spec
+    slice-aggregate-level-chain
+    level-chain-requires
+    slice-aggregate-level-chain-2
+    level-chain-requires-2
+    level-width-requires
+    level-depth-requires
+    slice-aggregate-pick-last
+    slice-aggregate-pick-last-2
+    add-pick-last
+    mul-pick-last
+    add-pick-last-2
+    add-pick-last-3
+    pick-last-requires
+    same-length
+    same-length-2
+    returns)

@@ -1,0 +1,83 @@
+// Query and tail records, built and checked.
+use gf128::Word;
+ghost use mathlib.Core.Path.{_≡_};
+ghost use Rattle.gf128.specs.Word.{word};
+ghost use Rattle.blake3.specs.Digest.{hash};
+ghost use Rattle.record.specs.Widths.{present};
+ghost use Rattle.record.specs.Query.{checkQuery};
+ghost use Rattle.record.specs.Tail.{checkTail};
+ghost use Rattle.record.specs.Build.{buildQueryNumber, buildQuery, buildTailNumber, buildTail};
+ghost use Rattle.dequmlo.specs.Answers.{checked};
+
+// The query record at a position, from all levels and their trees end to end: 4, 5, 11.
+#[no_mangle]
+pub extern "C" fn dequmlo_build_query(
+    out: &mut [u8],
+    levels: &[u64],
+    trees: &[u8],
+    n: usize,
+    k: usize,
+    position: usize,
+) -> u32
+    ensures { λ r. ⌜ r ≡ buildQueryNumber present n k (now (levels .entry)) (now (trees .entry)) position (now (out .entry)) ⌝ }
+    ensures { λ _. ⌜ now (out .exit) ≡ buildQuery present n k (now (levels .entry)) (now (trees .entry)) position (now (out .entry)) ⌝ }
+{
+    query_build::build_query(out, levels, trees, n, k, position)
+}
+
+// The number, and the level for 16 to 26.
+#[repr(C)]
+pub struct Checked {
+    pub number: u32,
+    pub level: u32,
+}
+
+// A query record checked: 4, 5, 7, 11, 14 to 26.
+#[no_mangle]
+pub extern "C" fn dequmlo_check_query(
+    base: &[u8],
+    n: usize,
+    k: usize,
+    position: usize,
+    challenges: &[u64],
+    roots: &[u8],
+    bytes: &[u8],
+) -> Checked
+    ensures { λ r. ⌜ checked r ≡ checkQuery hash present (now (base .entry)) n k position (now (challenges .entry)) (now (roots .entry)) (now (bytes .entry)) ⌝ }
+{
+    let a = query::check_query(base, n, k, position, challenges, roots, bytes);
+    Checked {
+        number: a.number,
+        level: a.level,
+    }
+}
+
+// The tail record of the last level and its tree: 4, 5.
+#[no_mangle]
+pub extern "C" fn dequmlo_build_tail(
+    out: &mut [u8],
+    level: &[u64],
+    tree: &[u8],
+    n: usize,
+    k: usize,
+) -> u32
+    ensures { λ r. ⌜ r ≡ buildTailNumber present n k (now (level .entry)) (now (tree .entry)) (now (out .entry)) ⌝ }
+    ensures { λ _. ⌜ now (out .exit) ≡ buildTail present n k (now (level .entry)) (now (tree .entry)) (now (out .entry)) ⌝ }
+{
+    tail_build::build_tail(out, level, tree, n, k)
+}
+
+// A tail record checked against the last level's root and the terminal claim: 4, 5, 7, 14, 27 to 31.
+#[no_mangle]
+pub extern "C" fn dequmlo_check_tail(
+    base: &[u8],
+    n: usize,
+    k: usize,
+    root: &[u8],
+    claim: Word,
+    bytes: &[u8],
+) -> u32
+    ensures { λ r. ⌜ r ≡ checkTail hash present (now (base .entry)) n k (now (root .entry)) (word claim) (now (bytes .entry)) ⌝ }
+{
+    tail::check_tail(base, n, k, root, claim, bytes)
+}

@@ -1,0 +1,4 @@
+pub mod Same
+pub mod Buffers
+pub mod Picked
+pub mod Chains

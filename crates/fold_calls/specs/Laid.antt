@@ -1,0 +1,59 @@
+-- The levels of a run, end to end in one buffer: what a done fold of level l lays, and what a list of calls leaves.
+use Prim.Native.Nat.{ℕ, suc, _+_, _-_, _*_, _^_, _≤_}
+use mathlib.Core.Path.{_≡_}
+use mathlib.Core.List.{List, _++_, map}
+use lib.ListN.{length, take, drop, set}
+use Rattle.laws.specs.Questions.{onDone}
+use Rattle.field.specs.Words.{words}
+use Rattle.multilinear.specs.Fold.{foldList}
+use Rattle.multilinear.specs.Folds.{Fold}
+use Rattle.code.specs.Questions.{foldNumber}
+use Rattle.record.specs.Build.{levelStart, levelsLength, levelValues}
+use Rattle.claim.specs.Calls.{Call, doneFolds, afterFolds}
+use Rattle.fold_calls.specs.Lent.{codewordHalves, foldedHalves}
+
+-- the words ws of all levels, with the words vs laid as level l
+unfoldable pub laid : ℕ → ℕ → ℕ → List ℕ → List ℕ → List ℕ
+laid n k l vs ws = take (levelStart n k l) ws ++ (vs ++ drop (levelStart n k (suc l)) ws)
+
+-- the challenges of folds
+abbrev pub challengesOf : List Fold → List ℕ
+challengesOf fs = map (λ f. f .by) fs
+
+-- the number of a call at a variable, on level l
+abbrev pub callsNumber : ℕ → ℕ → ℕ → ℕ → ℕ
+callsNumber n k l var = foldNumber (n - l) k var (codewordHalves (n - l) k) (foldedHalves (n - l) k)
+
+-- where a list of calls on the codeword c stands, of which the calls `rest` are to come: l are done, the codeword is level l and starts at
+-- the half `from`, the levels up to l are laid, and the challenges of the done calls are kept
+pub record Reached (n k : ℕ) (c : List ℕ) (calls rest : List Call) (l from : ℕ) (levels kept : List ℕ) : Type 0 where
+  pub within : l ≤ n
+  pub from= : from ≡ 2 * levelStart n k l
+  pub levels-long : length levels ≡ 2 * levelsLength n k
+  pub kept-long : length kept ≡ 2 * n
+  pub before : (j : ℕ) → j ≤ l → levelValues n k (words levels) j ≡ afterFolds c calls j
+  pub left : (j : ℕ) → afterFolds c calls (l + j) ≡ afterFolds (levelValues n k (words levels) l) rest j
+  pub by : challengesOf (doneFolds c calls) ≡ take l (words kept) ++ challengesOf (doneFolds (levelValues n k (words levels) l) rest)
+
+-- what is lent to a call: n and k within their ranges, all levels, and room for a fold, in halves
+pub record Room (n k levels half : ℕ) : Type 0 where
+  pub n-most : n ≤ 20
+  pub k-most : k ≤ 4
+  pub levels-long : levels ≡ 2 * levelsLength n k
+  pub half-long : half ≡ 2 ^ (n + k)
+
+-- what a call at a variable by r leaves, on level l, which starts at the half `from`: refused, all as it was; done, the fold laid as the next level,
+-- and the challenge kept
+pub record Called (n k l from var by : ℕ) (levels kept levels′ kept′ : List ℕ) (l′ from′ : ℕ) : Type 0 where
+  pub count : l′ ≡ onDone (callsNumber n k l var) (suc l) l
+  pub start : from′ ≡ onDone (callsNumber n k l var) (2 * levelStart n k (suc l)) from
+  pub level : words levels′ ≡ onDone (callsNumber n k l var) (laid n k (suc l) (foldList var by (levelValues n k (words levels) l)) (words levels)) (words levels)
+  pub challenge : words kept′ ≡ onDone (callsNumber n k l var) (set (words kept) l by) (words kept)
+
+-- what a list of calls on the codeword c leaves: how many are done, and c as level 0; where n are done, every level, and the challenges of the
+-- done ones
+pub record Left (n k : ℕ) (c : List ℕ) (calls : List Call) (done : ℕ) (levels kept : List ℕ) : Type 0 where
+  pub count : done ≡ length (doneFolds c calls)
+  pub first : levelValues n k (words levels) 0 ≡ c
+  pub each : done ≡ n → (l : ℕ) → l ≤ n → levelValues n k (words levels) l ≡ afterFolds c calls l
+  pub kept-are : done ≡ n → words kept ≡ challengesOf (doneFolds c calls)

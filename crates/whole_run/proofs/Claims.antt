@@ -1,0 +1,124 @@
+-- The claim of demand 3 applied to what a run leaves.
+use Prim.Native.Nat.{ℕ, suc, _+_, _-_, _*_, _^_, _≤_}
+use mathlib.Core.Path.{_≡_, refl, sym, _∙_, ap}
+use mathlib.Core.Logic.{_↔_}
+use mathlib.Core.List.{List, _++_}
+use native.Mathlib.Omega.{arith}
+use lib.ListN.{length, drop, length-append, length-drop, length-map}
+use lib.Seq.{drop-at}
+use Rattle.laws.specs.Table.{at}
+use Rattle.laws.specs.Lists.{flat}
+use Rattle.field.specs.Words.{words}
+use Rattle.field.proofs.Words.{drop-words, length-words-even}
+use Rattle.multilinear.specs.Multilinear.{mle}
+use Rattle.multilinear.specs.Folds.{Fold, atFirst}
+use Rattle.blake3.specs.Digest.{hash}
+use Rattle.blake3.proofs.HashMode.{length-hash}
+use Rattle.record.specs.Widths.{present, levelLength, treeLength}
+use Rattle.record.specs.Trees.{endToEnd, treeFor, rootFor, levelsLent, treesLent, rootsLent}
+use Rattle.record.specs.Query.{Answer, accepted, checkQuery}
+use Rattle.record.specs.Tail.{checkTail}
+use Rattle.record.specs.Build.{levelsLength, treeStart, levelValues, buildQuery, buildTail}
+use Rattle.record.proofs.Widths.{present-powers}
+use Rattle.record.proofs.Totals.{endToEnd-ext}
+use Rattle.record.proofs.Offsets.{level-within, tree-within, length-levelValues}
+use Rattle.record.proofs.Accepted.{length-rootFor}
+use Rattle.claim.specs.Calls.{Call, doneFolds, afterFolds}
+use Rattle.claim.specs.Claim.{Deposit, Lent, LastLent, Claim}
+use Rattle.claim.proofs.Claim.{claim}
+use Rattle.fold_calls.proofs.Laying.{levels-laid}
+use Rattle.level_trees.proofs.Growing.{length-tree}
+use Rattle.whole_run.specs.Whole.{Room, RecordRoom, LastRoom, codeword, calls, Deposited, Claimed, Ran}
+
+-- room for the last level, its tree and its root
+pub last-room : (n k base table vars challenges gammas levels half kept trees roots : ℕ) → Room n k base table vars challenges gammas levels half kept trees roots → LastRoom n k levels trees roots
+last-room n k base table vars challenges gammas levels half kept trees roots r =
+    record {
+      small = omega (arith, r .n-most, r .k-most);
+      levels-least = omega (arith, r .levels-long, level-within n k n (omega arith));
+      trees-least = omega (arith, r .trees-long, tree-within present n k n (omega arith));
+      roots-least = omega (arith, r .roots-long);
+    }
+
+-- the end of a list
+drop-last : (m : ℕ) (xs ys zs : List ℕ) → xs ≡ ys ++ zs → length zs ≡ m → drop (length xs - m) xs ≡ zs
+drop-last m xs ys zs e l =
+    rw e (drop-at ys zs (length (ys ++ zs) - m) (omega (arith, length-append ys zs)))
+
+module _ (n k : ℕ) (base table vars challenges gammas levels kept trees roots : List ℕ) (g h : ℕ)
+    (r : Room n k (length base) (length table) (length vars) (length challenges) g (length levels) h (length kept) (length trees) (length roots))
+    (done : ℕ) (d : Deposited n k base table vars challenges gammas levels kept trees roots done)
+    (all-first : doneFolds (codeword n k base table vars challenges) (calls n k base table vars challenges) ≡ atFirst (words kept)) where
+  abbrev c : List ℕ
+  c = codeword n k base table vars challenges
+
+  abbrev xs : List Call
+  xs = calls n k base table vars challenges
+
+  abbrev level : ℕ → List ℕ
+  level = afterFolds c xs
+
+  deposit : Deposit n k base table kept
+  deposit = record { n-least = r .n-least; n-most = r .n-most; k-most = r .k-most; base-short = r .base-short; table-long = r .table-long; challenges-long = r .kept-long }
+
+  the-claim : Claim n k base table kept xs
+  the-claim = claim n k base table kept xs deposit all-first
+
+  all-done : done ≡ n
+  all-done =
+      d .left .count ∙ ap length all-first ∙ length-map (words kept) (λ (x : ℕ). record { var = 0; by = x })
+      ∙ length-words-even kept n (r .kept-long)
+
+  each : (l : ℕ) → l ≤ n → levelValues n k (words levels) l ≡ level l
+  each l h = d .left .each all-done l h
+
+  words-are : words levels ≡ levelsLent n level
+  words-are = levels-laid n k (words levels) level (length-words-even levels (levelsLength n k) (r .levels-long)) each
+
+  trees-are : trees ≡ treesLent hash present base n k level
+  trees-are = d .trees-are ∙ endToEnd-ext (suc n) _ _ (λ l h. ap (λ (x : List ℕ). flat (treeFor hash present base n k l x)) (each l (omega arith)))
+
+  roots-are : roots ≡ rootsLent hash present base n k level
+  roots-are = d .roots-are ∙ endToEnd-ext (suc n) _ _ (λ l h. ap (rootFor hash present base n k l) (each l (omega arith)))
+
+  lent : Lent n k base table kept xs levels trees roots
+  lent = record { levels-long = r .levels-long; levels-are = words-are; trees-are = trees-are; roots-are = roots-are }
+
+  length-last : length (level n) ≡ levelLength n k n
+  length-last = ap length (sym (each n (omega arith))) ∙ length-levelValues n k n (words levels) (omega arith) (length-words-even levels (levelsLength n k) (r .levels-long))
+
+  -- the last level, its tree and its root stand at the end
+  abbrev last : List ℕ
+  last = drop (length levels - 2 * levelLength n k n) levels
+
+  last-long : length last ≡ 2 * levelLength n k n
+  last-long = length-drop (length levels - 2 * levelLength n k n) levels ∙ omega (arith, r .levels-long, level-within n k n (omega arith))
+
+  last-is : words last ≡ level n
+  unfolding endToEnd
+  last-is =
+      let m : length (words levels) ≡ levelsLength n k = length-words-even levels (levelsLength n k) (r .levels-long) in
+      let e : length levels - 2 * levelLength n k n ≡ 2 * (length (words levels) - levelLength n k n) = omega (arith, r .levels-long, m) in
+      ap (λ (i : ℕ). words (drop i levels)) e ∙ drop-words (length (words levels) - levelLength n k n) levels
+      ∙ drop-last (levelLength n k n) (words levels) (endToEnd n level) (level n) words-are length-last
+
+  tree-is : drop (length trees - 32 * treeLength present n k n) trees ≡ flat (treeFor hash present base n k n (level n))
+  unfolding endToEnd
+  tree-is = drop-last (32 * treeLength present n k n) trees (endToEnd n (λ l. flat (treeFor hash present base n k l (level l)))) _ trees-are (length-tree base n k n (level n))
+
+  root-is : drop (length roots - 32) roots ≡ rootFor hash present base n k n (level n)
+  unfolding endToEnd
+  root-is = drop-last 32 roots (endToEnd n (λ l. rootFor hash present base n k l (level l))) _ roots-are (length-rootFor hash present base n k length-hash n (level n) present-powers)
+
+  last-lent : LastLent n k base table kept xs last (drop (length trees - 32 * treeLength present n k n) trees) (drop (length roots - 32) roots)
+  last-lent = record { level-long = last-long; level-is = last-is; tree-is = tree-is; root-is = root-is }
+
+  module _ (position : ℕ) (query tail : List ℕ) (q : RecordRoom n k position (length query) (length tail)) where
+    pub claim-holds : (query′ tail′ : List ℕ) (answer : Answer) (number terminal : ℕ) → query′ ≡ buildQuery present n k levels trees position query → answer ≡ checkQuery hash present base n k position kept roots query′
+        → tail′ ≡ buildTail present n k last (drop (length trees - 32 * treeLength present n k n) trees) tail → number ≡ checkTail hash present base n k (drop (length roots - 32) roots) terminal tail′
+        → Claimed n k base table vars challenges kept answer number terminal
+    claim-holds query′ tail′ answer number terminal eq ea et en =
+        record {
+          query-accepted = ea ∙ ap (checkQuery hash present base n k position kept roots) eq ∙ the-claim .query-record levels trees roots lent position (q .position-low) query (q .query-long) .1;
+          tail-accepted = rw (en, et) (the-claim .tail-record last _ _ last-lent tail (q .tail-long) .1 terminal);
+        }

@@ -1,0 +1,89 @@
+-- Committing, the calls and the trees, one after the other: no step is refused, and each finds what the one before left.
+use Prim.Native.Nat.{ℕ, _+_, _-_, _*_, _^_, _≤_}
+use mathlib.Core.Path.{_≡_, sym, _∙_, ap, subst}
+use mathlib.Core.List.{List, _++_}
+use native.Mathlib.Omega.{arith}
+use borrow.Author.Tests.{le-leb, eq-eqb}
+use lib.ListN.{length, take, drop, length-drop}
+use lib.Seq.{take-at, take-all}
+use Rattle.laws.specs.Lists.{part, flat}
+use Rattle.laws.proofs.Questions.{yes-all}
+use Rattle.field.specs.Words.{words}
+use Rattle.field.proofs.Words.{words-append, length-words-even}
+use Rattle.blake3.specs.Digest.{hash}
+use Rattle.record.specs.Widths.{present, levelLength, treeLength, total}
+use Rattle.record.specs.Trees.{treeFor}
+use Rattle.record.specs.Tail.{checkTail}
+use Rattle.record.specs.Build.{levelStart, treeStart, levelValues, buildTail}
+use Rattle.record.proofs.Offsets.{level-within, tree-within}
+use Rattle.seal.specs.Commit.{commitQuestions, commitNumber, committedCodeword, committedTree}
+use Rattle.claim.specs.Calls.{Call}
+use Rattle.fold_calls.specs.Laid.{Left}
+use Rattle.whole_run.specs.Whole.{Room}
+
+-- ---- level 0 and its tree, at the front
+
+first-length : (n k : ℕ) → levelLength n k 0 ≡ 2 ^ (n + k)
+unfolding levelLength
+first-length n k = ap (λ (i : ℕ). 2 ^ i) {x = n + k - 0} {y = n + k} (omega arith)
+
+module _ (n k base table vars challenges gammas levels half kept trees roots : ℕ) (r : Room n k base table vars challenges gammas levels half kept trees roots) where
+  pub small : n + k ≤ 24
+  small = omega (arith, r .n-most, r .k-most)
+
+  pub front-fits : (size : ℕ) → size ≡ levelLength n k 0 → 2 * size ≤ levels
+  unfolding levelStart total
+  front-fits size e = omega (arith, r .levels-long, level-within n k 0 (omega arith))
+
+  pub tree-fits : (bytes : ℕ) → bytes ≡ 32 * treeLength present n k 0 → bytes ≤ trees
+  unfolding treeStart total
+  tree-fits bytes e = omega (arith, r .trees-long, tree-within present n k 0 (omega arith))
+
+  -- committing is not refused
+  pub commit-allowed : (size bytes : ℕ) → size ≡ 2 * levelLength n k 0 → bytes ≡ 32 * treeLength present n k 0 → commitNumber present n k base table gammas size bytes ≡ 0
+  unfolding commitNumber
+  commit-allowed size bytes es eb =
+      yes-all (commitQuestions present n k base table gammas size bytes) (
+        le-leb n 20 (r .n-most),
+        (
+          le-leb k 4 (r .k-most),
+          (eq-eqb _ _ (r .table-long), (eq-eqb _ _ (r .gammas-long), (eq-eqb _ _ (es ∙ ap (λ (x : ℕ). 2 * x) (first-length n k)), (eq-eqb _ _ eb, (le-leb base 200 (r .base-short), tt))))),
+        ),
+      )
+
+-- what stands at the front is level 0
+pub first-level : (n k : ℕ) (front rest : List ℕ) → length front ≡ 2 * levelLength n k 0 → levelValues n k (words (front ++ rest)) 0 ≡ words front
+unfolding levelValues levelStart total part
+first-level n k front rest e =
+    ap (take (levelLength n k 0)) (words-append front rest (levelLength n k 0) e) ∙ take-at (words front) (words rest) (levelLength n k 0) (length-words-even front (levelLength n k 0) e)
+
+-- the calls are on the committed codeword
+pub calls-left : (n k : ℕ) (c c′ : List ℕ) (calls : List Call) (done : ℕ) (levels kept : List ℕ) → c ≡ c′ → Left n k c calls done levels kept → Left n k c′ calls done levels kept
+calls-left n k c c′ calls done levels kept e h = subst (λ (x : List ℕ). Left n k x calls done levels kept) e h
+
+-- the tree that committing left is that of level 0
+pub first-tree : (n k : ℕ) (base table levels front rest : List ℕ) → length front ≡ 32 * treeLength present n k 0 → front ≡ committedTree hash present base n k (words table)
+    → levelValues n k (words levels) 0 ≡ committedCodeword hash base n k (words table) → take (32 * treeLength present n k 0) (front ++ rest) ≡ flat (treeFor hash present base n k 0 (levelValues n k (words levels) 0))
+unfolding committedTree
+first-tree n k base table levels front rest l e f =
+    take-at front rest (32 * treeLength present n k 0) l ∙ e ∙ ap (λ (x : List ℕ). flat (treeFor hash present base n k 0 x)) (sym f)
+
+-- lengths that a step kept
+pub room-same : (n k base table vars challenges gammas levels half kept trees roots levels′ kept′ trees′ roots′ : ℕ) → Room n k base table vars challenges gammas levels half kept trees roots
+    → levels′ ≡ levels → kept′ ≡ kept → trees′ ≡ trees → roots′ ≡ roots → Room n k base table vars challenges gammas levels′ half kept′ trees′ roots′
+room-same n k base table vars challenges gammas levels half kept trees roots levels′ kept′ trees′ roots′ r el ek et er = rw (el, ek, et, er) r
+
+-- ---- the last level, its tree and its root, from a place to the end
+
+to-end : (i : ℕ) (xs : List ℕ) → take (length xs - i) (drop i xs) ≡ drop i xs
+to-end i xs = take-all (length xs - i) (drop i xs) (omega (arith, length-drop i xs))
+
+-- the sizes as code computes them
+pub tail-built : (n k size bytes : ℕ) (levels trees out out′ : List ℕ) → size ≡ levelLength n k n → bytes ≡ 32 * treeLength present n k n
+    → out′ ≡ buildTail present n k (take (length levels - (length levels - 2 * size)) (drop (length levels - 2 * size) levels)) (take (length trees - (length trees - bytes)) (drop (length trees - bytes) trees)) out
+    → out′ ≡ buildTail present n k (drop (length levels - 2 * levelLength n k n) levels) (drop (length trees - 32 * treeLength present n k n) trees) out
+tail-built n k size bytes levels trees out out′ es eb e = rw (to-end (length levels - 2 * size) levels, to-end (length trees - bytes) trees, es, eb) at e
+
+pub tail-checked : (base : List ℕ) (n k claim number : ℕ) (roots out : List ℕ) → number ≡ checkTail hash present base n k (take (length roots - (length roots - 32)) (drop (length roots - 32) roots)) claim out
+    → number ≡ checkTail hash present base n k (drop (length roots - 32) roots) claim out
+tail-checked base n k claim number roots out e = rw (to-end (length roots - 32) roots) at e

@@ -1,0 +1,82 @@
+-- The whole run: a table committed, a list of fold calls on its codeword, the levels' trees and roots, the records after it and their checks.
+-- What is lent to it, what it leaves, and the claim of demand 3 about that.
+use Prim.Native.Nat.{ℕ, suc, _+_, _-_, _*_, _^_, _<_, _≤_}
+use mathlib.Core.Path.{_≡_}
+use mathlib.Core.Logic.{_↔_}
+use mathlib.Core.List.{List}
+use lib.ListN.{length, drop}
+use Rattle.laws.specs.Table.{at}
+use Rattle.field.specs.Words.{words}
+use Rattle.multilinear.specs.Multilinear.{mle}
+use Rattle.multilinear.specs.Folds.{atFirst}
+use Rattle.blake3.specs.Digest.{hash}
+use Rattle.gamma.specs.Gammas.{gammas}
+use Rattle.record.specs.Widths.{present, levelLength, treeLength}
+use Rattle.record.specs.Trees.{treesLent, rootsLent}
+use Rattle.record.specs.Sizes.{querySize, tailSize}
+use Rattle.record.specs.Query.{Answer, accepted, checkQuery}
+use Rattle.record.specs.Tail.{checkTail}
+use Rattle.record.specs.Build.{levelsLength, treeStart, levelValues, buildQuery, buildTail}
+use Rattle.seal.specs.Commit.{committedCodeword}
+use Rattle.claim.specs.Calls.{Call, doneFolds}
+use Rattle.fold_calls.specs.Lent.{lentCalls}
+use Rattle.fold_calls.specs.Laid.{Left}
+
+-- what is lent for the levels: n, k and the base domain within their ranges, a table of 2^n words, as many challenges as variables, and room for
+-- the gammas, all levels, a fold, n challenges, all trees and all roots, in halves and bytes
+pub record Room (n k base table vars challenges gammas levels half kept trees roots : ℕ) : Type 0 where
+  pub n-least : 1 ≤ n
+  pub n-most : n ≤ 20
+  pub k-most : k ≤ 4
+  pub base-short : base ≤ 200
+  pub table-long : table ≡ 2 * 2 ^ n
+  pub challenges-long : challenges ≡ 2 * vars
+  pub gammas-long : gammas ≡ 2 * (k * n)
+  pub levels-long : levels ≡ 2 * levelsLength n k
+  pub half-long : half ≡ 2 ^ (n + k)
+  pub kept-long : kept ≡ 2 * n
+  pub trees-long : trees ≡ 32 * treeStart present n k (suc n)
+  pub roots-long : roots ≡ 32 * (n + 1)
+
+-- and for the records: a position, and room for both
+pub record RecordRoom (n k position query tail : ℕ) : Type 0 where
+  pub position-low : position < 2 ^ (n + k)
+  pub query-long : query ≡ querySize present n k
+  pub tail-long : tail ≡ tailSize present n k
+
+-- what is lent to the tail record: at least the last level, its tree and its root
+pub record LastRoom (n k levels trees roots : ℕ) : Type 0 where
+  pub small : n + k ≤ 24
+  pub levels-least : 2 * levelLength n k n ≤ levels
+  pub trees-least : 32 * treeLength present n k n ≤ trees
+  pub roots-least : 32 ≤ roots
+
+module _ (n k : ℕ) (base table vars challenges : List ℕ) where
+  -- the codeword as `commit` leaves it, and the calls on it
+  abbrev pub codeword : List ℕ
+  codeword = committedCodeword hash base n k (words table)
+
+  abbrev pub calls : List Call
+  calls = lentCalls n k vars (words challenges)
+
+  -- what committing, the calls and the trees leave
+  pub record Deposited (gammas′ levels kept trees roots : List ℕ) (done : ℕ) : Type 0 where
+    pub gammas-are : words gammas′ ≡ gammas hash base n k
+    pub left : Left n k codeword calls done levels kept
+    pub trees-are : trees ≡ treesLent hash present base n k (levelValues n k (words levels))
+    pub roots-are : roots ≡ rootsLent hash present base n k (levelValues n k (words levels))
+
+  -- the claim: where the done calls are n folds at variable 0 by the challenges kept, r, the query record is accepted, and the tail record exactly
+  -- for the claim P(r)
+  pub record Claimed (kept : List ℕ) (answer : Answer) (tail claim : ℕ) : Type 0 where
+    pub query-accepted : answer ≡ accepted
+    pub tail-accepted : (tail ≡ 0) ↔ (claim ≡ mle (at (words table)) (words kept))
+
+  -- the run: what is left, what the records are and what their checks answer
+  pub record Ran (position claim : ℕ) (gammas′ levels kept trees roots query query′ tail tail′ : List ℕ) (done : ℕ) (answer : Answer) (number : ℕ) : Type 0 where
+    pub deposited : Deposited gammas′ levels kept trees roots done
+    pub query-is : query′ ≡ buildQuery present n k levels trees position query
+    pub tail-is : tail′ ≡ buildTail present n k (drop (length levels - 2 * levelLength n k n) levels) (drop (length trees - 32 * treeLength present n k n) trees) tail
+    pub answer-is : answer ≡ checkQuery hash present base n k position kept roots query′
+    pub number-is : number ≡ checkTail hash present base n k (drop (length roots - 32) roots) claim tail′
+    pub claimed : doneFolds codeword calls ≡ atFirst (words kept) → Claimed kept answer number claim

@@ -1,0 +1,198 @@
+/* The deposit seal's library: libdequmlo.a, made by `rt staticlib dequmlo` from proved code (docs/LINKING.md).
+
+   Answers. A function answers 0 when the work is done and the number of the first question whose answer is no when it is refused
+   (docs/REFUSALS.md lists them). A refused call changes no lent byte, and every other field of its answer is 0, but for the level of a
+   refused query record.
+
+   Memory. Nothing is allocated and nothing is kept: the caller owns every buffer and lends it for the length of the call. A lent buffer
+   is a pointer and a count of elements; the pointer must be valid for that count and aligned, and may not be null even where the count
+   is 0. Buffers lent to one call must not overlap, except that two that are only read may. No call takes more than 96 KiB of stack.
+   Functions share no state: any number of threads may call them, each with buffers of its own.
+
+   Words. A word is an element of GF(2^128): bit i is the coefficient of x^i, reduced by x^128 + x^7 + x^2 + x + 1. A table of words is
+   lent as uint64_t halves, the low half first, so its count is twice its words. Digests are 32 bytes each.
+
+   Sizes. n is from 0 to 20 and k from 0 to 4; for records and comparing n is from 1. A length that is not the one named at a function is
+   refused with 5. */
+#ifndef DEQUMLO_H
+#define DEQUMLO_H
+
+#include <stddef.h>
+#include <stdint.h>
+
+#ifdef __cplusplus
+extern "C" {
+#endif
+
+typedef struct {
+    uint64_t lo;
+    uint64_t hi;
+} dequmlo_word;
+
+/* What n and k fix; all 0 where the number is not 0. In words: the table, the gammas, the codeword and all levels end to end. In bytes:
+   level 0's tree, all levels' trees end to end, a query record and a tail record. */
+typedef struct {
+    uint32_t number;
+    size_t table;
+    size_t gammas;
+    size_t codeword;
+    size_t tree;
+    size_t levels;
+    size_t trees;
+    size_t query;
+    size_t tail;
+} dequmlo_seal_sizes;
+
+/* A digest; zeros where the number is not 0. */
+typedef struct {
+    uint32_t number;
+    uint8_t bytes[32];
+} dequmlo_digested;
+
+/* The n of a folded codeword; 0 where the number is not 0. */
+typedef struct {
+    uint32_t number;
+    size_t n;
+} dequmlo_folded;
+
+/* The answer to a query record, and the level for 16 to 26. */
+typedef struct {
+    uint32_t number;
+    uint32_t level;
+} dequmlo_checked;
+
+/* The lengths of two messages; 0 and 0 where the number is not 0. */
+typedef struct {
+    uint32_t number;
+    size_t first;
+    size_t second;
+} dequmlo_compared;
+
+/* A word; 0 where the number is not 0. */
+typedef struct {
+    uint32_t number;
+    dequmlo_word word;
+} dequmlo_answered;
+
+/* The 128 row coefficients, which travel by value. */
+typedef struct {
+    dequmlo_word words[128];
+} dequmlo_coefficients;
+
+/* k, how many queries, and the base domain: the first `length` bytes of `domain`, zeros after them. */
+typedef struct {
+    size_t k;
+    size_t queries;
+    uint8_t domain[24];
+    size_t length;
+} dequmlo_parameters;
+
+/* ---- sizes */
+
+/* The sizes of a seal's buffers. Refuses: 4 where n is not from 1 to 20 or k is above 4. */
+dequmlo_seal_sizes dequmlo_sizes(size_t n, size_t k);
+
+/* ---- hash */
+
+/* The BLAKE3 digest of the input. Refuses: 13 for more than 2^24 bytes. */
+dequmlo_digested dequmlo_digest(const uint8_t *input, size_t input_length);
+
+/* ---- committing and folding */
+
+/* Commits a table of 2^n words under a base domain of at most 200 bytes: writes the k * n gammas (2 * k * n halves), the codeword of
+   2^(n+k) words (level 0), and level 0's tree, whose last digest is the root. The tree has 2 * groups - 1 digests, where groups is
+   2^(n+k) / dequmlo_fold_tree_width(2^(n+k)). n = 0 passes. Refuses: 4 (n, k), 5 (a length), 7 (the base domain). */
+uint32_t dequmlo_commit(size_t n, size_t k, const uint8_t *base, size_t base_length, const uint64_t *table, size_t table_length,
+                        uint64_t *gammas, size_t gammas_length, uint64_t *codeword, size_t codeword_length, uint8_t *tree, size_t tree_length);
+
+/* Folds a codeword of 2^(n+k) words at a variable by r into a buffer of half its words: a + r * (a + b) for each pair of places that
+   differ in bit `var`. Answers the new n, which is n - 1. Level l + 1 of a seal is level l folded at variable 0 by challenge l.
+   Refuses: 4 (n, k), 5 (a length), 6 (var is not below n). */
+dequmlo_folded dequmlo_fold(size_t n, size_t k, size_t var, dequmlo_word r, const uint64_t *codeword, size_t codeword_length, uint64_t *out,
+                            size_t out_length);
+
+/* ---- trees */
+
+/* The width of the groups of a level of this many values: 8 from 16 values on, 2 from 2 on, else 1. Refuses nothing. */
+size_t dequmlo_fold_tree_width(size_t length);
+
+/* The tree over `count` words in groups of `width`, under a domain: leaves first, then each level of parents, 2 * (count / width) - 1
+   digests; the last is the root. The domain of level l of a seal is the base domain, "/level/" and l in decimal.
+   Refuses: 7 (a domain of more than 255 bytes), 8 (count), 9 (width), 10 (width does not divide count), 5 (a length). */
+uint32_t dequmlo_tree(const uint8_t *domain, size_t domain_length, size_t count, size_t width, const uint64_t *values, size_t values_length,
+                      uint8_t *tree, size_t tree_length);
+
+/* The path of the group that holds the value at a place, off a tree: log2(count / width) digests, the leaf's neighbour first.
+   Refuses: 8, 9, 10 as above, 11 (the place is not below count), 5 (a length). */
+uint32_t dequmlo_open(size_t count, size_t width, size_t place, const uint8_t *tree, size_t tree_length, uint8_t *path, size_t path_length);
+
+/* The root that the `width` words of the group of a place and a path lead to.
+   Refuses: 7, 8, 9, 10, 11 as above, 12 (the path is not log2(count / width) digests), 5 (the group is not `width` words). */
+dequmlo_digested dequmlo_root_of_path(const uint8_t *domain, size_t domain_length, size_t count, size_t width, size_t place,
+                                      const uint64_t *values, size_t values_length, const uint8_t *path, size_t path_length);
+
+/* ---- records. Challenges are n words, roots are n + 1 digests, level 0's first. */
+
+/* Builds the query record at a position from all levels and their trees, each end to end, level 0 first: 2^k * (2^(n+1) - 1) words, and
+   2 * groups - 1 digests a level. `dequmlo_sizes` has the record's size.
+   Refuses: 4 (n, k), 5 (a length), 11 (the position is not below 2^(n+k)). */
+uint32_t dequmlo_build_query(uint8_t *out, size_t out_length, const uint64_t *levels, size_t levels_length, const uint8_t *trees,
+                             size_t trees_length, size_t n, size_t k, size_t position);
+
+/* Checks a query record: 0 is accepted. The record may have any bytes and any length.
+   Refuses: 4 (n, k), 5 (challenges or roots), 7 (a base domain of more than 200 bytes), 11 (the position), 14 (it does not read whole),
+   15 (it has not n levels), and 16 to 26 with the level (docs/REFUSALS.md). */
+dequmlo_checked dequmlo_check_query(const uint8_t *base, size_t base_length, size_t n, size_t k, size_t position, const uint64_t *challenges,
+                                    size_t challenges_length, const uint8_t *roots, size_t roots_length, const uint8_t *record,
+                                    size_t record_length);
+
+/* Builds the tail record from the last level, 2^k words, and its tree. The record's size is fixed by k: 28, 44, 148, 420, 340 bytes for
+   k from 0 to 4. Refuses: 4 (n, k), 5 (a length). */
+uint32_t dequmlo_build_tail(uint8_t *out, size_t out_length, const uint64_t *level, size_t level_length, const uint8_t *tree,
+                            size_t tree_length, size_t n, size_t k);
+
+/* Checks a tail record under the last level's root against the terminal claim: 0 is accepted. The record may have any bytes and any
+   length. Refuses: 4 (n, k), 5 (the root is not 32 bytes), 7 (the base domain), 14 (it does not read whole), 27 (group count), 28 (a
+   group's width), 29 (a path's length), 30 (the root), 31 (the first value is not the claim). */
+uint32_t dequmlo_check_tail(const uint8_t *base, size_t base_length, size_t n, size_t k, const uint8_t *root, size_t root_length,
+                            dequmlo_word claim, const uint8_t *record, size_t record_length);
+
+/* Compares two records that are both accepted for one position: 33 where they are the same bytes; else 0, and two messages that differ
+   and have one BLAKE3 digest, each in a buffer of 512 bytes with zeros after it, and their lengths.
+   Refuses: 4 (n, k), 5 (challenges, roots or a message buffer), 7 (the base domain), 11 (the position), 32 (a record is not accepted),
+   33 (they are the same). */
+dequmlo_compared dequmlo_compare(const uint8_t *base, size_t base_length, size_t n, size_t k, size_t position, const uint64_t *challenges,
+                                 size_t challenges_length, const uint8_t *roots, size_t roots_length, const uint8_t *first,
+                                 size_t first_length, const uint8_t *second, size_t second_length, uint8_t *first_message,
+                                 size_t first_message_length, uint8_t *second_message, size_t second_message_length);
+
+/* ---- ring switching */
+
+/* The partial evaluations s_0 to s_127 over 2^n words and a table of 2^n entries: s_b is the sum of the entries of the words whose bit b
+   is set. `out` takes 128 words. Refuses: 4 (n), 5 (a length). */
+uint32_t dequmlo_partial_evals(size_t n, const uint64_t *packed, size_t packed_length, const uint64_t *eq, size_t eq_length, uint64_t *out,
+                               size_t out_length);
+
+/* The sum over i of rb[i] times the word whose bit j is bit i of s_j. Refuses: 5 (s is not 128 words). */
+dequmlo_answered dequmlo_fold_partials(const uint64_t *s, size_t s_length, dequmlo_coefficients rb);
+
+/* The indicator's table of 2^n words for an equality point z of n words under row coefficients. Refuses: 4 (n), 5 (a length). */
+uint32_t dequmlo_materialize(size_t n, const uint64_t *z, size_t z_length, dequmlo_coefficients rb, uint64_t *out, size_t out_length);
+
+/* The multilinear extension of that table at a point of n words; no table is filled. Refuses: 4 (n), 5 (a length). */
+dequmlo_answered dequmlo_eval_at(size_t n, const uint64_t *z, size_t z_length, dequmlo_coefficients rb, const uint64_t *point,
+                                 size_t point_length);
+
+/* ---- parameters of the profiles. These refuse nothing. */
+
+dequmlo_parameters dequmlo_default_parameters(void); /* k 1, 40 queries, "magnetar/pcs/default" */
+dequmlo_parameters dequmlo_fastchunk(void);          /* k 1, 40 queries, "magnetar/pcs/fastchunk" */
+dequmlo_parameters dequmlo_balanced(void);           /* k 2, 40 queries, "magnetar/pcs/balanced" */
+dequmlo_parameters dequmlo_compactwrap(void);        /* k 3, 20 queries, "magnetar/pcs/compactwrap" */
+dequmlo_parameters dequmlo_deepwrap(void);           /* k 4, 14 queries, "magnetar/pcs/deepwrap" */
+
+#ifdef __cplusplus
+}
+#endif
+
+#endif

@@ -1,0 +1,361 @@
+/* Every exported function that takes a buffer, called with each lent length one short, one long and 0, and with n, k and every other number
+   out of range. A refused call must answer the number of the question, 0 in every other field, and leave every lent byte; no call may
+   touch a byte outside its buffers. Each call is made twice, with the forbidden page after and before the buffers. */
+#include "lent.h"
+
+enum { SLICES = 6, NUMBERS = 5 };
+
+typedef struct {
+    uint32_t number;
+    int rest_is_zero; /* every other field of the answer */
+} answer;
+
+/* A lent slice: its content, its element's size, its count, and the answers to another count: `short_by_one` and `long_by_one` and `none`. */
+typedef struct {
+    const void *content;
+    size_t element, count;
+    int writable;
+    uint32_t short_by_one, long_by_one, none;
+} slice;
+
+typedef struct call {
+    const char *name;
+    answer (*run)(const struct call *c, const lent *b);
+    size_t numbers[NUMBERS];
+    size_t slices;
+    slice slice[SLICES];
+    uint32_t expected;
+    dequmlo_word word;
+} call;
+
+static const seal *of;
+static dequmlo_coefficients rows;
+static size_t calls;
+
+#define AT(i) b[i].bytes, b[i].size
+#define WORDS(i) (uint64_t *)(void *)b[i].bytes, b[i].size / 8
+
+static int zeros(const uint8_t *p, size_t size) {
+    for (size_t i = 0; i < size; i++)
+        if (p[i] != 0) return 0;
+    return 1;
+}
+
+static answer plain(uint32_t number) {
+    answer a = {number, 1};
+    return a;
+}
+
+static answer digested(dequmlo_digested d) {
+    answer a = {d.number, zeros(d.bytes, 32)};
+    return a;
+}
+
+static answer answered(dequmlo_answered w) {
+    answer a = {w.number, w.word.lo == 0 && w.word.hi == 0};
+    return a;
+}
+
+static answer run_commit(const call *c, const lent *b) {
+    return plain(dequmlo_commit(c->numbers[0], c->numbers[1], AT(0), WORDS(1), WORDS(2), WORDS(3), AT(4)));
+}
+
+static answer run_fold(const call *c, const lent *b) {
+    dequmlo_folded f = dequmlo_fold(c->numbers[0], c->numbers[1], c->numbers[2], c->word, WORDS(0), WORDS(1));
+    answer a = {f.number, f.n == 0};
+    return a;
+}
+
+static answer run_tree(const call *c, const lent *b) {
+    return plain(dequmlo_tree(AT(0), c->numbers[0], c->numbers[1], WORDS(1), AT(2)));
+}
+
+static answer run_open(const call *c, const lent *b) {
+    return plain(dequmlo_open(c->numbers[0], c->numbers[1], c->numbers[2], AT(0), AT(1)));
+}
+
+static answer run_root(const call *c, const lent *b) {
+    return digested(dequmlo_root_of_path(AT(0), c->numbers[0], c->numbers[1], c->numbers[2], WORDS(1), AT(2)));
+}
+
+static answer run_build_query(const call *c, const lent *b) {
+    return plain(dequmlo_build_query(AT(0), WORDS(1), AT(2), c->numbers[0], c->numbers[1], c->numbers[2]));
+}
+
+static answer run_check_query(const call *c, const lent *b) {
+    dequmlo_checked k = dequmlo_check_query(AT(0), c->numbers[0], c->numbers[1], c->numbers[2], WORDS(1), AT(2), AT(3));
+    answer a = {k.number, k.level == 0};
+    return a;
+}
+
+static answer run_build_tail(const call *c, const lent *b) {
+    return plain(dequmlo_build_tail(AT(0), WORDS(1), AT(2), c->numbers[0], c->numbers[1]));
+}
+
+static answer run_check_tail(const call *c, const lent *b) {
+    return plain(dequmlo_check_tail(AT(0), c->numbers[0], c->numbers[1], AT(1), c->word, AT(2)));
+}
+
+static answer run_compare(const call *c, const lent *b) {
+    dequmlo_compared m =
+        dequmlo_compare((const uint8_t *)of->base, strlen(of->base), c->numbers[0], c->numbers[1], c->numbers[2], WORDS(0), AT(1), AT(2), AT(3), AT(4), AT(5));
+    answer a = {m.number, m.first == 0 && m.second == 0};
+    return a;
+}
+
+static answer run_partial_evals(const call *c, const lent *b) {
+    return plain(dequmlo_partial_evals(c->numbers[0], WORDS(0), WORDS(1), WORDS(2)));
+}
+
+static answer run_fold_partials(const call *c, const lent *b) {
+    (void)c;
+    return answered(dequmlo_fold_partials(WORDS(0), rows));
+}
+
+static answer run_materialize(const call *c, const lent *b) {
+    return plain(dequmlo_materialize(c->numbers[0], WORDS(0), rows, WORDS(1)));
+}
+
+static answer run_eval_at(const call *c, const lent *b) {
+    return answered(dequmlo_eval_at(c->numbers[0], WORDS(0), rows, WORDS(1)));
+}
+
+static answer run_digest(const call *c, const lent *b) {
+    (void)c;
+    return digested(dequmlo_digest(AT(0)));
+}
+
+/* ---- one call */
+
+/* Makes the call on lent copies and looks at its answer and at every byte. */
+static void made(const call *c, uint32_t expected, side page_at) {
+    lent b[SLICES];
+    for (size_t i = 0; i < c->slices; i++) b[i] = lend(c->slice[i].content, c->slice[i].element * c->slice[i].count, page_at);
+    answer a = c->run(c, b);
+    calls++;
+    if (a.number != expected) {
+        fprintf(stderr, "boundary: %s answers %u, not %u; numbers %zu %zu %zu, counts", c->name, a.number, expected, c->numbers[0],
+                c->numbers[1], c->numbers[2]);
+        for (size_t i = 0; i < c->slices; i++) fprintf(stderr, " %zu", c->slice[i].count);
+        fprintf(stderr, "\n");
+        exit(1);
+    }
+    /* The level of 16 to 26 may be any; every other field of a refusal is 0. */
+    MUST(a.number == 0 || (a.number >= 16 && a.number <= 26) || a.rest_is_zero);
+    for (size_t i = 0; i < c->slices; i++) {
+        if (a.number != 0 || !c->slice[i].writable) MUST(b[i].size == 0 || memcmp(b[i].bytes, c->slice[i].content, b[i].size) == 0);
+        take_back(&b[i]);
+    }
+}
+
+static void with(const call *c, uint32_t expected) {
+    made(c, expected, PAGE_AFTER);
+    made(c, expected, PAGE_BEFORE);
+}
+
+/* Every slice one short, one long and empty. Contents have room for one element more. */
+static void lengths(const call *c) {
+    with(c, c->expected);
+    for (size_t i = 0; i < c->slices; i++) {
+        const slice *s = &c->slice[i];
+        call changed = *c;
+        changed.slice[i].count = s->count + 1;
+        with(&changed, s->long_by_one);
+        if (s->count == 0) continue;
+        changed.slice[i].count = s->count - 1;
+        with(&changed, s->short_by_one);
+        changed.slice[i].count = 0;
+        with(&changed, s->none);
+    }
+}
+
+static void number(const call *c, size_t i, size_t value, uint32_t expected) {
+    call changed = *c;
+    changed.numbers[i] = value;
+    with(&changed, expected);
+}
+
+/* A slice of another count. */
+static void count(const call *c, size_t i, size_t value, uint32_t expected) {
+    call changed = *c;
+    changed.slice[i].count = value;
+    with(&changed, expected);
+}
+
+/* n is number i and k the next. */
+static void sizes(const call *c, size_t i, int k_too, int at_least_1) {
+    number(c, i, 21, 4);
+    number(c, i, (size_t)-1, 4);
+    if (at_least_1) number(c, i, 0, 4);
+    if (!k_too) return;
+    number(c, i + 1, 5, 4);
+    number(c, i + 1, (size_t)-1, 4);
+}
+
+/* ---- slices */
+
+static slice reads(const void *content, size_t element, size_t count, uint32_t otherwise) {
+    slice s = {content, element, count, 0, otherwise, otherwise, otherwise};
+    return s;
+}
+
+static slice writes(const void *content, size_t element, size_t count) {
+    slice s = {content, element, count, 1, 5, 5, 5};
+    return s;
+}
+
+/* Content for a buffer that is written, with room to spare. */
+static uint8_t scratch[1 << 16];
+
+static void *copies[16];
+static size_t copied;
+
+/* A copy with room for one zero element more, so that a longer count can be lent. */
+static void *longer(const void *content, size_t size) {
+    void *copy = room(size + 8);
+    memcpy(copy, content, size);
+    MUST(copied < sizeof copies / sizeof *copies);
+    return copies[copied++] = copy;
+}
+
+int main(void) {
+    enum { N = 3, K = 1, POSITION = 5 };
+    for (size_t i = 0; i < sizeof scratch; i++) scratch[i] = (uint8_t)(i * 7 + 3);
+    seal s = sealed(N, K, POSITION, 1);
+    of = &s;
+    uint64_t seed = 2;
+    for (size_t i = 0; i < 128; i++) rows.words[i].lo = drawn(&seed), rows.words[i].hi = drawn(&seed);
+    static uint8_t domain[257];
+    memcpy(domain, s.base, strlen(s.base));
+    const size_t base = strlen(s.base), words = level_words(N, K, 0), trees = trees_bytes(N, K), levels = 2 * levels_words(N, K);
+    const void *challenges = longer(s.challenges, 16 * N), *roots = longer(s.roots, 32 * (N + 1)), *query = longer(s.query, query_bytes(N, K));
+    const void *tail = longer(s.tail, tail_bytes(K)), *all_levels = longer(s.levels, 8 * levels), *all_trees = longer(s.trees, trees);
+    const void *table = longer(s.table, 16 << N);
+    const uint8_t *last_root = (const uint8_t *)longer(s.roots + 32 * N, 32);
+    const uint64_t *last_level = (const uint64_t *)longer(s.levels + levels - (4u << (K - 1)), 8 * (2 << K));
+    const uint8_t *last_tree = (const uint8_t *)longer(s.trees + trees - tree_bytes(1 << K), tree_bytes(1 << K));
+    const void *tree0 = longer(s.trees, tree_bytes(words));
+
+    call digest = {"digest", run_digest, {0}, 1, {reads(scratch, 1, 1025, 0)}, 0, {0, 0}};
+    lengths(&digest);
+
+    call commit = {"commit", run_commit, {N, K}, 5,
+                   {reads(domain, 1, base, 0), reads(table, 8, 2 << N, 5), writes(scratch, 8, 2 * K * N), writes(scratch, 8, 2 * words),
+                    writes(scratch, 1, tree_bytes(words))}, 0, {0, 0}};
+    lengths(&commit);
+    sizes(&commit, 0, 1, 0);
+    number(&commit, 0, N + 1, 5);
+    number(&commit, 1, K + 1, 5);
+    count(&commit, 0, 200, 0);
+    count(&commit, 0, 201, 7);
+
+    call fold = {"fold", run_fold, {N, K, 0}, 2, {reads(all_levels, 8, 2 * words, 5), writes(scratch, 8, words)}, 0, {3, 4}};
+    lengths(&fold);
+    sizes(&fold, 0, 1, 0);
+    number(&fold, 2, N - 1, 0);
+    number(&fold, 2, N, 6);
+    number(&fold, 2, (size_t)-1, 6);
+
+    call tree = {"tree", run_tree, {words, 2}, 3,
+                 {reads(domain, 1, base, 0), reads(all_levels, 8, 2 * words, 5), writes(scratch, 1, 32 * (words - 1))}, 0, {0, 0}};
+    lengths(&tree);
+    count(&tree, 0, 255, 0);
+    count(&tree, 0, 256, 7);
+    number(&tree, 0, 0, 8);
+    number(&tree, 0, words - 1, 8);
+    number(&tree, 0, (size_t)1 << 25, 8);
+    number(&tree, 0, (size_t)-1, 8);
+    number(&tree, 0, 2 * words, 5);
+    number(&tree, 1, 0, 9);
+    number(&tree, 1, 3, 9);
+    number(&tree, 1, 1024, 9);
+    number(&tree, 1, (size_t)-1, 9);
+    number(&tree, 1, 2 * words, 10);
+    number(&tree, 1, 4, 5);
+
+    /* Level 0's tree has two groups of 8. */
+    call open = {"open", run_open, {words, 8, POSITION}, 2, {reads(tree0, 1, tree_bytes(words), 5), writes(scratch, 1, 32)}, 0, {0, 0}};
+    lengths(&open);
+    number(&open, 0, 0, 8);
+    number(&open, 0, (size_t)1 << 25, 8);
+    number(&open, 1, 0, 9);
+    number(&open, 1, 1024, 9);
+    number(&open, 1, 2 * words, 10);
+    number(&open, 2, words - 1, 0);
+    number(&open, 2, words, 11);
+    number(&open, 2, (size_t)-1, 11);
+
+    call root = {"root_of_path", run_root, {words, 8, POSITION}, 3,
+                 {reads(domain, 1, base, 0), reads(all_levels, 8, 16, 5), reads(tree0, 1, 32, 12)}, 0, {0, 0}};
+    lengths(&root);
+    count(&root, 0, 255, 0);
+    count(&root, 0, 256, 7);
+    number(&root, 0, 0, 8);
+    number(&root, 1, 0, 9);
+    number(&root, 1, 1024, 9);
+    number(&root, 1, 2 * words, 10);
+    number(&root, 2, words, 11);
+
+    call build = {"build_query", run_build_query, {N, K, POSITION}, 3,
+                  {writes(scratch, 1, query_bytes(N, K)), reads(all_levels, 8, levels, 5), reads(all_trees, 1, trees, 5)}, 0, {0, 0}};
+    lengths(&build);
+    sizes(&build, 0, 1, 1);
+    number(&build, 0, N + 1, 5);
+    number(&build, 2, words - 1, 0);
+    number(&build, 2, words, 11);
+    number(&build, 2, (size_t)-1, 11);
+
+    call check = {"check_query", run_check_query, {N, K, POSITION}, 4,
+                  {reads(domain, 1, base, 18), reads(challenges, 8, 2 * N, 5), reads(roots, 1, 32 * (N + 1), 5),
+                   reads(query, 1, query_bytes(N, K), 14)}, 0, {0, 0}};
+    lengths(&check);
+    sizes(&check, 0, 1, 1);
+    number(&check, 0, N + 1, 5);
+    number(&check, 1, K + 1, 17);
+    count(&check, 0, 200, 18);
+    count(&check, 0, 201, 7);
+    number(&check, 2, words, 11);
+    number(&check, 2, (size_t)-1, 11);
+
+    call build_tail = {"build_tail", run_build_tail, {N, K}, 3,
+                       {writes(scratch, 1, tail_bytes(K)), reads(last_level, 8, 2 << K, 5), reads(last_tree, 1, tree_bytes(1 << K), 5)},
+                       0, {0, 0}};
+    lengths(&build_tail);
+    sizes(&build_tail, 0, 1, 1);
+
+    call check_tail = {"check_tail", run_check_tail, {N, K}, 3,
+                       {reads(domain, 1, base, 30), reads(last_root, 1, 32, 5), reads(tail, 1, tail_bytes(K), 14)}, 0, s.claim};
+    lengths(&check_tail);
+    sizes(&check_tail, 0, 1, 1);
+    count(&check_tail, 0, 201, 7);
+    number(&check_tail, 1, K + 1, 27);
+
+    call compare = {"compare", run_compare, {N, K, POSITION}, 6,
+                    {reads(challenges, 8, 2 * N, 5), reads(roots, 1, 32 * (N + 1), 5), reads(query, 1, query_bytes(N, K), 32),
+                     reads(query, 1, query_bytes(N, K), 32), writes(scratch, 1, 512), writes(scratch, 1, 512)}, 33, {0, 0}};
+    lengths(&compare);
+    sizes(&compare, 0, 1, 1);
+    number(&compare, 2, words, 11);
+
+    call partial = {"partial_evals", run_partial_evals, {N}, 3,
+                    {reads(table, 8, 2 << N, 5), reads(all_levels, 8, 2 << N, 5), writes(scratch, 8, 256)}, 0, {0, 0}};
+    lengths(&partial);
+    sizes(&partial, 0, 0, 0);
+    number(&partial, 0, N + 1, 5);
+
+    call fold_partials = {"fold_partials", run_fold_partials, {0}, 1, {reads(scratch, 8, 256, 5)}, 0, {0, 0}};
+    lengths(&fold_partials);
+
+    call materialize = {"materialize", run_materialize, {N}, 2, {reads(challenges, 8, 2 * N, 5), writes(scratch, 8, 2 << N)}, 0, {0, 0}};
+    lengths(&materialize);
+    sizes(&materialize, 0, 0, 0);
+
+    call eval_at = {"eval_at", run_eval_at, {N}, 2, {reads(challenges, 8, 2 * N, 5), reads(table, 8, 2 * N, 5)}, 0, {0, 0}};
+    lengths(&eval_at);
+    sizes(&eval_at, 0, 0, 0);
+
+    while (copied > 0) free(copies[--copied]);
+    unsealed(&s);
+    printf("boundary: %zu calls, each answer and every byte as it must be\n", calls);
+    return 0;
+}

@@ -1,0 +1,110 @@
+/* Calls every function of include/dequmlo.h once with document 01's small values where it has some. Compiled as C and as C++. */
+#include "fixture.h"
+
+static dequmlo_word word(uint64_t lo) {
+    dequmlo_word w;
+    w.lo = lo, w.hi = 0;
+    return w;
+}
+
+/* The sizes that the fixture computes by itself, and a refusal. */
+static void sizes(void) {
+    for (size_t n = 1; n <= 20; n++)
+        for (size_t k = 0; k <= 4; k++) {
+            dequmlo_seal_sizes s = dequmlo_sizes(n, k);
+            MUST(s.number == 0 && s.table == (size_t)1 << n && s.gammas == k * n && s.codeword == level_words(n, k, 0));
+            MUST(s.tree == tree_bytes(level_words(n, k, 0)) && s.levels == levels_words(n, k) && s.trees == trees_bytes(n, k));
+            MUST(s.query == query_bytes(n, k) && s.tail == tail_bytes(k));
+        }
+    static const size_t wrong[][2] = {{0, 0}, {21, 0}, {(size_t)-1, 0}, {1, 5}, {1, (size_t)-1}};
+    for (size_t i = 0; i < sizeof wrong / sizeof *wrong; i++) {
+        dequmlo_seal_sizes s = dequmlo_sizes(wrong[i][0], wrong[i][1]);
+        MUST(s.number == 4 && s.table == 0 && s.gammas == 0 && s.codeword == 0 && s.tree == 0 && s.levels == 0 && s.trees == 0);
+        MUST(s.query == 0 && s.tail == 0);
+    }
+}
+
+static void hash(void) {
+    static const uint8_t abc[4] = {0x64, 0x37, 0xb3, 0xac};
+    dequmlo_digested d = dequmlo_digest((const uint8_t *)"abc", 3);
+    MUST(d.number == 0 && memcmp(d.bytes, abc, 4) == 0);
+}
+
+/* n = k = 1, table 5, 9, gamma 7: codeword 5, 9, 33, 45, folded by 2: 29, 57. Here the codeword is lent as it stands. */
+static void code(void) {
+    uint64_t codeword[8] = {5, 0, 9, 0, 33, 0, 45, 0}, out[4];
+    dequmlo_folded f = dequmlo_fold(1, 1, 0, word(2), codeword, 8, out, 4);
+    MUST(f.number == 0 && f.n == 0 && out[0] == 29 && out[2] == 57 && out[1] == 0 && out[3] == 0);
+    uint64_t table[4] = {5, 0, 9, 0}, gammas[2];
+    uint8_t tree[96];
+    MUST(tree_bytes(4) == 96);
+    MUST(dequmlo_commit(1, 1, (const uint8_t *)"d", 1, table, 4, gammas, 2, codeword, 8, tree, 96) == 0);
+    MUST(codeword[0] == 5 && codeword[2] == 9);
+}
+
+static void trees(void) {
+    uint64_t values[16];
+    for (size_t i = 0; i < 16; i++) values[i] = i;
+    uint8_t tree[224], path[64];
+    const uint8_t *domain = (const uint8_t *)"d";
+    MUST(dequmlo_fold_tree_width(1) == 1 && dequmlo_fold_tree_width(2) == 2 && dequmlo_fold_tree_width(8) == 2);
+    MUST(dequmlo_fold_tree_width(16) == 8);
+    MUST(dequmlo_tree(domain, 1, 8, 2, values, 16, tree, sizeof tree) == 0);
+    MUST(dequmlo_open(8, 2, 5, tree, sizeof tree, path, sizeof path) == 0);
+    dequmlo_digested d = dequmlo_root_of_path(domain, 1, 8, 2, 5, values + 8, 4, path, sizeof path);
+    MUST(d.number == 0 && memcmp(d.bytes, tree + 192, 32) == 0);
+}
+
+static void records(void) {
+    seal s = sealed(3, 1, 5, 1);
+    const uint8_t *base = (const uint8_t *)s.base;
+    size_t length = strlen(s.base);
+    dequmlo_checked c = dequmlo_check_query(base, length, 3, 1, 5, s.challenges, 6, s.roots, 128, s.query, query_bytes(3, 1));
+    MUST(c.number == 0 && c.level == 0);
+    MUST(dequmlo_check_tail(base, length, 3, 1, s.roots + 96, 32, s.claim, s.tail, tail_bytes(1)) == 0);
+    uint8_t first[512], second[512];
+    dequmlo_compared same = dequmlo_compare(base, length, 3, 1, 5, s.challenges, 6, s.roots, 128, s.query, query_bytes(3, 1), s.query,
+                                            query_bytes(3, 1), first, 512, second, 512);
+    MUST(same.number == 33 && same.first == 0 && same.second == 0);
+    unsealed(&s);
+}
+
+/* z = (2), point (2), rb[0] = 1, rb[1] = 4, others 0: indicator 7. Words (5), empty point: s_0 = s_2 = 1, others 0. */
+static void ring(void) {
+    dequmlo_coefficients rb;
+    memset(&rb, 0, sizeof rb);
+    rb.words[0] = word(1), rb.words[1] = word(4);
+    uint64_t z[2] = {2, 0}, table[4], packed[2] = {5, 0}, eq[2] = {1, 0}, s[256];
+    MUST(dequmlo_materialize(1, z, 2, rb, table, 4) == 0);
+    MUST(table[0] == 5 && table[2] == 4);
+    dequmlo_answered a = dequmlo_eval_at(1, z, 2, rb, z, 2);
+    MUST(a.number == 0 && a.word.lo == 7 && a.word.hi == 0);
+    MUST(dequmlo_partial_evals(0, packed, 2, eq, 2, s, 256) == 0);
+    for (size_t b = 0; b < 128; b++) MUST(s[2 * b] == (b == 0 || b == 2) && s[2 * b + 1] == 0);
+    dequmlo_answered folded = dequmlo_fold_partials(s, 256, rb);
+    MUST(folded.number == 0 && folded.word.lo == 5 && folded.word.hi == 0);
+}
+
+static void profile(dequmlo_parameters p, size_t k, size_t queries, const char *domain) {
+    MUST(p.k == k && p.queries == queries && p.length == strlen(domain) && memcmp(p.domain, domain, p.length) == 0);
+}
+
+static void parameters(void) {
+    profile(dequmlo_default_parameters(), 1, 40, "magnetar/pcs/default");
+    profile(dequmlo_fastchunk(), 1, 40, "magnetar/pcs/fastchunk");
+    profile(dequmlo_balanced(), 2, 40, "magnetar/pcs/balanced");
+    profile(dequmlo_compactwrap(), 3, 20, "magnetar/pcs/compactwrap");
+    profile(dequmlo_deepwrap(), 4, 14, "magnetar/pcs/deepwrap");
+}
+
+int main(void) {
+    sizes();
+    hash();
+    code();
+    trees();
+    records();
+    ring();
+    parameters();
+    puts("calls: every function answers");
+    return 0;
+}

@@ -1,0 +1,128 @@
+/* A seal made through the library, for the tests: a table committed, folded by challenges, with its trees, roots and records. The sizes are
+   computed here once more, from docs/LINKING.md's formulas. */
+#ifndef FIXTURE_H
+#define FIXTURE_H
+
+#include "../include/dequmlo.h"
+#include <stdio.h>
+#include <stdlib.h>
+#include <string.h>
+
+typedef struct {
+    size_t n, k;
+    const char *base;
+    uint64_t *table, *gammas, *levels, *challenges;
+    uint8_t *trees, *roots, *query, *tail;
+    size_t position;
+    dequmlo_word claim;
+} seal;
+
+#define MUST(what)                                                                            \
+    do {                                                                                      \
+        if (!(what)) {                                                                        \
+            fprintf(stderr, "%s:%d: %s does not hold\n", __FILE__, __LINE__, #what);          \
+            exit(1);                                                                          \
+        }                                                                                     \
+    } while (0)
+
+/* ---- sizes */
+
+static inline size_t level_words(size_t n, size_t k, size_t l) { return (size_t)1 << (n + k - l); }
+static inline size_t width_of(size_t words) { return words >= 16 ? 8 : words >= 2 ? 2 : 1; }
+static inline size_t groups_of(size_t words) { return words / width_of(words); }
+static inline size_t tree_bytes(size_t words) { return 32 * (2 * groups_of(words) - 1); }
+
+static inline size_t depth_of(size_t words) {
+    size_t depth = 0;
+    while ((groups_of(words) >> depth) > 1) depth++;
+    return depth;
+}
+
+static inline size_t group_bytes(size_t words) { return 8 + 16 * width_of(words) + 32 * depth_of(words); }
+
+static inline size_t levels_words(size_t n, size_t k) { return ((size_t)1 << k) * (((size_t)2 << n) - 1); }
+
+static inline size_t trees_bytes(size_t n, size_t k) {
+    size_t sum = 0;
+    for (size_t l = 0; l <= n; l++) sum += tree_bytes(level_words(n, k, l));
+    return sum;
+}
+
+static inline size_t query_bytes(size_t n, size_t k) {
+    size_t sum = 4;
+    for (size_t l = 0; l < n; l++) sum += 48 + group_bytes(level_words(n, k, l)) + group_bytes(level_words(n, k, l + 1));
+    return sum;
+}
+
+static inline size_t tail_bytes(size_t k) {
+    size_t words = (size_t)1 << k;
+    return 4 + groups_of(words) * group_bytes(words);
+}
+
+/* ---- numbers that look random, the same in every run */
+
+static inline uint64_t drawn(uint64_t *state) {
+    uint64_t x = (*state += 0x9e3779b97f4a7c15u);
+    x = (x ^ (x >> 30)) * 0xbf58476d1ce4e5b9u;
+    x = (x ^ (x >> 27)) * 0x94d049bb133111ebu;
+    return x ^ (x >> 31);
+}
+
+static inline void *room(size_t bytes) {
+    void *p = calloc(bytes == 0 ? 1 : bytes, 1);
+    MUST(p != NULL);
+    return p;
+}
+
+/* ---- the seal */
+
+/* Level l + 1 and its tree, and its root. */
+static inline void next_level(seal *s, size_t l, size_t first, size_t first_tree) {
+    size_t from = level_words(s->n, s->k, l), to = from / 2;
+    uint64_t *level = s->levels + 2 * first, *next = level + 2 * from;
+    dequmlo_word r = {s->challenges[2 * l], s->challenges[2 * l + 1]};
+    dequmlo_folded f = dequmlo_fold(s->n - l, s->k, 0, r, level, 2 * from, next, 2 * to);
+    MUST(f.number == 0 && f.n == s->n - l - 1);
+    char domain[64];
+    int length = snprintf(domain, sizeof domain, "%s/level/%zu", s->base, l + 1);
+    uint8_t *tree = s->trees + first_tree + tree_bytes(from);
+    MUST(dequmlo_tree((const uint8_t *)domain, (size_t)length, to, dequmlo_fold_tree_width(to), next, 2 * to, tree, tree_bytes(to)) == 0);
+    memcpy(s->roots + 32 * (l + 1), tree + tree_bytes(to) - 32, 32);
+}
+
+static inline seal sealed(size_t n, size_t k, size_t position, uint64_t seed) {
+    seal s;
+    s.n = n, s.k = k, s.base = "dequmlo/test", s.position = position;
+    s.table = (uint64_t *)room(16 << n);
+    s.gammas = (uint64_t *)room(16 * k * n);
+    s.levels = (uint64_t *)room(16 * levels_words(n, k));
+    s.challenges = (uint64_t *)room(16 * n);
+    s.trees = (uint8_t *)room(trees_bytes(n, k));
+    s.roots = (uint8_t *)room(32 * (n + 1));
+    s.query = (uint8_t *)room(query_bytes(n, k));
+    s.tail = (uint8_t *)room(tail_bytes(k));
+    for (size_t i = 0; i < (size_t)2 << n; i++) s.table[i] = drawn(&seed);
+    for (size_t i = 0; i < 2 * n; i++) s.challenges[i] = drawn(&seed);
+    size_t words = level_words(n, k, 0);
+    MUST(dequmlo_commit(n, k, (const uint8_t *)s.base, strlen(s.base), s.table, (size_t)2 << n, s.gammas, 2 * k * n, s.levels, 2 * words,
+                        s.trees, tree_bytes(words)) == 0);
+    memcpy(s.roots, s.trees + tree_bytes(words) - 32, 32);
+    size_t first = 0, first_tree = 0;
+    for (size_t l = 0; l < n; l++) {
+        next_level(&s, l, first, first_tree);
+        first += level_words(n, k, l);
+        first_tree += tree_bytes(level_words(n, k, l));
+    }
+    s.claim.lo = s.levels[2 * first], s.claim.hi = s.levels[2 * first + 1];
+    size_t last = (size_t)1 << k;
+    MUST(dequmlo_build_tail(s.tail, tail_bytes(k), s.levels + 2 * first, 2 * last, s.trees + first_tree, tree_bytes(last), n, k) == 0);
+    MUST(dequmlo_build_query(s.query, query_bytes(n, k), s.levels, 2 * levels_words(n, k), s.trees, trees_bytes(n, k), n, k, position) == 0);
+    return s;
+}
+
+static inline void unsealed(seal *s) {
+    free(s->table), free(s->gammas), free(s->levels), free(s->challenges);
+    free(s->trees), free(s->roots), free(s->query), free(s->tail);
+}
+
+#endif

@@ -1,0 +1,102 @@
+/* How much stack each function takes: it is run on a painted stack, and the paint that is left is counted. Fails above 96 KiB. */
+#include "fixture.h"
+#include <pthread.h>
+#include <sys/mman.h>
+
+enum { STACK = 1 << 20, MOST = 96 * 1024, PAINT = 0xc7 };
+
+static seal s;
+static dequmlo_coefficients rows;
+static uint64_t words[1 << 11], table[1 << 9];
+static uint8_t bytes[1 << 16];
+
+#define BASE (const uint8_t *)s.base, strlen(s.base)
+#define CHECKED s.position, s.challenges, 2 * s.n, s.roots, 32 * (s.n + 1), s.query, query_bytes(s.n, s.k)
+
+static void nothing(void) {}
+static void digest(void) { dequmlo_digest(bytes, sizeof bytes); }
+static void commit(void) {
+    size_t count = level_words(s.n, s.k, 0);
+    MUST(dequmlo_commit(s.n, s.k, BASE, s.table, (size_t)2 << s.n, s.gammas, 2 * s.k * s.n, s.levels, 2 * count, s.trees, tree_bytes(count)) == 0);
+}
+static void fold(void) {
+    size_t count = level_words(s.n, s.k, 0);
+    MUST(dequmlo_fold(s.n, s.k, 0, s.claim, s.levels, 2 * count, words, count).number == 0);
+}
+static void tree(void) { MUST(dequmlo_tree(BASE, 1024, 512, s.levels, 2048, bytes, 96) == 0); }
+static void open(void) { MUST(dequmlo_open(1024, 8, 5, s.trees, tree_bytes(1024), bytes, 32 * depth_of(1024)) == 0); }
+static void root(void) { MUST(dequmlo_root_of_path(BASE, 1024, 512, 5, s.levels, 1024, s.trees, 32).number == 0); }
+static void build_query(void) {
+    MUST(dequmlo_build_query(bytes, query_bytes(s.n, s.k), s.levels, 2 * levels_words(s.n, s.k), s.trees, trees_bytes(s.n, s.k), s.n, s.k, 3) == 0);
+}
+static void check_query(void) { MUST(dequmlo_check_query(BASE, s.n, s.k, CHECKED).number == 0); }
+static void build_tail(void) {
+    size_t last = (size_t)1 << s.k;
+    MUST(dequmlo_build_tail(bytes, tail_bytes(s.k), s.levels + 2 * (levels_words(s.n, s.k) - last), 2 * last,
+                            s.trees + trees_bytes(s.n, s.k) - tree_bytes(last), tree_bytes(last), s.n, s.k) == 0);
+}
+static void check_tail(void) { MUST(dequmlo_check_tail(BASE, s.n, s.k, s.roots + 32 * s.n, 32, s.claim, s.tail, tail_bytes(s.k)) == 0); }
+static void compare(void) {
+    MUST(dequmlo_compare(BASE, s.n, s.k, CHECKED, s.query, query_bytes(s.n, s.k), bytes, 512, bytes + 512, 512).number == 33);
+}
+static void partial_evals(void) { MUST(dequmlo_partial_evals(s.n, s.table, (size_t)2 << s.n, table, (size_t)2 << s.n, words, 256) == 0); }
+static void fold_partials(void) { MUST(dequmlo_fold_partials(words, 256, rows).number == 0); }
+static void materialize(void) { MUST(dequmlo_materialize(s.n, s.challenges, 2 * s.n, rows, table, (size_t)2 << s.n) == 0); }
+static void eval_at(void) { MUST(dequmlo_eval_at(s.n, s.challenges, 2 * s.n, rows, s.challenges, 2 * s.n).number == 0); }
+
+typedef struct {
+    const char *name;
+    void (*run)(void);
+} function;
+
+static void *run(void *f) {
+    ((const function *)f)->run();
+    return NULL;
+}
+
+/* The bytes of a thread's stack that are no longer painted. */
+static size_t used(const function *f) {
+    uint8_t *stack = (uint8_t *)mmap(NULL, STACK, PROT_READ | PROT_WRITE, MAP_PRIVATE | MAP_ANONYMOUS, -1, 0);
+    MUST(stack != MAP_FAILED);
+    memset(stack, PAINT, STACK);
+    pthread_attr_t attributes;
+    pthread_t thread;
+    MUST(pthread_attr_init(&attributes) == 0 && pthread_attr_setstack(&attributes, stack, STACK) == 0);
+    MUST(pthread_create(&thread, &attributes, run, (void *)f) == 0 && pthread_join(thread, NULL) == 0);
+    size_t left = 0;
+    while (stack[left] == PAINT) left++;
+    MUST(munmap(stack, STACK) == 0);
+    return STACK - left;
+}
+
+int main(void) {
+    static const function functions[] = {
+        {"digest", digest},
+        {"commit", commit},
+        {"fold", fold},
+        {"tree", tree},
+        {"open", open},
+        {"root_of_path", root},
+        {"build_query", build_query},
+        {"check_query", check_query},
+        {"build_tail", build_tail},
+        {"check_tail", check_tail},
+        {"compare", compare},
+        {"partial_evals", partial_evals},
+        {"fold_partials", fold_partials},
+        {"materialize", materialize},
+        {"eval_at", eval_at},
+    };
+    static const function empty = {"nothing", nothing};
+    s = sealed(8, 2, 100, 1);
+    size_t thread = used(&empty), most = 0;
+    printf("stack, in bytes:");
+    for (size_t i = 0; i < sizeof functions / sizeof *functions; i++) {
+        size_t whole = used(&functions[i]), own = whole > thread ? whole - thread : 0;
+        printf(" %s %zu%s", functions[i].name, own, i + 1 < sizeof functions / sizeof *functions ? "," : "\n");
+        if (own > most) most = own;
+    }
+    unsealed(&s);
+    MUST(most <= MOST);
+    return 0;
+}
