@@ -60,6 +60,22 @@ def lines():
         ("16: partials of 2 words, 1 equality entry", 5),
         ("19: L(1) at n = 1 of a codeword folded at 0, gammas 7, 11", 0),
         ("19: its coordinate", word(7)),
+        ("24: tree of 3 values, width 1", 8),
+        ("24: tree of 4 values, width 3", 9),
+        ("24: tree of 2 values, width 0", 9),
+        ("24: tree of 2 values, width 4", 10),
+        ("24: tree of no value, width 1", 8),
+        ("24: leaf of width 0", 9),
+        ("24: path of place 2 of a tree of 2", 11),
+        ("25: leaf of count 3", 8),
+        ("25: leaf of place 1 of count 1", 11),
+        ("26: encode 1 word at n = 1, k = 0", 5),
+        ("26: encode 4 words at n = 1, k = 0", 5),
+        ("27: derive at n = 21, k = 5", 4),
+        ("27: leaf, domain of 256 bytes", 7),
+        ("27: leaf of count 2^25", 8),
+        ("27: leaf of width 1,024", 9),
+        ("27: a byte after 2^24 bytes", 13),
     ]
 
 

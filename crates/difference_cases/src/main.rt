@@ -1,6 +1,8 @@
 // Our answers where the Rust differs: a line for each input of docs/DIFFERENCES.md that has an answer here, with the entry's number there.
 use gf128::Word;
 use groups::Place;
+use hash::hasher::new;
+use hash::hasher::update;
 use text::Line;
 
 // A line that begins with what the input is.
@@ -252,6 +254,89 @@ fn rings() {
     );
 }
 
+// 24 and 25: counts, widths and places that no tree has.
+fn shapes() {
+    let words = [0u64; 8];
+    let zeros = [0u8; 96];
+    let mut tree = [0u8; 96];
+    print_number(
+        b"24: tree of 3 values, width 1: ",
+        tree::build(b"", 3, 1, &words, &mut tree),
+    );
+    print_number(
+        b"24: tree of 4 values, width 3: ",
+        tree::build(b"", 4, 3, &words, &mut tree),
+    );
+    print_number(
+        b"24: tree of 2 values, width 0: ",
+        tree::build(b"", 2, 0, &words, &mut tree),
+    );
+    print_number(
+        b"24: tree of 2 values, width 4: ",
+        tree::build(b"", 2, 4, &words, &mut tree),
+    );
+    print_number(
+        b"24: tree of no value, width 1: ",
+        tree::build(b"", 0, 1, &words, &mut tree),
+    );
+    let a = digests::leaf_digest(b"", 1, 0, Place(0), &[]);
+    print_number(b"24: leaf of width 0: ", a.number);
+    let mut path = [0u8; 32];
+    print_number(
+        b"24: path of place 2 of a tree of 2: ",
+        paths::open(2, 1, Place(2), &zeros, &mut path),
+    );
+    let b = digests::leaf_digest(b"", 3, 1, Place(0), &[0, 0]);
+    print_number(b"25: leaf of count 3: ", b.number);
+    let c = digests::leaf_digest(b"", 1, 1, Place(1), &[0, 0]);
+    print_number(b"25: leaf of place 1 of count 1: ", c.number);
+}
+
+// 26: tables that are too short and too long.
+fn lengths() {
+    let mut out = [0u64; 4];
+    print_number(
+        b"26: encode 1 word at n = 1, k = 0: ",
+        code::encode(1, 0, &[1, 0], &[], &mut out),
+    );
+    print_number(
+        b"26: encode 4 words at n = 1, k = 0: ",
+        code::encode(1, 0, &[1, 0, 1, 0, 1, 0, 1, 0], &[], &mut out),
+    );
+}
+
+// 27: what is past the ranges here.
+fn ranges() {
+    let mut out = [0u64; 210];
+    print_number(
+        b"27: derive at n = 21, k = 5: ",
+        gamma::derive(21, 5, b"", &mut out),
+    );
+    let d = [100u8; 256];
+    let a = digests::leaf_digest(&d, 1, 1, Place(0), &[0, 0]);
+    print_number(b"27: leaf, domain of 256 bytes: ", a.number);
+    let b = digests::leaf_digest(b"", 33554432, 1, Place(0), &[0, 0]);
+    print_number(b"27: leaf of count 2^25: ", b.number);
+    let values = [0u64; 2048];
+    let c = digests::leaf_digest(b"", 1024, 1024, Place(0), &values);
+    print_number(b"27: leaf of width 1,024: ", c.number);
+}
+
+// 27: one byte more than 2^24, given to the hasher.
+fn long_message() {
+    let block = [0u8; 65536];
+    let mut s = new();
+    let mut i: usize = 0;
+    while i < 256 {
+        let u = update(s, &block);
+        let t = u.state;
+        s = t;
+        i += 1;
+    }
+    let last = update(s, &[0]);
+    print_number(b"27: a byte after 2^24 bytes: ", last.number);
+}
+
 fn main() {
     field();
     packings();
@@ -263,4 +348,8 @@ fn main() {
     tables();
     leaves();
     rings();
+    shapes();
+    lengths();
+    ranges();
+    long_message();
 }
