@@ -15,7 +15,6 @@ enum Layer {
     Field,
     Trees,
     Code,
-    Seal,
 }
 
 fn name(layer: Layer, f: usize) -> Line {
@@ -23,7 +22,6 @@ fn name(layer: Layer, f: usize) -> Line {
         Layer::Field => replay_field::name(f),
         Layer::Trees => replay_trees::name(f),
         Layer::Code => replay_code::name(f),
-        Layer::Seal => replay_seal::name(f),
     }
 }
 
@@ -41,7 +39,7 @@ fn answer(
     match layer {
         Layer::Field => replay_field::answer(f, x, a, b, s),
         Layer::Trees => replay_trees::answer(f, x, a, s, t),
-        Layer::Code => replay_code::answer(layer, f, x, a, b, c, s, t),
+        Layer::Code => replay_code::answer(f, x, a, b, c, s, t),
     }
 }
 
@@ -121,5 +119,4 @@ fn main() {
     run_all(Layer::Field, 10, &mut a, &mut b, &mut c, &mut s, &mut t);
     run_all(Layer::Trees, 7, &mut a, &mut b, &mut c, &mut s, &mut t);
     run_all(Layer::Code, 11, &mut a, &mut b, &mut c, &mut s, &mut t);
-    run_all(Layer::Seal, 3, &mut a, &mut b, &mut c, &mut s, &mut t);
 }
