@@ -6,7 +6,6 @@
 // roots, two records or chains, and two buffers. Each of these is put together of parts of the file `bytes`: the number of parts, and for
 // each its first place, + and its length. tools/compare_vectors.py made both files and what is to be printed, apart from the code.
 ghost use mathlib.Core.Path.{_≡_};
-ghost use Prim.Native.Nat.{_≤_};
 ghost use lib.ListN.{length};
 
 fn room() -> [u8; 262144]

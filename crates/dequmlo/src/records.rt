@@ -1,4 +1,4 @@
-// Query and tail records, built and checked.
+// Query and tail records built and checked, and two query records compared.
 use gf128::Word;
 ghost use mathlib.Core.Path.{_≡_};
 ghost use Rattle.gf128.specs.Word.{word};
@@ -7,7 +7,8 @@ ghost use Rattle.record.specs.Widths.{present};
 ghost use Rattle.record.specs.Query.{checkQuery};
 ghost use Rattle.record.specs.Tail.{checkTail};
 ghost use Rattle.record.specs.Build.{buildQueryNumber, buildQuery, buildTailNumber, buildTail};
-ghost use Rattle.dequmlo.specs.Answers.{checked};
+ghost use Rattle.comparing.specs.Compare as M;
+ghost use Rattle.dequmlo.specs.Answers.{checked, compared};
 
 // The query record at a position, from all levels and their trees end to end: 4, 5, 11.
 #[no_mangle]
@@ -80,4 +81,50 @@ pub extern "C" fn dequmlo_check_tail(
     ensures { λ r. ⌜ r ≡ checkTail hash present (now (base .entry)) n k (now (root .entry)) (word claim) (now (bytes .entry)) ⌝ }
 {
     tail::check_tail(base, n, k, root, claim, bytes)
+}
+
+// The number, and the lengths of the two messages, 0 where it is refused.
+#[repr(C)]
+pub struct Compared {
+    pub number: u32,
+    pub first: usize,
+    pub second: usize,
+}
+
+// Two query records of one position compared: 4, 5, 7, 11, 32, 33. Where they differ, the two messages nearest the root that differ go into
+// the buffers, of 512 bytes each.
+#[no_mangle]
+pub extern "C" fn dequmlo_compare(
+    base: &[u8],
+    n: usize,
+    k: usize,
+    position: usize,
+    challenges: &[u64],
+    roots: &[u8],
+    first: &[u8],
+    second: &[u8],
+    first_message: &mut [u8],
+    second_message: &mut [u8],
+) -> Compared
+    ensures { λ r. ⌜ compared r ≡ M.compared hash present (now (base .entry)) n k position (now (challenges .entry)) (now (roots .entry)) (now (first .entry)) (now (second .entry)) (now («first_message» .entry)) (now («second_message» .entry)) ⌝ }
+    ensures { λ _. ⌜ now («first_message» .exit) ≡ M.firstMessage hash present (now (base .entry)) n k position (now (challenges .entry)) (now (roots .entry)) (now (first .entry)) (now (second .entry)) (now («first_message» .entry)) (now («second_message» .entry)) ⌝ }
+    ensures { λ _. ⌜ now («second_message» .exit) ≡ M.secondMessage hash present (now (base .entry)) n k position (now (challenges .entry)) (now (roots .entry)) (now (first .entry)) (now (second .entry)) (now («first_message» .entry)) (now («second_message» .entry)) ⌝ }
+{
+    let a = compare::compare(
+        base,
+        n,
+        k,
+        position,
+        challenges,
+        roots,
+        first,
+        second,
+        first_message,
+        second_message,
+    );
+    Compared {
+        number: a.number,
+        first: a.first,
+        second: a.second,
+    }
 }

@@ -1,5 +1,5 @@
 // The last place at which two chains of messages differ: both messages, each put into a lent buffer with zeros after it. A chain is lent end
-// to end. These are helpers for the crates above: all but `same_bytes` require.
+// to end. These are helpers for the crates above: all but `same_bytes` and `clear` require.
 use messages::put;
 ghost use mathlib.Core.Path.{_≡_};
 ghost use Prim.Native.Nat.{_+_, _-_, _*_, _^_, _≤_, _<_};

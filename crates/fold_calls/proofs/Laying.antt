@@ -1,13 +1,13 @@
 -- A level laid behind the others: the levels before it stay, it is the fold of the one before, and all the levels are end to end.
 use Prim.Native.Nat.{ℕ, zero, suc, _+_, _-_, _*_, _/_, _^_, _<_, _≤_}
 use mathlib.Core.Path.{_≡_, refl, sym, _∙_, ap, ap₂}
-use mathlib.Core.List.{List, [], _∷_, _++_}
+use mathlib.Core.List.{List, [], _++_, append-assoc}
 use native.Mathlib.Nat.{mul-le-mul}
 use native.Mathlib.Numerals.{add-one}
 use native.Mathlib.Omega.{arith}
 use lib.ListN.{length, take, drop, length-append}
 use lib.Pow.{pow-mono}
-use lib.Seq.{take-at, take-all, drop-at, length-take-le}
+use lib.Seq.{take-at, take-all, drop-at, drop-drop, length-take-le}
 use Rattle.laws.specs.Lists.{part}
 use Rattle.laws.proofs.Lists.{part-same, part-add}
 use Rattle.field.specs.Words.{words}
@@ -60,6 +60,18 @@ module _ (n k l : ℕ) (vs ws : List ℕ) (h : l < n) (long : length ws ≡ leve
   laid-there e =
       ap (take (levelLength n k (suc l))) (drop-at (take (levelStart n k (suc l)) ws) _ (levelStart n k (suc l)) in-front)
       ∙ take-at vs _ (levelLength n k (suc l)) e
+
+  -- and what was behind it
+  pub laid-behind : length vs ≡ levelLength n k (suc l) → drop (levelStart n k (suc (suc l))) (laid n k (suc l) vs ws) ≡ drop (levelStart n k (suc (suc l))) ws
+  unfolding laid
+  laid-behind e =
+      ap (drop (levelStart n k (suc (suc l)))) (sym (append-assoc (take (levelStart n k (suc l)) ws) vs (drop (levelStart n k (suc (suc l))) ws)))
+      ∙ drop-at (take (levelStart n k (suc l)) ws ++ vs) (drop (levelStart n k (suc (suc l))) ws) (levelStart n k (suc (suc l)))
+      (length-append (take (levelStart n k (suc l)) ws) vs ∙ omega (arith, in-front, next-start n k (suc l)))
+
+-- lists that agree from a place on agree from any place behind it
+pub behind-more : (i m j : ℕ) (xs ys : List ℕ) → j ≡ i + m → drop i xs ≡ drop i ys → drop j xs ≡ drop j ys
+behind-more i m j xs ys e h = rw e (sym (drop-drop m i xs) ∙ ap (drop m) h ∙ drop-drop m i ys)
 
 -- the fold of level l has the length of the next
 pub length-fold : (n k l var by : ℕ) (ws : List ℕ) → l < n → length ws ≡ levelsLength n k → length (foldList var by (levelValues n k ws l)) ≡ levelLength n k (suc l)

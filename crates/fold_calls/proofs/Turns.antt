@@ -1,16 +1,16 @@
 -- The turns of a list of calls: where it stands at the start, after a refused call, after a done one, and at the end.
-use Prim.Native.Nat.{ℕ, zero, suc, _+_, _-_, _*_, _/_, _^_, _<_, _≤_}
+use Prim.Native.Nat.{ℕ, zero, suc, _+_, _-_, _*_, _^_, _<_, _≤_}
 use mathlib.Core.Path.{_≡_, refl, sym, _∙_, ap, ap₂, subst}
 use mathlib.Core.Logic.{_⊎_, ⊎-elim}
 use mathlib.Core.Bool.{Bool, true, false}
-use mathlib.Core.List.{List, [], _∷_, _++_, map, append-assoc, append-nil}
+use mathlib.Core.List.{List, [], _∷_, _++_, append-assoc, append-nil}
 use native.Mathlib.Nat.{eq-or-lt-of-le}
 use native.Mathlib.Numerals.{add-one}
 use native.Mathlib.Omega.{arith}
 use borrow.Author.Tests.{eq-eqb, ne-eqb, eqb-true, eqb-false}
 use lib.Dec.{eqb}
-use lib.ListN.{length, take, drop, set, length-map, drop-of-length-le}
-use lib.Seq.{take-all, length-take-le, drop-cons, take-suc-set}
+use lib.ListN.{length, take, drop, set, length-map, drop-of-length-le, take-append-drop}
+use lib.Seq.{length-take-le, drop-cons, drop-set-lt, take-suc-set}
 use Rattle.laws.specs.Table.{at}
 use Rattle.laws.specs.Questions.{onDone}
 use Rattle.field.specs.Words.{words}
@@ -26,7 +26,7 @@ use Rattle.record.proofs.Offsets.{length-levelValues}
 use Rattle.claim.specs.Calls.{Call, callNumber, callFold, doneFolds, afterFolds}
 use Rattle.fold_calls.specs.Lent.{codewordHalves, foldedHalves, lentCalls}
 use Rattle.fold_calls.specs.Laid.{laid, challengesOf, callsNumber, Reached, Called, Left}
-use Rattle.fold_calls.proofs.Laying.{next-start, laid-before, laid-there, length-fold}
+use Rattle.fold_calls.proofs.Laying.{next-start, laid-before, laid-there, laid-behind, behind-more, length-fold}
 
 -- ---- the start
 
@@ -35,7 +35,7 @@ unfolding levelStart total
 start-zero n k = refl
 
 pub reached-none : (n k : ℕ) (calls : List Call) (levels kept : List ℕ) → length levels ≡ 2 * levelsLength n k → length kept ≡ 2 * n
-    → Reached n k (levelValues n k (words levels) 0) calls calls 0 0 levels kept
+    → Reached n k (levelValues n k (words levels) 0) (words levels) (words kept) calls calls 0 0 levels kept
 unfolding afterFolds
 reached-none n k calls levels kept el ek =
     record {
@@ -44,6 +44,8 @@ reached-none n k calls levels kept el ek =
       levels-long = el;
       kept-long = ek;
       before = λ j h. ap (λ (i : ℕ). levelValues n k (words levels) i) {x = j} {y = 0} (omega arith) ∙ ap (afterFolds (levelValues n k (words levels) 0) calls) {x = 0} {y = j} (omega arith);
+      behind = refl;
+      behind-kept = refl;
       left = λ j. ap (afterFolds (levelValues n k (words levels) 0) calls) {x = 0 + j} {y = j} (omega arith);
       by = refl;
     }
@@ -73,12 +75,12 @@ taken-folds : (c : List ℕ) (x : Call) (rest : List Call) → callNumber c x �
 unfolding doneFolds
 taken-folds c x rest z = rw (eq-eqb (callNumber c x) 0 z)
 
-module _ (n k : ℕ) (c : List ℕ) (calls rest : List Call) (x : Call) (l from : ℕ) (levels kept : List ℕ) (s : Reached n k c calls (x ∷ rest) l from levels kept) where
+module _ (n k : ℕ) (c old oldKept : List ℕ) (calls rest : List Call) (x : Call) (l from : ℕ) (levels kept : List ℕ) (s : Reached n k c old oldKept calls (x ∷ rest) l from levels kept) where
   abbrev current : List ℕ
   current = levelValues n k (words levels) l
 
   pub reached-refused : (levels′ kept′ : List ℕ) → length levels′ ≡ length levels → length kept′ ≡ length kept → words levels′ ≡ words levels → words kept′ ≡ words kept
-      → (callNumber (levelValues n k (words levels) l) x ≡ 0 → ⊥) → Reached n k c calls rest l from levels′ kept′
+      → (callNumber (levelValues n k (words levels) l) x ≡ 0 → ⊥) → Reached n k c old oldKept calls rest l from levels′ kept′
   reached-refused levels′ kept′ el ek ew ev z =
       record {
         within = s .within;
@@ -86,6 +88,8 @@ module _ (n k : ℕ) (c : List ℕ) (calls rest : List Call) (x : Call) (l from 
         levels-long = el ∙ s .levels-long;
         kept-long = ek ∙ s .kept-long;
         before = rw ew (s .before);
+        behind = ap (drop (levelStart n k (suc l))) ew ∙ s .behind;
+        behind-kept = ap (drop l) ev ∙ s .behind-kept;
         left = rw ew (λ j. s .left j ∙ skipped current x rest z j);
         by = rw (ew, ev) (s .by ∙ ap (λ (fs : List Fold). take l (words kept) ++ challengesOf fs) (skipped-folds current x rest z));
       }
@@ -121,7 +125,17 @@ module _ (n k : ℕ) (c : List ℕ) (calls rest : List Call) (x : Call) (l from 
         ∙ ap₂ (λ (rs ws : List ℕ). rs ++ challengesOf (doneFolds ws rest))
         (sym (ap (take (suc l)) put ∙ take-suc-set (words kept) l (x .by) (omega (arith, length-words-even kept n (s .kept-long))))) (sym next-is)
 
-    pub reached-done : Reached n k c calls rest (suc l) (from + 2 * levelLength n k l) levels′ kept′
+    levels-behind : drop (levelStart n k (suc (suc l))) (words levels′) ≡ drop (levelStart n k (suc (suc l))) old
+    levels-behind =
+        ap (drop (levelStart n k (suc (suc l)))) new
+        ∙ laid-behind n k l _ (words levels) h words-long (length-fold n k l (x .var) (x .by) (words levels) h words-long)
+        ∙ behind-more (levelStart n k (suc l)) (levelLength n k (suc l)) (levelStart n k (suc (suc l))) (words levels) old (next-start n k (suc l)) (s .behind)
+
+    kept-behind : drop (suc l) (words kept′) ≡ drop (suc l) oldKept
+    kept-behind =
+        ap (drop (suc l)) put ∙ drop-set-lt (suc l) (words kept) l (x .by) (omega arith) ∙ behind-more l 1 (suc l) (words kept) oldKept (omega arith) (s .behind-kept)
+
+    pub reached-done : Reached n k c old oldKept calls rest (suc l) (from + 2 * levelLength n k l) levels′ kept′
     reached-done =
         record {
           within = omega arith;
@@ -129,30 +143,33 @@ module _ (n k : ℕ) (c : List ℕ) (calls rest : List Call) (x : Call) (l from 
           levels-long = long ∙ s .levels-long;
           kept-long = kept-long ∙ s .kept-long;
           before = levels-are;
+          behind = levels-behind;
+          behind-kept = kept-behind;
           left = after;
           by = kept-are;
         }
 
 -- ---- the end
 
-module _ (n k : ℕ) (c : List ℕ) (calls : List Call) (l from : ℕ) (levels kept : List ℕ) (s : Reached n k c calls [] l from levels kept) where
+module _ (n k : ℕ) (c old oldKept : List ℕ) (calls : List Call) (l from : ℕ) (levels kept : List ℕ) (s : Reached n k c old oldKept calls [] l from levels kept) where
   done-kept : challengesOf (doneFolds c calls) ≡ take l (words kept)
   unfolding doneFolds
   done-kept = s .by ∙ append-nil (take l (words kept))
 
-  pub count-is : l ≡ length (doneFolds c calls)
+  count-is : l ≡ length (doneFolds c calls)
   count-is =
       sym (sym (length-map (doneFolds c calls) (λ f. f .by)) ∙ ap length done-kept
       ∙ length-take-le l (words kept) (omega (arith, s .within, length-words-even kept n (s .kept-long))))
 
-  pub first-there : levelValues n k (words levels) 0 ≡ c
-  first-there = s .before 0 (omega arith) ∙ first c calls
-
-  pub each-there : l ≡ n → (j : ℕ) → j ≤ n → levelValues n k (words levels) j ≡ afterFolds c calls j
-  each-there e j h = s .before j (omega arith)
-
-  pub all-kept : l ≡ n → words kept ≡ challengesOf (doneFolds c calls)
-  all-kept e = sym (take-all l (words kept) (omega (arith, length-words-even kept n (s .kept-long)))) ∙ sym done-kept
+  pub all-left : Left n k c old oldKept calls l levels kept
+  all-left =
+      record {
+        count = count-is;
+        most = s .within;
+        each = s .before;
+        behind = s .behind;
+        kept-are = sym (take-append-drop l (words kept)) ∙ ap₂ (λ (rs ws : List ℕ). rs ++ ws) (sym done-kept) (s .behind-kept);
+      }
 
 -- ---- the calls of two lent lists
 
@@ -182,8 +199,8 @@ number-of-call n k l v r ws h long =
 pub level-left : (n k l var q : ℕ) → q ≡ callsNumber n k l var → q ≡ 0 → l < n
 level-left n k l var q e z = omega (arith, fold-sizes (n - l) k var _ _ q e z .below)
 
-module _ (n k : ℕ) (c : List ℕ) (calls : List Call) (vars rs : List ℕ) (i l from : ℕ) (levels kept levels′ kept′ : List ℕ) (l′ from′ : ℕ)
-    (s : Reached n k c calls (lentCalls (n - l) k (drop i vars) (drop i rs)) l from levels kept) (hv : i < length vars) (hr : i < length rs)
+module _ (n k : ℕ) (c old oldKept : List ℕ) (calls : List Call) (vars rs : List ℕ) (i l from : ℕ) (levels kept levels′ kept′ : List ℕ) (l′ from′ : ℕ)
+    (s : Reached n k c old oldKept calls (lentCalls (n - l) k (drop i vars) (drop i rs)) l from levels kept) (hv : i < length vars) (hr : i < length rs)
     (el : length levels′ ≡ length levels) (ek : length kept′ ≡ length kept) (call : Called n k l from (at vars i) (at rs i) levels kept levels′ kept′ l′ from′) where
   abbrev Q : ℕ
   Q = callsNumber n k l (at vars i)
@@ -194,29 +211,29 @@ module _ (n k : ℕ) (c : List ℕ) (calls : List Call) (vars rs : List ℕ) (i 
   number-is : callNumber (levelValues n k (words levels) l) X ≡ Q
   number-is = number-of-call n k l (at vars i) (at rs i) (words levels) (s .within) (length-words-even levels (levelsLength n k) (s .levels-long))
 
-  stands : Reached n k c calls (X ∷ lentCalls (onDone Q (n - l - 1) (n - l)) k (drop (suc i) vars) (drop (suc i) rs)) l from levels kept
+  stands : Reached n k c old oldKept calls (X ∷ lentCalls (onDone Q (n - l - 1) (n - l)) k (drop (suc i) vars) (drop (suc i) rs)) l from levels kept
   stands = rw (next-call (n - l) k i vars rs hv hr) at s
 
-  refused : (Q ≡ 0 → ⊥) → Reached n k c calls (lentCalls (n - l′) k (drop (suc i) vars) (drop (suc i) rs)) l′ from′ levels′ kept′
+  refused : (Q ≡ 0 → ⊥) → Reached n k c old oldKept calls (lentCalls (n - l′) k (drop (suc i) vars) (drop (suc i) rs)) l′ from′ levels′ kept′
   refused z =
       let none = ne-eqb Q 0 z in
       let a : l′ ≡ l = rw none at (call .count) in
       let b : from′ ≡ from = rw none at (call .start) in
-      rw (a, b) (reached-refused n k c calls _ X l from levels kept (rw none at stands) levels′ kept′ el ek (rw none at (call .level)) (rw none at (call .challenge)) (λ e. z (sym number-is ∙ e)))
+      rw (a, b) (reached-refused n k c old oldKept calls _ X l from levels kept (rw none at stands) levels′ kept′ el ek (rw none at (call .level)) (rw none at (call .challenge)) (λ e. z (sym number-is ∙ e)))
 
-  done : Q ≡ 0 → Reached n k c calls (lentCalls (n - l′) k (drop (suc i) vars) (drop (suc i) rs)) l′ from′ levels′ kept′
+  done : Q ≡ 0 → Reached n k c old oldKept calls (lentCalls (n - l′) k (drop (suc i) vars) (drop (suc i) rs)) l′ from′ levels′ kept′
   done z =
       let all = eq-eqb Q 0 z in
       let h : l < n = level-left n k l (at vars i) Q refl z in
       let a : l′ ≡ suc l = rw all at (call .count) in
       let b : from′ ≡ from + 2 * levelLength n k l = (rw all at (call .start)) ∙ omega (arith, s .from=, next-start n k l) in
       let m : n - l - 1 ≡ n - suc l = omega arith in
-      rw (a, b) (reached-done n k c calls _ X l from levels kept (rw (all, m) at stands) (number-is ∙ z) h levels′ kept′ el ek (rw all at (call .level)) (rw all at (call .challenge)))
+      rw (a, b) (reached-done n k c old oldKept calls _ X l from levels kept (rw (all, m) at stands) (number-is ∙ z) h levels′ kept′ el ek (rw all at (call .level)) (rw all at (call .challenge)))
 
-  pub turned : Reached n k c calls (lentCalls (n - l′) k (drop (i + 1) vars) (drop (i + 1) rs)) l′ from′ levels′ kept′
+  pub turned : Reached n k c old oldKept calls (lentCalls (n - l′) k (drop (i + 1) vars) (drop (i + 1) rs)) l′ from′ levels′ kept′
   turned = rw add-one (go (eqb Q 0) refl)
     where
-      go : (b : Bool) → eqb Q 0 ≡ b → Reached n k c calls (lentCalls (n - l′) k (drop (suc i) vars) (drop (suc i) rs)) l′ from′ levels′ kept′
+      go : (b : Bool) → eqb Q 0 ≡ b → Reached n k c old oldKept calls (lentCalls (n - l′) k (drop (suc i) vars) (drop (suc i) rs)) l′ from′ levels′ kept′
       go true e = done (eqb-true Q 0 e)
       go false e = refused (eqb-false Q 0 e)
 
@@ -251,18 +268,11 @@ same-challenge {n = n} {k = k} {l = l} {from = from} {var = var} {levels = level
     subst (λ (b : ℕ). Called n k l from var b levels kept levels′ kept′ l′ from′) e h
 
 pub reached-begin : (n k : ℕ) (vars rs levels kept : List ℕ) → length levels ≡ 2 * levelsLength n k → length kept ≡ 2 * n
-    → Reached n k (levelValues n k (words levels) 0) (lentCalls n k vars rs) (lentCalls (n - 0) k (drop 0 vars) (drop 0 rs)) 0 0 levels kept
+    → Reached n k (levelValues n k (words levels) 0) (words levels) (words kept) (lentCalls n k vars rs) (lentCalls (n - 0) k (drop 0 vars) (drop 0 rs)) 0 0 levels kept
 reached-begin n k vars rs levels kept el ek =
     let z : n - 0 ≡ n = omega arith in
     rw z (reached-none n k (lentCalls n k vars rs) levels kept el ek)
 
-pub left-all : (n k : ℕ) (c vars rs : List ℕ) (i l from : ℕ) (levels kept : List ℕ) {calls : List Call} → Reached n k c calls (lentCalls (n - l) k (drop i vars) (drop i rs)) l from levels kept → length vars ≤ i
-    → Left n k c calls l levels kept
-left-all n k c vars rs i l from levels kept {calls = calls} s h =
-    let e = rw (no-call (n - l) k i vars rs h) at s in
-    record {
-      count = count-is n k c calls l from levels kept e;
-      first = first-there n k c calls l from levels kept e;
-      each = each-there n k c calls l from levels kept e;
-      kept-are = all-kept n k c calls l from levels kept e;
-    }
+pub left-all : (n k : ℕ) (c old oldKept vars rs : List ℕ) (i l from : ℕ) (levels kept : List ℕ) {calls : List Call} → Reached n k c old oldKept calls (lentCalls (n - l) k (drop i vars) (drop i rs)) l from levels kept
+    → length vars ≤ i → Left n k c old oldKept calls l levels kept
+left-all n k c old oldKept vars rs i l from levels kept {calls = calls} s h = all-left n k c old oldKept calls l from levels kept (rw (no-call (n - l) k i vars rs h) at s)

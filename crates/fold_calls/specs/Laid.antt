@@ -4,6 +4,7 @@ use mathlib.Core.Path.{_≡_}
 use mathlib.Core.List.{List, _++_, map}
 use lib.ListN.{length, take, drop, set}
 use Rattle.laws.specs.Questions.{onDone}
+use Rattle.laws.specs.Table.{tab}
 use Rattle.field.specs.Words.{words}
 use Rattle.multilinear.specs.Fold.{foldList}
 use Rattle.multilinear.specs.Folds.{Fold}
@@ -16,6 +17,10 @@ use Rattle.fold_calls.specs.Lent.{codewordHalves, foldedHalves}
 unfoldable pub laid : ℕ → ℕ → ℕ → List ℕ → List ℕ → List ℕ
 laid n k l vs ws = take (levelStart n k l) ws ++ (vs ++ drop (levelStart n k (suc l)) ws)
 
+-- m halves, all 0
+abbrev pub zeros : ℕ → List ℕ
+zeros m = tab m (λ v. 0)
+
 -- the challenges of folds
 abbrev pub challengesOf : List Fold → List ℕ
 challengesOf fs = map (λ f. f .by) fs
@@ -25,13 +30,16 @@ abbrev pub callsNumber : ℕ → ℕ → ℕ → ℕ → ℕ
 callsNumber n k l var = foldNumber (n - l) k var (codewordHalves (n - l) k) (foldedHalves (n - l) k)
 
 -- where a list of calls on the codeword c stands, of which the calls `rest` are to come: l are done, the codeword is level l and starts at
--- the half `from`, the levels up to l are laid, and the challenges of the done calls are kept
-pub record Reached (n k : ℕ) (c : List ℕ) (calls rest : List Call) (l from : ℕ) (levels kept : List ℕ) : Type 0 where
+-- the half `from`, the levels up to l are laid, the challenges of the done calls are kept, and behind both stands what was there, the words
+-- `old` and `oldKept`
+pub record Reached (n k : ℕ) (c old oldKept : List ℕ) (calls rest : List Call) (l from : ℕ) (levels kept : List ℕ) : Type 0 where
   pub within : l ≤ n
   pub from= : from ≡ 2 * levelStart n k l
   pub levels-long : length levels ≡ 2 * levelsLength n k
   pub kept-long : length kept ≡ 2 * n
   pub before : (j : ℕ) → j ≤ l → levelValues n k (words levels) j ≡ afterFolds c calls j
+  pub behind : drop (levelStart n k (suc l)) (words levels) ≡ drop (levelStart n k (suc l)) old
+  pub behind-kept : drop l (words kept) ≡ drop l oldKept
   pub left : (j : ℕ) → afterFolds c calls (l + j) ≡ afterFolds (levelValues n k (words levels) l) rest j
   pub by : challengesOf (doneFolds c calls) ≡ take l (words kept) ++ challengesOf (doneFolds (levelValues n k (words levels) l) rest)
 
@@ -50,10 +58,11 @@ pub record Called (n k l from var by : ℕ) (levels kept levels′ kept′ : Lis
   pub level : words levels′ ≡ onDone (callsNumber n k l var) (laid n k (suc l) (foldList var by (levelValues n k (words levels) l)) (words levels)) (words levels)
   pub challenge : words kept′ ≡ onDone (callsNumber n k l var) (set (words kept) l by) (words kept)
 
--- what a list of calls on the codeword c leaves: how many are done, and c as level 0; where n are done, every level, and the challenges of the
--- done ones
-pub record Left (n k : ℕ) (c : List ℕ) (calls : List Call) (done : ℕ) (levels kept : List ℕ) : Type 0 where
+-- what a list of calls on the codeword c leaves, lent the words `old` of all levels and `oldKept`: how many are done, the levels up to that one
+-- and what was behind them, the challenges of the done calls and what was behind them
+pub record Left (n k : ℕ) (c old oldKept : List ℕ) (calls : List Call) (done : ℕ) (levels kept : List ℕ) : Type 0 where
   pub count : done ≡ length (doneFolds c calls)
-  pub first : levelValues n k (words levels) 0 ≡ c
-  pub each : done ≡ n → (l : ℕ) → l ≤ n → levelValues n k (words levels) l ≡ afterFolds c calls l
-  pub kept-are : done ≡ n → words kept ≡ challengesOf (doneFolds c calls)
+  pub most : done ≤ n
+  pub each : (l : ℕ) → l ≤ done → levelValues n k (words levels) l ≡ afterFolds c calls l
+  pub behind : drop (levelStart n k (suc done)) (words levels) ≡ drop (levelStart n k (suc done)) old
+  pub kept-are : words kept ≡ challengesOf (doneFolds c calls) ++ drop done oldKept

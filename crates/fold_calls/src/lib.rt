@@ -14,7 +14,7 @@ ghost use Rattle.code.specs.Questions.{foldNumber};
 ghost use Rattle.record.specs.Widths.{levelLength};
 ghost use Rattle.record.specs.Build.{levelStart, levelValues};
 ghost use Rattle.fold_calls.specs.Lent.{codewordHalves, foldedHalves, lentCalls};
-ghost use Rattle.fold_calls.specs.Laid.{laid, Room, Called, Left};
+ghost use Rattle.fold_calls.specs.Laid.{laid, zeros, Room, Called, Left};
 
 // Level l, which starts at the half `from`, folded at a variable by r into the front of `half`.
 fn fold_level(
@@ -83,7 +83,19 @@ fn call(
     }
 }
 
+// A buffer of halves, all set to 0.
+fn clear(half: &mut [u64])
+    ensures { λ _. ⌜ now (half .exit) ≡ zeros (length (now (half .entry))) ⌝ }
+{
+    let mut i: usize = 0;
+    while i < half.len() {
+        half[i] = 0;
+        i += 1;
+    }
+}
+
 // The calls of a lent list of variables and challenges, in order, on the codeword that stands as level 0: how many are done.
+// `half`, room for a fold, is left with zeros.
 pub fn fold_calls(
     n: usize,
     k: usize,
@@ -94,7 +106,8 @@ pub fn fold_calls(
     kept: &mut [u64],
 ) -> usize
     requires { ⌜ (Room n k (length (now levels)) (length (now half))) × (length (now kept) ≡ 2 * n) × (length (now challenges) ≡ 2 * length (now vars)) ⌝ }
-    ensures { λ done. ⌜ Left n k (levelValues n k (words (now (levels .entry))) 0) (lentCalls n k (now (vars .entry)) (words (now (challenges .entry)))) done (now (levels .exit)) (now (kept .exit)) ⌝ }
+    ensures { λ done. ⌜ Left n k (levelValues n k (words (now (levels .entry))) 0) (words (now (levels .entry))) (words (now (kept .entry))) (lentCalls n k (now (vars .entry)) (words (now (challenges .entry)))) done (now (levels .exit)) (now (kept .exit)) ⌝ }
+    ensures { λ _. ⌜ now (half .exit) ≡ zeros (length (now (half .entry))) ⌝ }
 {
     let mut at = Progress { done: 0, from: 0 };
     let mut i: usize = 0;
@@ -104,5 +117,6 @@ pub fn fold_calls(
         at = call(n, k, at, var, r, levels, half, kept);
         i += 1;
     }
+    clear(half);
     at.done
 }

@@ -29,6 +29,11 @@ groups-room count width g s h = omega (arith, s .whole, s .groups, mul-le-mul-le
 pub four-room : (count width g : ℕ) → Shape count width → g + 4 ≤ count / width → width * g + 4 * width ≤ count
 four-room count width g s h = omega (arith, group-room count width (g + 3) s (omega arith))
 
+-- no leaf by fours
+pub leaves-none : (domain : List ℕ) (count width : ℕ) (ws tree : List ℕ) → tree ≡ stored tree 0 (flat (leavesFrom hash domain count width 0 (runs width 0 ws)))
+unfolding leavesFrom runs flat
+leaves-none domain count width ws tree = sym (stored-nil tree 0)
+
 -- the first turn, and after the last
 pub leaves-begin : (domain : List ℕ) (count width all : ℕ) (ws tree : List ℕ)
     → stored tree 0 (flat (leavesFrom hash domain count width 0 (runs width (all - 0) (drop (width * 0) ws)))) ≡ stored tree 0 (flat (leavesFrom hash domain count width 0 (runs width all ws)))

@@ -17,6 +17,11 @@ use Rattle.strides.proofs.Whole.{four-ext, four-hashed}
 use Rattle.fours.proofs.Walk.{put-then}
 use Rattle.fours.proofs.Splits.{four-parents, parents-split}
 
+-- no parent by fours
+pub parents-none : (domain : List ℕ) (level dst : ℕ) (l tree : List ℕ) → tree ≡ stored tree dst (flat (parents hash domain level (runs 32 (2 * 0) l)))
+unfolding parents runs flat
+parents-none domain level dst l tree = sym (stored-nil tree dst)
+
 -- the first turn, and after the last
 pub parents-begin : (domain : List ℕ) (level all dst : ℕ) (l tree : List ℕ) → stored tree dst (flat (parents hash domain level (runs 32 (2 * (all - 0)) l))) ≡ stored tree dst (flat (parents hash domain level (runs 32 (2 * all) l)))
 parents-begin domain level all dst l tree = let m : all - 0 ≡ all = omega arith in rw m

@@ -38,12 +38,16 @@ pub fn put_leaves(
     ensures { λ r. ⌜ r ≡ byFours (97 + length (now (domain .entry)) + 16 * width) (count / width) ⌝ }
     ensures { λ r. ⌜ now (tree .exit) ≡ stored (now (tree .entry)) 0 (flat (leavesFrom hash (now (domain .entry)) count width 0 (runs width r (words (now (values .entry)))))) ⌝ }
 {
+    let all = by_fours(97 + domain.len() + 16 * width, count / width);
+    // A small tree or level has no four: then nothing is begun.
+    if all == 0 {
+        return 0;
+    }
     let mut front = [0u8; 328];
     let prefix = messages::leaf_prefix(&mut front, domain, count, width);
     let h = begin(messages, &front[..prefix]);
     let blocks = prefix / 64;
     let size = prefix + (24 + 16 * width);
-    let all = by_fours(size, count / width);
     let mut from: usize = 0;
     let mut to: usize = 0;
     let mut g: usize = 0;
@@ -70,12 +74,16 @@ pub fn put_parents(
     ensures { λ r. ⌜ r ≡ byFours (136 + length (now (domain .entry))) half ⌝ }
     ensures { λ r. ⌜ now (tree .exit) ≡ stored (now (tree .entry)) (from + 64 * half) (flat (parents hash (now (domain .entry)) level (runs 32 (2 * r) (drop from (now (tree .entry)))))) ⌝ }
 {
+    let all = by_fours(136 + domain.len(), half);
+    // A small tree or level has no four: then nothing is begun.
+    if all == 0 {
+        return 0;
+    }
     let mut front = [0u8; 311];
     let prefix = messages::node_prefix(&mut front, domain, level);
     let h = begin(messages, &front[..prefix]);
     let blocks = prefix / 64;
     let size = prefix + 80;
-    let all = by_fours(size, half);
     let mut src = from;
     let mut dst = from + 64 * half;
     let mut j: usize = 0;

@@ -1,5 +1,5 @@
 -- Trees put one behind the other, and the root of each: its last digest.
-use Prim.Native.Nat.{ℕ, zero, suc, _+_, _-_, _*_, _<_, _≤_}
+use Prim.Native.Nat.{ℕ, suc, _+_, _-_, _*_, _<_, _≤_}
 use mathlib.Core.Path.{_≡_, refl, sym, _∙_, ap, ap₂}
 use mathlib.Core.List.{List, [], _++_, append-assoc, append-nil}
 use native.Mathlib.Numerals.{add-one}
@@ -21,7 +21,7 @@ use Rattle.record.specs.Build.{levelStart, levelsLength, treeStart, levelValues
 use Rattle.record.proofs.Widths.{present-powers, level-shape, groups-pos}
 use Rattle.record.proofs.Totals.{length-endToEnd, total-ext, total-times}
 use Rattle.record.proofs.Offsets.{level-within, tree-within}
-use Rattle.record.proofs.Accepted.{length-treeFor, treeFor-long, length-rootFor}
+use Rattle.record.proofs.Accepted.{length-treeFor, treeFor-long}
 use Rattle.fold_calls.proofs.Laying.{next-start}
 use Rattle.fold_calls.proofs.Slices.{values-of-part}
 use Rattle.level_trees.specs.Grown.{Grown}

@@ -2,13 +2,13 @@
 use Prim.Native.Nat.{ℕ, zero, suc, _+_, _*_, _/_, _%_, _<_}
 use mathlib.Core.Path.{_≡_, sym, _∙_, ap}
 use mathlib.Core.Bool.{true}
-use mathlib.Core.List.{List, map}
+use mathlib.Core.List.{List}
 use native.Mathlib.Omega.{arith}
 use native.Mathlib.Nat.{mod-lt, div-add-mod}
 use native.Mathlib.Numerals.{add-one}
-use lib.ListN.{length, drop}
+use lib.ListN.{drop}
 use Rattle.laws.specs.Table.{at}
-use Rattle.laws.specs.Lists.{part, leValue}
+use Rattle.laws.specs.Lists.{part}
 use Rattle.field.specs.Words.{words}
 use Rattle.merkle.specs.Tree.{groupOf, rootOfPath, leafOf, leafDigest, climb}
 use Rattle.blake3.specs.Digest.{hash}
@@ -18,9 +18,9 @@ use Rattle.reader.proofs.Places.{level-places}
 use Rattle.record.specs.Domain.{levelDomain}
 use Rattle.record.specs.Widths.{present, levelLength, levelWidth}
 use Rattle.record.specs.Trees.{leadsTo}
-use Rattle.record.specs.Format.{levelOf, runItems}
+use Rattle.record.specs.Format.{levelOf}
 use Rattle.record.specs.Query.{pairOf, rootAt, levelNumber}
-use Rattle.record.proofs.Query.{LevelHolds, level-holds}
+use Rattle.record.proofs.Query.{level-holds}
 use Rattle.record.proofs.Offsets.{pair-next}
 use Rattle.record.proofs.Widths.{present-powers, level-shape, width-pos, width-even, pair-group}
 use Rattle.opening.specs.declared.Opened.{Opened}

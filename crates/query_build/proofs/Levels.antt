@@ -1,6 +1,6 @@
 -- The levels of a query record by where their parts stand in what is lent: they are the levels that are built, and stand within it.
-use Prim.Native.Nat.{ℕ, suc, _+_, _-_, _*_, _/_, _^_, _<_, _≤_}
-use mathlib.Core.Path.{_≡_, refl, sym, _∙_, ap, ap₂}
+use Prim.Native.Nat.{ℕ, suc, _+_, _-_, _*_, _^_, _<_, _≤_}
+use mathlib.Core.Path.{_≡_}
 use mathlib.Core.List.{List}
 use native.Mathlib.Omega.{arith}
 use native.Mathlib.Numerals.{add-one}
@@ -10,10 +10,9 @@ use Rattle.merkle.specs.Tree.{groupOf}
 use Rattle.merkle.proofs.Sizes.{group-lt}
 use Rattle.record.specs.Widths.{present, levelLength, levelWidth, levelGroups, levelDepth, treeLength, total}
 use Rattle.record.specs.Trees.{groupAt, pathAt}
-use Rattle.record.specs.Format.{LevelRecord}
 use Rattle.record.specs.Sizes.{groupSize, levelSize, querySize}
 use Rattle.record.specs.Query.{pairOf}
-use Rattle.record.specs.Build.{levelStart, treeStart, levelValues, levelTree, openPair, builtLevel}
+use Rattle.record.specs.Build.{treeStart, levelValues, levelTree, openPair, builtLevel}
 use Rattle.record.proofs.Ranges.{sizes-small}
 use Rattle.record.proofs.Widths.{present-powers, level-shape, width-pos, groups-by-depth}
 use Rattle.record.proofs.Totals.{total-within}

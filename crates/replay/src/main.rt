@@ -15,6 +15,7 @@ enum Layer {
     Field,
     Trees,
     Code,
+    Seal,
 }
 
 fn name(layer: Layer, f: usize) -> Line {
@@ -22,6 +23,7 @@ fn name(layer: Layer, f: usize) -> Line {
         Layer::Field => replay_field::name(f),
         Layer::Trees => replay_trees::name(f),
         Layer::Code => replay_code::name(f),
+        Layer::Seal => replay_seal::name(f),
     }
 }
 
@@ -119,4 +121,5 @@ fn main() {
     run_all(Layer::Field, 10, &mut a, &mut b, &mut c, &mut s, &mut t);
     run_all(Layer::Trees, 7, &mut a, &mut b, &mut c, &mut s, &mut t);
     run_all(Layer::Code, 11, &mut a, &mut b, &mut c, &mut s, &mut t);
+    run_all(Layer::Seal, 2, &mut a, &mut b, &mut c, &mut s, &mut t);
 }

@@ -1,24 +1,22 @@
 -- The claim of demand 3 applied to what a run leaves.
-use Prim.Native.Nat.{ℕ, suc, _+_, _-_, _*_, _^_, _≤_}
-use mathlib.Core.Path.{_≡_, refl, sym, _∙_, ap}
-use mathlib.Core.Logic.{_↔_}
-use mathlib.Core.List.{List, _++_}
+use Prim.Native.Nat.{ℕ, suc, _-_, _*_, _≤_}
+use mathlib.Core.Path.{_≡_, refl, sym, _∙_, ap, subst}
+use mathlib.Core.List.{List, [], _∷_, _++_}
 use native.Mathlib.Omega.{arith}
-use lib.ListN.{length, drop, length-append, length-drop, length-map}
-use lib.Seq.{drop-at}
+use lib.ListN.{length, take, drop, length-append, length-drop, length-map}
+use lib.Seq.{take-at, take-all, drop-at}
 use Rattle.laws.specs.Table.{at}
 use Rattle.laws.specs.Lists.{flat}
 use Rattle.field.specs.Words.{words}
 use Rattle.field.proofs.Words.{drop-words, length-words-even}
-use Rattle.multilinear.specs.Multilinear.{mle}
-use Rattle.multilinear.specs.Folds.{Fold, atFirst}
+use Rattle.multilinear.specs.Folds.{atFirst}
 use Rattle.blake3.specs.Digest.{hash}
 use Rattle.blake3.proofs.HashMode.{length-hash}
 use Rattle.record.specs.Widths.{present, levelLength, treeLength}
 use Rattle.record.specs.Trees.{endToEnd, treeFor, rootFor, levelsLent, treesLent, rootsLent}
-use Rattle.record.specs.Query.{Answer, accepted, checkQuery}
+use Rattle.record.specs.Query.{Answer, checkQuery}
 use Rattle.record.specs.Tail.{checkTail}
-use Rattle.record.specs.Build.{levelsLength, treeStart, levelValues, buildQuery, buildTail}
+use Rattle.record.specs.Build.{levelsLength, levelValues, buildQuery, buildTail}
 use Rattle.record.proofs.Widths.{present-powers}
 use Rattle.record.proofs.Totals.{endToEnd-ext}
 use Rattle.record.proofs.Offsets.{level-within, tree-within, length-levelValues}
@@ -26,9 +24,10 @@ use Rattle.record.proofs.Accepted.{length-rootFor}
 use Rattle.claim.specs.Calls.{Call, doneFolds, afterFolds}
 use Rattle.claim.specs.Claim.{Deposit, Lent, LastLent, Claim}
 use Rattle.claim.proofs.Claim.{claim}
+use Rattle.fold_calls.specs.Laid.{challengesOf}
 use Rattle.fold_calls.proofs.Laying.{levels-laid}
 use Rattle.level_trees.proofs.Growing.{length-tree}
-use Rattle.whole_run.specs.Whole.{Room, RecordRoom, LastRoom, codeword, calls, Deposited, Claimed, Ran}
+use Rattle.whole_run.specs.Whole.{Room, RecordRoom, LastRoom, codeword, calls, Deposited, Claimed}
 
 -- room for the last level, its tree and its root
 pub last-room : (n k base table vars challenges gammas levels half kept trees roots : ℕ) → Room n k base table vars challenges gammas levels half kept trees roots → LastRoom n k levels trees roots
@@ -45,9 +44,9 @@ drop-last : (m : ℕ) (xs ys zs : List ℕ) → xs ≡ ys ++ zs → length zs �
 drop-last m xs ys zs e l =
     rw e (drop-at ys zs (length (ys ++ zs) - m) (omega (arith, length-append ys zs)))
 
-module _ (n k : ℕ) (base table vars challenges gammas levels kept trees roots : List ℕ) (g h : ℕ)
+module _ (n k : ℕ) (base table vars challenges old oldKept gammas levels kept trees roots : List ℕ) (g h : ℕ)
     (r : Room n k (length base) (length table) (length vars) (length challenges) g (length levels) h (length kept) (length trees) (length roots))
-    (done : ℕ) (d : Deposited n k base table vars challenges gammas levels kept trees roots done)
+    (done : ℕ) (d : Deposited n k base table vars challenges old oldKept gammas levels kept trees roots done)
     (all-first : doneFolds (codeword n k base table vars challenges) (calls n k base table vars challenges) ≡ atFirst (words kept)) where
   abbrev c : List ℕ
   c = codeword n k base table vars challenges
@@ -70,7 +69,7 @@ module _ (n k : ℕ) (base table vars challenges gammas levels kept trees roots 
       ∙ length-words-even kept n (r .kept-long)
 
   each : (l : ℕ) → l ≤ n → levelValues n k (words levels) l ≡ level l
-  each l h = d .left .each all-done l h
+  each l h = d .left .each l (omega (arith, all-done))
 
   words-are : words levels ≡ levelsLent n level
   words-are = levels-laid n k (words levels) level (length-words-even levels (levelsLength n k) (r .levels-long)) each
@@ -114,11 +113,37 @@ module _ (n k : ℕ) (base table vars challenges gammas levels kept trees roots 
   last-lent = record { level-long = last-long; level-is = last-is; tree-is = tree-is; root-is = root-is }
 
   module _ (position : ℕ) (query tail : List ℕ) (q : RecordRoom n k position (length query) (length tail)) where
-    pub claim-holds : (query′ tail′ : List ℕ) (answer : Answer) (number terminal : ℕ) → query′ ≡ buildQuery present n k levels trees position query → answer ≡ checkQuery hash present base n k position kept roots query′
+    claim-holds : (query′ tail′ : List ℕ) (answer : Answer) (number terminal : ℕ) → query′ ≡ buildQuery present n k levels trees position query → answer ≡ checkQuery hash present base n k position kept roots query′
         → tail′ ≡ buildTail present n k last (drop (length trees - 32 * treeLength present n k n) trees) tail → number ≡ checkTail hash present base n k (drop (length roots - 32) roots) terminal tail′
-        → Claimed n k base table vars challenges kept answer number terminal
+        → Claimed n k base table vars challenges levels kept answer number terminal (words kept)
     claim-holds query′ tail′ answer number terminal eq ea et en =
         record {
+          kept-are = refl;
+          last-entry = λ eps low. ap (λ (ws : List ℕ). at ws eps) (each n (omega arith)) ∙ the-claim .last-entry eps low;
           query-accepted = ea ∙ ap (checkQuery hash present base n k position kept roots) eq ∙ the-claim .query-record levels trees roots lent position (q .position-low) query (q .query-long) .1;
           tail-accepted = rw (en, et) (the-claim .tail-record last _ _ last-lent tail (q .tail-long) .1 terminal);
         }
+
+-- ---- by the challenges of the done calls
+
+challenges-first : (r : List ℕ) → challengesOf (atFirst r) ≡ r
+challenges-first [] = refl
+challenges-first (x ∷ r) = ap (λ (rs : List ℕ). x ∷ rs) (challenges-first r)
+
+module _ (n k : ℕ) (base table vars challenges old oldKept gammas levels kept trees roots : List ℕ) (g h : ℕ)
+    (room : Room n k (length base) (length table) (length vars) (length challenges) g (length levels) h (length kept) (length trees) (length roots))
+    (done : ℕ) (d : Deposited n k base table vars challenges old oldKept gammas levels kept trees roots done)
+    (r : List ℕ) (long : length r ≡ n) (all-first : doneFolds (codeword n k base table vars challenges) (calls n k base table vars challenges) ≡ atFirst r) where
+  -- what is kept is r, all of it
+  kept-is : words kept ≡ r
+  kept-is =
+      let e : words kept ≡ r ++ drop done (words oldKept) = d .left .kept-are ∙ ap (λ (rs : List ℕ). rs ++ drop done (words oldKept)) (ap challengesOf all-first ∙ challenges-first r) in
+      sym (take-all n (words kept) (omega (arith, length-words-even kept n (room .kept-long)))) ∙ ap (take n) e ∙ take-at r (drop done (words oldKept)) n long
+
+  pub claimed-by : (position : ℕ) (query tail : List ℕ) → RecordRoom n k position (length query) (length tail) → (query′ tail′ : List ℕ) (answer : Answer) (number terminal : ℕ)
+      → query′ ≡ buildQuery present n k levels trees position query → answer ≡ checkQuery hash present base n k position kept roots query′
+      → tail′ ≡ buildTail present n k (drop (length levels - 2 * levelLength n k n) levels) (drop (length trees - 32 * treeLength present n k n) trees) tail
+      → number ≡ checkTail hash present base n k (drop (length roots - 32) roots) terminal tail′ → Claimed n k base table vars challenges levels kept answer number terminal r
+  claimed-by position query tail q query′ tail′ answer number terminal eq ea et en =
+      subst (λ (x : List ℕ). Claimed n k base table vars challenges levels kept answer number terminal x) kept-is
+      (claim-holds n k base table vars challenges old oldKept gammas levels kept trees roots g h room done d (all-first ∙ ap atFirst (sym kept-is)) position query tail q query′ tail′ answer number terminal eq ea et en)

@@ -1,15 +1,15 @@
 -- Committing, the calls and the trees, one after the other: no step is refused, and each finds what the one before left.
-use Prim.Native.Nat.{ℕ, _+_, _-_, _*_, _^_, _≤_}
-use mathlib.Core.Path.{_≡_, sym, _∙_, ap, subst}
+use Prim.Native.Nat.{ℕ, zero, suc, _+_, _-_, _*_, _^_, _≤_}
+use mathlib.Core.Path.{_≡_, refl, sym, _∙_, ap, subst}
 use mathlib.Core.List.{List, _++_}
 use native.Mathlib.Omega.{arith}
 use borrow.Author.Tests.{le-leb, eq-eqb}
 use lib.ListN.{length, take, drop, length-drop}
-use lib.Seq.{take-at, take-all}
+use lib.Seq.{take-at, take-all, drop-drop, drop-append-add}
 use Rattle.laws.specs.Lists.{part, flat}
 use Rattle.laws.proofs.Questions.{yes-all}
 use Rattle.field.specs.Words.{words}
-use Rattle.field.proofs.Words.{words-append, length-words-even}
+use Rattle.field.proofs.Words.{words-append, drop-words, length-words-even}
 use Rattle.blake3.specs.Digest.{hash}
 use Rattle.record.specs.Widths.{present, levelLength, treeLength, total}
 use Rattle.record.specs.Trees.{treeFor}
@@ -17,7 +17,7 @@ use Rattle.record.specs.Tail.{checkTail}
 use Rattle.record.specs.Build.{levelStart, treeStart, levelValues, buildTail}
 use Rattle.record.proofs.Offsets.{level-within, tree-within}
 use Rattle.seal.specs.Commit.{commitQuestions, commitNumber, committedCodeword, committedTree}
-use Rattle.claim.specs.Calls.{Call}
+use Rattle.claim.specs.Calls.{Call, afterFolds}
 use Rattle.fold_calls.specs.Laid.{Left}
 use Rattle.whole_run.specs.Whole.{Room}
 
@@ -51,15 +51,42 @@ module _ (n k base table vars challenges gammas levels half kept trees roots : �
         ),
       )
 
+-- the next levels start behind level 0
+first-before : (n k l : ℕ) → levelLength n k 0 ≤ levelStart n k (suc l)
+unfolding levelStart total
+first-before n k zero = omega arith
+first-before n k (suc l) = omega (arith, first-before n k l)
+
 -- what stands at the front is level 0
 pub first-level : (n k : ℕ) (front rest : List ℕ) → length front ≡ 2 * levelLength n k 0 → levelValues n k (words (front ++ rest)) 0 ≡ words front
 unfolding levelValues levelStart total part
 first-level n k front rest e =
     ap (take (levelLength n k 0)) (words-append front rest (levelLength n k 0) e) ∙ take-at (words front) (words rest) (levelLength n k 0) (length-words-even front (levelLength n k 0) e)
 
--- the calls are on the committed codeword
-pub calls-left : (n k : ℕ) (c c′ : List ℕ) (calls : List Call) (done : ℕ) (levels kept : List ℕ) → c ≡ c′ → Left n k c calls done levels kept → Left n k c′ calls done levels kept
-calls-left n k c c′ calls done levels kept e h = subst (λ (x : List ℕ). Left n k x calls done levels kept) e h
+-- the calls are on the committed codeword, and behind level 0 stands what was there before
+pub calls-left : (n k size : ℕ) (c front xs oldKept : List ℕ) (calls : List Call) (done : ℕ) (levels kept : List ℕ) → size ≡ levelLength n k 0 → length front ≡ 2 * levelLength n k 0
+    → levelValues n k (words (front ++ drop (2 * size) xs)) 0 ≡ c
+    → Left n k (levelValues n k (words (front ++ drop (2 * size) xs)) 0) (words (front ++ drop (2 * size) xs)) oldKept calls done levels kept → Left n k c (words xs) oldKept calls done levels kept
+calls-left n k size c front xs oldKept calls done levels kept es el e h =
+    let here = subst (λ (x : List ℕ). Left n k x (words (front ++ drop (2 * size) xs)) oldKept calls done levels kept) e h in
+    record { count = here .count; most = here .most; each = here .each; behind = here .behind ∙ same-behind (levelStart n k (suc done)) (start-after done); kept-are = here .kept-are }
+  where
+    start-after : (l : ℕ) → levelLength n k 0 ≤ levelStart n k (suc l)
+    start-after l = omega (arith, first-before n k l)
+
+    same-behind : (i : ℕ) → levelLength n k 0 ≤ i → drop i (words (front ++ drop (2 * size) xs)) ≡ drop i (words xs)
+    same-behind i g =
+        let m : ℕ = i - levelLength n k 0 in
+        let f : length (words front) ≡ levelLength n k 0 = length-words-even front (levelLength n k 0) el in
+        let a : i ≡ length (words front) + m = omega (arith, f) in
+        let w : words (front ++ drop (2 * size) xs) ≡ words front ++ drop size (words xs) = words-append front (drop (2 * size) xs) (levelLength n k 0) el ∙ ap (λ (u : List ℕ). words front ++ u) (drop-words size xs) in
+        ap (drop i) w ∙ ap (λ (j : ℕ). drop j (words front ++ drop size (words xs))) a ∙ drop-append-add (words front) (drop size (words xs)) m
+        ∙ drop-drop m size (words xs) ∙ ap (λ (j : ℕ). drop j (words xs)) {x = size + m} {y = i} (omega (arith, es))
+
+-- before any call
+pub after-none : (c : List ℕ) (calls : List Call) → afterFolds c calls 0 ≡ c
+unfolding afterFolds
+after-none c calls = refl
 
 -- the tree that committing left is that of level 0
 pub first-tree : (n k : ℕ) (base table levels front rest : List ℕ) → length front ≡ 32 * treeLength present n k 0 → front ≡ committedTree hash present base n k (words table)

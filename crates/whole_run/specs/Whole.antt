@@ -9,6 +9,8 @@ use Rattle.laws.specs.Table.{at}
 use Rattle.field.specs.Words.{words}
 use Rattle.multilinear.specs.Multilinear.{mle}
 use Rattle.multilinear.specs.Folds.{atFirst}
+use Rattle.multilinear.specs.Codeword.{shift}
+use Rattle.multilinear.specs.Points.{addPoint}
 use Rattle.blake3.specs.Digest.{hash}
 use Rattle.gamma.specs.Gammas.{gammas}
 use Rattle.record.specs.Widths.{present, levelLength, treeLength}
@@ -59,24 +61,26 @@ module _ (n k : ℕ) (base table vars challenges : List ℕ) where
   abbrev pub calls : List Call
   calls = lentCalls n k vars (words challenges)
 
-  -- what committing, the calls and the trees leave
-  pub record Deposited (gammas′ levels kept trees roots : List ℕ) (done : ℕ) : Type 0 where
+  -- what committing, the calls and the trees leave, lent the halves `old` for the levels and `oldKept` for the challenges
+  pub record Deposited (old oldKept gammas′ levels kept trees roots : List ℕ) (done : ℕ) : Type 0 where
     pub gammas-are : words gammas′ ≡ gammas hash base n k
-    pub left : Left n k codeword calls done levels kept
+    pub left : Left n k codeword (words old) (words oldKept) calls done levels kept
     pub trees-are : trees ≡ treesLent hash present base n k (levelValues n k (words levels))
     pub roots-are : roots ≡ rootsLent hash present base n k (levelValues n k (words levels))
 
-  -- the claim: where the done calls are n folds at variable 0 by the challenges kept, r, the query record is accepted, and the tail record exactly
-  -- for the claim P(r)
-  pub record Claimed (kept : List ℕ) (answer : Answer) (tail claim : ℕ) : Type 0 where
+  -- the claim, for done calls that are n folds at variable 0 by r: r is kept, entry eps of the last level is P(r + L(eps)), the query record is
+  -- accepted, and the tail record exactly for the claim P(r)
+  pub record Claimed (levels kept : List ℕ) (answer : Answer) (tail claim : ℕ) (r : List ℕ) : Type 0 where
+    pub kept-are : words kept ≡ r
+    pub last-entry : (eps : ℕ) → eps < 2 ^ k → at (levelValues n k (words levels) n) eps ≡ mle (at (words table)) (addPoint r (shift n k (gammas hash base n k) eps))
     pub query-accepted : answer ≡ accepted
-    pub tail-accepted : (tail ≡ 0) ↔ (claim ≡ mle (at (words table)) (words kept))
+    pub tail-accepted : (tail ≡ 0) ↔ (claim ≡ mle (at (words table)) r)
 
   -- the run: what is left, what the records are and what their checks answer
-  pub record Ran (position claim : ℕ) (gammas′ levels kept trees roots query query′ tail tail′ : List ℕ) (done : ℕ) (answer : Answer) (number : ℕ) : Type 0 where
-    pub deposited : Deposited gammas′ levels kept trees roots done
+  pub record Ran (position claim : ℕ) (old oldKept gammas′ levels kept trees roots query query′ tail tail′ : List ℕ) (done : ℕ) (answer : Answer) (number : ℕ) : Type 0 where
+    pub deposited : Deposited old oldKept gammas′ levels kept trees roots done
     pub query-is : query′ ≡ buildQuery present n k levels trees position query
     pub tail-is : tail′ ≡ buildTail present n k (drop (length levels - 2 * levelLength n k n) levels) (drop (length trees - 32 * treeLength present n k n) trees) tail
     pub answer-is : answer ≡ checkQuery hash present base n k position kept roots query′
     pub number-is : number ≡ checkTail hash present base n k (drop (length roots - 32) roots) claim tail′
-    pub claimed : doneFolds codeword calls ≡ atFirst (words kept) → Claimed kept answer number claim
+    pub claimed : (r : List ℕ) → length r ≡ n → doneFolds codeword calls ≡ atFirst r → Claimed levels kept answer number claim r

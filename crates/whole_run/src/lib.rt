@@ -21,10 +21,11 @@ ghost use Rattle.record.specs.Query.{checkQuery};
 ghost use Rattle.record.specs.Tail.{checkTail};
 ghost use Rattle.record.specs.Build.{buildQuery, buildTail};
 ghost use Rattle.query.specs.Answer.{answer};
+ghost use Rattle.fold_calls.specs.Laid.{zeros};
 ghost use Rattle.whole_run.specs.Whole.{Room, RecordRoom, LastRoom, Deposited, Ran};
 
 // A table committed, the calls of a lent list of variables and challenges on its codeword, and the trees and roots of all levels: how many
-// calls are done. The challenges of the done ones are kept; `half` is room for a fold.
+// calls are done. The challenges of the done ones are kept; `half` is room for a fold and is left with zeros.
 fn deposit(
     n: usize,
     k: usize,
@@ -40,7 +41,8 @@ fn deposit(
     roots: &mut [u8],
 ) -> usize
     requires { ⌜ Room n k (length (now base)) (length (now table)) (length (now vars)) (length (now challenges)) (length (now gammas)) (length (now levels)) (length (now half)) (length (now kept)) (length (now trees)) (length (now roots)) ⌝ }
-    ensures { λ done. ⌜ Deposited n k (now (base .entry)) (now (table .entry)) (now (vars .entry)) (now (challenges .entry)) (now (gammas .exit)) (now (levels .exit)) (now (kept .exit)) (now (trees .exit)) (now (roots .exit)) done ⌝ }
+    ensures { λ done. ⌜ Deposited n k (now (base .entry)) (now (table .entry)) (now (vars .entry)) (now (challenges .entry)) (now (levels .entry)) (now (kept .entry)) (now (gammas .exit)) (now (levels .exit)) (now (kept .exit)) (now (trees .exit)) (now (roots .exit)) done ⌝ }
+    ensures { λ _. ⌜ now (half .exit) ≡ zeros (length (now (half .entry))) ⌝ }
 {
     let size = 2 * level_length(n, k, 0);
     let bytes = tree_bytes(n, k, 0);
@@ -128,7 +130,8 @@ pub fn run(
 ) -> Answers
     requires { ⌜ Room n k (length (now base)) (length (now table)) (length (now vars)) (length (now challenges)) (length (now gammas)) (length (now levels)) (length (now half)) (length (now kept)) (length (now trees)) (length (now roots)) ⌝ }
     requires { ⌜ RecordRoom n k position (length (now query)) (length (now tail)) ⌝ }
-    ensures { λ r. ⌜ Ran n k (now (base .entry)) (now (table .entry)) (now (vars .entry)) (now (challenges .entry)) position (word claim) (now (gammas .exit)) (now (levels .exit)) (now (kept .exit)) (now (trees .exit)) (now (roots .exit)) (now (query .entry)) (now (query .exit)) (now (tail .entry)) (now (tail .exit)) (r .done) (answer (r .query)) (r .tail) ⌝ }
+    ensures { λ r. ⌜ Ran n k (now (base .entry)) (now (table .entry)) (now (vars .entry)) (now (challenges .entry)) position (word claim) (now (levels .entry)) (now (kept .entry)) (now (gammas .exit)) (now (levels .exit)) (now (kept .exit)) (now (trees .exit)) (now (roots .exit)) (now (query .entry)) (now (query .exit)) (now (tail .entry)) (now (tail .exit)) (r .done) (answer (r .query)) (r .tail) ⌝ }
+    ensures { λ _. ⌜ now (half .exit) ≡ zeros (length (now (half .entry))) ⌝ }
 {
     let done = deposit(
         n,

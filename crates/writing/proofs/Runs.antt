@@ -9,7 +9,7 @@ use Rattle.field.specs.Words.{words}
 use Rattle.merkle.specs.Tree.{groupOf, depthOf, treeSize, path, levelsOf, pathOf}
 use Rattle.merkle.proofs.Levels.{length-path}
 use Rattle.messages.specs.Put.{Put}
-use Rattle.messages.proofs.Stores.{then-put, same-put}
+use Rattle.messages.proofs.Stores.{then-put}
 use Rattle.record.specs.Format.{wordBytes, runBytes}
 use Rattle.record.specs.Build.{digests}
 use Rattle.record.proofs.Runs.{runs-take}

@@ -1,7 +1,7 @@
-//! The answers of committing and of building records: eval.rs and ring.rs.
+//! The answers of committing and of building query records: eval.rs and ring.rs.
 //!
-//! A case's numbers end with the sizes, in bytes, of what is lent: a tree, the
-//! trees and the record, the record and the last level's tree.
+//! A case's numbers end with the sizes, in bytes, of what is lent: the tree; the
+//! trees and the record.
 
 use super::{of_bytes, of_words, Case, List};
 use oracle::query::{self as rust, Levels};
@@ -35,20 +35,6 @@ pub fn lists() -> Vec<List> {
                 let digests = case.input(1).digests(rust::levels_digests(n, k));
                 let levels = Levels::lent(n, k, &words, &digests);
                 of_bytes(&levels.query(position).to_bytes())
-            },
-        },
-        List {
-            function: "build_tail",
-            cases: sizes(1)
-                .map(|(case, n, k)| {
-                    vec![n, k, DOMAINS[case % 6], tail_bytes(k), tree_bytes(1 << k)]
-                })
-                .collect(),
-            answer: |case| {
-                let [n, k, ..] = case.all::<5>();
-                let challenges = case.input(2).words(n);
-                let proof = rust::prove(k, &domain(case), &table(case), &challenges, &[]);
-                of_bytes(&proof.tail.to_bytes())
             },
         },
     ]
@@ -92,8 +78,4 @@ fn record_bytes(n: usize, k: usize) -> usize {
     let opened = |level: usize| opening_bytes(1 << (n + k - level));
     let level = |level| 48 + opened(level) + opened(level + 1);
     4 + (0..n).map(level).sum::<usize>()
-}
-
-fn tail_bytes(k: usize) -> usize {
-    4 + groups(1 << k).0 * opening_bytes(1 << k)
 }

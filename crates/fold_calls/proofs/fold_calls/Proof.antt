@@ -1,9 +1,10 @@
 -- `fold_calls::fold_calls` meets its contract: where the calls stand after the first i.
-use Prim.Native.Nat.{_-_, _≤_}
-use mathlib.Core.Path.{_≡_, refl, sym, _∙_}
+use Prim.Native.Nat.{ℕ, _-_, _≤_}
+use mathlib.Core.Path.{_≡_, refl, sym, _∙_, ap}
 use native.Mathlib.Omega.{arith}
 use borrow.Author.Needs.{needs}
 use lib.ListN.{length, drop}
+use Rattle.laws.specs.Table.{tab}
 use Rattle.field.specs.Words.{words}
 use Rattle.record.specs.Build.{levelValues}
 use Rattle.fold_calls.specs.Lent.{lentCalls}
@@ -19,7 +20,7 @@ use Rattle.words.proofs.get.Reads as get-reads
 abbrev Inv-loop : tie.InvT-loop
 Inv-loop n k vars challenges levels₀ half₀ kept₀ at₀ i₀ levels half kept at i =
     (i ≤ length vars) × (length half ≡ length half₀)
-    × (Reached n k (levelValues n k (words levels₀) 0) (lentCalls n k vars (words challenges)) (lentCalls (n - at .done) k (drop i vars) (drop i (words challenges))) (at .done) (at .from) levels kept)
+    × (Reached n k (levelValues n k (words levels₀) 0) (words levels₀) (words kept₀) (lentCalls n k vars (words challenges)) (lentCalls (n - at .done) k (drop i vars) (drop i (words challenges))) (at .done) (at .from) levels kept)
 
 abbrev μ-loop : tie.MeasureT-loop
 μ-loop n k vars challenges levels₀ half₀ kept₀ at₀ i₀ levels half kept at i = length vars - i
@@ -53,19 +54,24 @@ loop-again c =
     let p = c .before .before .before .before .before .before .before .before .before .before .before .before .before .before .before .before .before .before .before .pre in
     let here = c .before .before .before .before .before .before .before .before .before .before .before .before .before .loop in
     let run = c .before .before .before .before .before .before .call in
-    (omega arith, run .kept .1 .1 .1 .1 .1 .1 .0 ∙ here .inv .1, turned _ _ _ _ _ _ _ _ _ _ _ _ _ _ _ (here .inv .2) (c .before .before .before .before .before .before .before .before .before .before .before .before .loop-test .taken) (has-challenge _ _ _ (p .2) (c .before .before .before .before .before .before .before .before .before .before .before .before .loop-test .taken)) (run .kept .1 .1 .1 .1 .1 .0) (run .kept .1 .1 .1 .1 .1 .1 .1 .0) (same-challenge (run .ensures) (c .before .before .before .before .before .before .before .before .before .before .before .get .ensures)))
+    (omega arith, run .kept .1 .1 .1 .1 .1 .1 .0 ∙ here .inv .1, turned _ _ _ _ _ _ _ _ _ _ _ _ _ _ _ _ _ (here .inv .2) (c .before .before .before .before .before .before .before .before .before .before .before .before .loop-test .taken) (has-challenge _ _ _ (p .2) (c .before .before .before .before .before .before .before .before .before .before .before .before .loop-test .taken)) (run .kept .1 .1 .1 .1 .1 .0) (run .kept .1 .1 .1 .1 .1 .1 .1 .0) (same-challenge (run .ensures) (c .before .before .before .before .before .before .before .before .before .before .before .get .ensures)))
+
+clear-requires : tie.Need-clear-requires Inv-loop μ-loop
+clear-requires c κs = search needs
 
 same-length : tie.Need-same-length Inv-loop μ-loop
-same-length c = let p = c .before .before .before .before .before .before .before .pre in let s = c .before .loop .inv in s .2 .levels-long ∙ sym (p .0 .levels-long)
+same-length c = let p = c .before .before .before .before .before .before .before .before .before .before .before .pre in let s = c .before .before .before .before .before .loop .inv in s .2 .levels-long ∙ sym (p .0 .levels-long)
 
 same-length-2 : tie.Need-same-length-2 Inv-loop μ-loop
-same-length-2 c = let s = c .before .loop .inv in s .1
+same-length-2 c = let s = c .before .before .before .before .before .loop .inv in c .before .before .clear .kept .0 ∙ s .1
 
 same-length-3 : tie.Need-same-length-3 Inv-loop μ-loop
-same-length-3 c = let p = c .before .before .before .before .before .before .before .pre in let s = c .before .loop .inv in s .2 .kept-long ∙ sym (p .1)
+same-length-3 c = let p = c .before .before .before .before .before .before .before .before .before .before .before .pre in let s = c .before .before .before .before .before .loop .inv in s .2 .kept-long ∙ sym (p .1)
 
 returns : tie.Need-returns Inv-loop μ-loop
-returns c = left-all _ _ _ _ _ _ _ _ _ _ (c .before .loop .inv .2) (c .loop-test .left)
+returns c =
+    let s = c .before .before .before .before .before .loop .inv in
+    (left-all _ _ _ _ _ _ _ _ _ _ _ _ (s .2) (c .before .before .before .before .loop-test .left), c .before .before .clear .ensures ∙ ap (λ (m : ℕ). tab m (λ v. 0)) (s .1))
 
 pub fold-calls-spec : {M : Type 1} → statement M
 fold-calls-spec =
@@ -81,6 +87,7 @@ fold-calls-spec =
     add-i
     loop-less
     loop-again
+    clear-requires
     same-length
     same-length-2
     same-length-3

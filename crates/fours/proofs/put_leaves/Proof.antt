@@ -1,7 +1,7 @@
 -- `fours::put_leaves` meets its contract. The loop's invariant: storing the leaves of the groups that are left gives the final buffer, and the messages' prefixes are kept.
 use denote.Ref.{now}
 use Prim.Native.Nat.{_≤_, _-_, _+_, _*_, _/_, _%_}
-use mathlib.Core.Path.{_≡_, refl, _∙_, ap}
+use mathlib.Core.Path.{_≡_, refl, sym, _∙_, ap}
 use native.Mathlib.Omega.{arith}
 use lib.ListN.{length, drop}
 use borrow.Author.Needs.{needs}
@@ -16,18 +16,36 @@ use Rattle.strides.proofs.Values.{group-length}
 use Rattle.strides.proofs.Whole.{prefixes-stand, kept-whole, common}
 use Rattle.fours.specs.Fours.{byFours}
 use Rattle.fours.proofs.Walk.{Begun, begun, front-sized}
-use Rattle.fours.proofs.Leaves.{four-room, leaves-begin, leaves-turn, leaves-end}
+use Rattle.fours.proofs.Leaves.{four-room, leaves-none, leaves-begin, leaves-turn, leaves-end}
 use Rattle.fours.proofs.put_leaves.Statement.{statement}
 use Rattle.fours.proofs.put_leaves.Tie as tie
 
 abbrev Inv-loop : tie.InvT-loop
-Inv-loop tree₀ messages₀ domain count width values prefix h blocks size all from₀ to₀ g₀ tree messages from to g =
+Inv-loop tree₀ messages₀ domain count width values all prefix h blocks size from₀ to₀ g₀ tree messages from to g =
     (g ≤ all) × (g % 4 ≡ 0) × (from ≡ 2 * (width * g)) × (to ≡ 32 * g) × (length tree ≡ length tree₀) × (length messages ≡ length messages₀)
     × Begun (leafPrefix domain count width) h prefix (24 + 16 * width) all (count / width) × Each prefix messages (λ k. leafPrefix domain count width)
     × (stored tree to (flat (leavesFrom hash domain count width g (runs width (all - g) (drop (width * g) (words values))))) ≡ stored tree₀ 0 (flat (leavesFrom hash domain count width 0 (runs width all (words values)))))
 
 abbrev μ-loop : tie.MeasureT-loop
-μ-loop tree₀ messages₀ domain count width values prefix h blocks size all from₀ to₀ g₀ tree messages from to g = all - g
+μ-loop tree₀ messages₀ domain count width values all prefix h blocks size from₀ to₀ g₀ tree messages from to g = all - g
+
+add-by-fours : tie.Need-add-by-fours Inv-loop μ-loop
+add-by-fours c = search needs
+
+mul-by-fours : tie.Need-mul-by-fours Inv-loop μ-loop
+mul-by-fours c = search needs
+
+add-by-fours-2 : tie.Need-add-by-fours-2 Inv-loop μ-loop
+add-by-fours-2 c = search needs
+
+div-by-fours : tie.Need-div-by-fours Inv-loop μ-loop
+div-by-fours c = search needs
+
+by-fours-requires : tie.Need-by-fours-requires Inv-loop μ-loop
+by-fours-requires c κs = search needs
+
+returns : tie.Need-returns Inv-loop μ-loop
+returns c = (sym (c .if1 .taken) ∙ c .before .by-fours .ensures, leaves-none _ _ _ _ _)
 
 slice-aggregate-leaf-prefix : tie.Need-slice-aggregate-leaf-prefix Inv-loop μ-loop
 slice-aggregate-leaf-prefix c = search needs
@@ -53,15 +71,10 @@ add-size c = search needs
 add-size-2 : tie.Need-add-size-2 Inv-loop μ-loop
 add-size-2 c = search needs
 
-div-by-fours : tie.Need-div-by-fours Inv-loop μ-loop
-div-by-fours c = search needs
-
-by-fours-requires : tie.Need-by-fours-requires Inv-loop μ-loop
-by-fours-requires c κs = search needs
-
 loop-holds : tie.Need-loop-holds Inv-loop μ-loop
 loop-holds c =
-    let p = c .before .before .before .before .before .before .before .leaf-prefix .ensures in
+    let p = c .before .before .before .before .before .before .leaf-prefix .ensures in
+    let a = c .before .before .before .before .before .before .before .before .before .before .before .before .before .before .args in
     let e = prefix-is _ _ _ _ _ p (omega arith) in
     let s = front-sized _ _ _ _ _ p in (
       search needs,
@@ -70,8 +83,8 @@ loop-holds c =
       search needs,
       refl,
       refl,
-      begun _ _ _ _ _ _ _ e s (c .before .before .before .begin .ensures .1) (c .by-fours .ensures),
-      prefixes-stand _ _ _ _ e s (c .before .before .before .begin .ensures .0),
+      begun _ _ _ _ _ _ _ e s (c .before .before .begin .ensures .1) (c .before .before .before .before .before .before .before .before .before .by-fours .ensures ∙ ap (λ i. byFours i (a .count / a .width)) (omega (arith, p .end))),
+      prefixes-stand _ _ _ _ e s (c .before .before .begin .ensures .0),
       leaves-begin _ _ _ _ _ _,
     )
 
@@ -79,10 +92,10 @@ mul-end : tie.Need-mul-end Inv-loop μ-loop
 mul-end c = search needs
 
 add-end : tie.Need-add-end Inv-loop μ-loop
-add-end c = omega (arith, four-room _ _ (c .before .loop .g) (c .before .before .before .before .before .before .before .before .before .before .before .before .before .before .before .pre .0 .shaped .shape) (omega (arith, c .before .loop .inv .6 .whole, c .before .loop .inv .6 .within)))
+add-end c = omega (arith, four-room _ _ (c .before .loop .g) (c .before .before .before .before .before .before .before .before .before .before .before .before .before .before .before .before .pre .0 .shaped .shape) (omega (arith, c .before .loop .inv .6 .whole, c .before .loop .inv .6 .within)))
 
 mul-put-leaf-rests : tie.Need-mul-put-leaf-rests Inv-loop μ-loop
-mul-put-leaf-rests c = omega (arith, four-room _ _ (c .before .before .loop .g) (c .before .before .before .before .before .before .before .before .before .before .before .before .before .before .before .before .pre .0 .shaped .shape) (omega (arith, c .before .before .loop .inv .6 .whole, c .before .before .loop .inv .6 .within)))
+mul-put-leaf-rests c = omega (arith, four-room _ _ (c .before .before .loop .g) (c .before .before .before .before .before .before .before .before .before .before .before .before .before .before .before .before .before .pre .0 .shaped .shape) (omega (arith, c .before .before .loop .inv .6 .whole, c .before .before .loop .inv .6 .within)))
 
 sub-put-leaf-rests : tie.Need-sub-put-leaf-rests Inv-loop μ-loop
 sub-put-leaf-rests c = search needs
@@ -91,24 +104,24 @@ part-put-leaf-rests-start : tie.Need-part-put-leaf-rests-start Inv-loop μ-loop
 part-put-leaf-rests-start c = search needs
 
 part-put-leaf-rests-end : tie.Need-part-put-leaf-rests-end Inv-loop μ-loop
-part-put-leaf-rests-end c = omega (arith, four-room _ _ (c .before .before .loop .g) (c .before .before .before .before .before .before .before .before .before .before .before .before .before .before .before .before .pre .0 .shaped .shape) (omega (arith, c .before .before .loop .inv .6 .whole, c .before .before .loop .inv .6 .within)))
+part-put-leaf-rests-end c = omega (arith, four-room _ _ (c .before .before .loop .g) (c .before .before .before .before .before .before .before .before .before .before .before .before .before .before .before .before .before .pre .0 .shaped .shape) (omega (arith, c .before .before .loop .inv .6 .whole, c .before .before .loop .inv .6 .within)))
 
 put-leaf-rests-requires : tie.Need-put-leaf-rests-requires Inv-loop μ-loop
 put-leaf-rests-requires c κs =
     let q = c .before .before .before .loop in
-    let a = c .before .before .before .before .before .before .before .before .before .before .before .before .before .before .before .before .before .args in
-    let y = c .before .before .before .before .before .before .before .before .before .before .before .before .before .before .before .before .before .pre .0 in
+    let a = c .before .before .before .before .before .before .before .before .before .before .before .before .before .before .before .before .before .before .args in
+    let y = c .before .before .before .before .before .before .before .before .before .before .before .before .before .before .before .before .before .before .pre .0 in
     let r = four-room _ _ (q .g) (y .shaped .shape) (omega (arith, q .inv .6 .whole, q .inv .6 .within)) in
     (group-length (now (a .values)) (q .from) (8 * a .width) (omega (arith, y .values-is)), q .inv .6 .fits (omega arith), omega arith, omega (arith, q .inv .6 .within, y .shaped .groups-le))
 
 put-digests-requires : tie.Need-put-digests-requires Inv-loop μ-loop
 put-digests-requires c κs =
     let q = c .before .before .before .before .before .before .before .before .loop in
-    let y = c .before .before .before .before .before .before .before .before .before .before .before .before .before .before .before .before .before .before .before .before .before .before .pre .0 in
+    let y = c .before .before .before .before .before .before .before .before .before .before .before .before .before .before .before .before .before .before .before .before .before .before .before .pre .0 in
     (common _ _ _ _ _ _ (q .inv .6 .sized) (q .inv .7) (c .before .before .before .before .put-leaf-rests .ensures) _ (q .inv .6 .value) (omega arith) (q .inv .6 .fits (omega arith)) (omega arith), omega (arith, q .inv .6 .whole, q .inv .6 .within, y .tree-is))
 
 add-g : tie.Need-add-g Inv-loop μ-loop
-add-g c = omega (arith, c .before .before .before .before .before .before .before .before .before .before .before .loop .inv .6 .within, c .before .before .before .before .before .before .before .before .before .before .before .before .before .before .before .before .before .before .before .before .before .before .before .before .before .pre .0 .shaped .groups-le)
+add-g c = omega (arith, c .before .before .before .before .before .before .before .before .before .before .before .loop .inv .6 .within, c .before .before .before .before .before .before .before .before .before .before .before .before .before .before .before .before .before .before .before .before .before .before .before .before .before .before .pre .0 .shaped .groups-le)
 
 loop-less : tie.Need-loop-less Inv-loop μ-loop
 loop-less c = search needs
@@ -116,11 +129,10 @@ loop-less c = search needs
 loop-again : tie.Need-loop-again Inv-loop μ-loop
 loop-again c =
     let q = c .before .before .before .before .before .before .before .before .before .before .before .loop in
-    let lt = c .before .before .before .before .before .before .before .before .before .before .loop-test .taken in
     let z = q .inv .6 .sized in
     let f = c .before .before .before .before .before .before .before .put-leaf-rests .ensures in
     let p = c .before .before .put-digests .ensures in
-    let in-all : q .g + 4 ≤ c .before .before .before .before .before .before .before .before .before .before .before .before .by-fours .result = omega (arith, q .inv .6 .whole) in (
+    let in-all : q .g + 4 ≤ c .before .before .before .before .before .before .before .before .before .before .before .before .before .before .before .before .before .before .before .before .before .by-fours .result = omega (arith, q .inv .6 .whole) in (
       in-all,
       omega arith,
       omega arith,
@@ -138,12 +150,8 @@ same-length c = search needs
 same-length-2 : tie.Need-same-length-2 Inv-loop μ-loop
 same-length-2 c = search needs
 
-returns : tie.Need-returns Inv-loop μ-loop
-returns c =
-    let q = c .before .loop in
-    let p = c .before .before .before .before .before .before .before .before .before .leaf-prefix .ensures in
-    let a = c .before .before .before .before .before .before .before .before .before .before .before .before .before .before .before .args in
-    (c .before .before .by-fours .ensures ∙ ap (λ s. byFours s (a .count / a .width)) (omega (arith, p .end)), leaves-end _ _ _ _ _ _ _ _ _ (c .loop-test .left) (q .inv .8))
+returns-2 : tie.Need-returns-2 Inv-loop μ-loop
+returns-2 c = (c .before .before .before .before .before .before .before .before .before .before .before .by-fours .ensures, leaves-end _ _ _ _ _ _ _ _ _ (c .loop-test .left) (c .before .loop .inv .8))
 
 pub put-leaves-spec : {M : Type 1} → statement M
 put-leaves-spec =
@@ -151,6 +159,12 @@ put-leaves-spec =
     (tie.spec
     Inv-loop
     μ-loop
+    add-by-fours
+    mul-by-fours
+    add-by-fours-2
+    div-by-fours
+    by-fours-requires
+    returns
     slice-aggregate-leaf-prefix
     leaf-prefix-requires
     array-share-prefix-front
@@ -159,8 +173,6 @@ put-leaves-spec =
     mul-size
     add-size
     add-size-2
-    div-by-fours
-    by-fours-requires
     loop-holds
     mul-end
     add-end
@@ -175,4 +187,4 @@ put-leaves-spec =
     loop-again
     same-length
     same-length-2
-    returns)
+    returns-2)

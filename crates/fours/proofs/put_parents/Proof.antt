@@ -1,6 +1,6 @@
 -- `fours::put_parents` meets its contract. The loop's invariant: storing the parents that are left gives the final buffer; the level below and the messages' prefixes are kept.
 use Prim.Native.Nat.{ℕ, _≤_, _-_, _+_, _*_, _%_}
-use mathlib.Core.Path.{_≡_, refl, _∙_, ap}
+use mathlib.Core.Path.{_≡_, refl, sym, _∙_, ap}
 use native.Mathlib.Omega.{arith}
 use lib.ListN.{length, take, drop}
 use borrow.Author.Needs.{needs}
@@ -13,18 +13,27 @@ use Rattle.strides.specs.Strides.{Each}
 use Rattle.strides.proofs.Whole.{prefixes-stand, kept-whole, common}
 use Rattle.fours.specs.Fours.{byFours}
 use Rattle.fours.proofs.Walk.{Begun, begun, front-sized}
-use Rattle.fours.proofs.Parents.{parents-begin, parents-turn, parents-end, below-kept}
+use Rattle.fours.proofs.Parents.{parents-none, parents-begin, parents-turn, parents-end, below-kept}
 use Rattle.fours.proofs.put_parents.Statement.{statement}
 use Rattle.fours.proofs.put_parents.Tie as tie
 
 abbrev Inv-loop : tie.InvT-loop
-Inv-loop tree₀ messages₀ domain level from half prefix h blocks size all src₀ dst₀ j₀ tree messages src dst j =
+Inv-loop tree₀ messages₀ domain level from half all prefix h blocks size src₀ dst₀ j₀ tree messages src dst j =
     (j ≤ all) × (j % 4 ≡ 0) × (src ≡ from + 64 * j) × (dst ≡ from + 64 * half + 32 * j) × (length tree ≡ length tree₀) × (length messages ≡ length messages₀)
     × Begun (nodePrefix domain level) h prefix 80 all half × Each prefix messages (λ k. nodePrefix domain level) × (take (from + 64 * half) tree ≡ take (from + 64 * half) tree₀)
     × (stored tree dst (flat (parents hash domain level (runs 32 (2 * (all - j)) (drop src tree₀)))) ≡ stored tree₀ (from + 64 * half) (flat (parents hash domain level (runs 32 (2 * all) (drop from tree₀)))))
 
 abbrev μ-loop : tie.MeasureT-loop
-μ-loop tree₀ messages₀ domain level from half prefix h blocks size all src₀ dst₀ j₀ tree messages src dst j = all - j
+μ-loop tree₀ messages₀ domain level from half all prefix h blocks size src₀ dst₀ j₀ tree messages src dst j = all - j
+
+add-by-fours : tie.Need-add-by-fours Inv-loop μ-loop
+add-by-fours c = search needs
+
+by-fours-requires : tie.Need-by-fours-requires Inv-loop μ-loop
+by-fours-requires c κs = search needs
+
+returns : tie.Need-returns Inv-loop μ-loop
+returns c = (sym (c .if1 .taken) ∙ c .before .by-fours .ensures, parents-none _ _ _ _ _)
 
 slice-aggregate-node-prefix : tie.Need-slice-aggregate-node-prefix Inv-loop μ-loop
 slice-aggregate-node-prefix c = search needs
@@ -44,9 +53,6 @@ begin-requires c κs = (omega (arith, message-length _ _ _ _ _ _ (c .before .bef
 add-size : tie.Need-add-size Inv-loop μ-loop
 add-size c = search needs
 
-by-fours-requires : tie.Need-by-fours-requires Inv-loop μ-loop
-by-fours-requires c κs = search needs
-
 mul-dst : tie.Need-mul-dst Inv-loop μ-loop
 mul-dst c = search needs
 
@@ -55,7 +61,8 @@ add-dst c = search needs
 
 loop-holds : tie.Need-loop-holds Inv-loop μ-loop
 loop-holds c =
-    let p = c .before .before .before .before .before .before .before .node-prefix .ensures in
+    let p = c .before .before .before .before .before .before .node-prefix .ensures in
+    let a = c .before .before .before .before .before .before .before .before .before .before .before .before .before .args in
     let e = prefix-is _ _ _ _ _ p (omega arith) in
     let s = front-sized _ _ _ _ _ p in (
       search needs,
@@ -64,8 +71,8 @@ loop-holds c =
       search needs,
       refl,
       refl,
-      begun _ _ _ _ _ _ _ e s (c .before .before .before .begin .ensures .1) (c .by-fours .ensures),
-      prefixes-stand _ _ _ _ e s (c .before .before .before .begin .ensures .0),
+      begun _ _ _ _ _ _ _ e s (c .before .before .begin .ensures .1) (c .before .before .before .before .before .before .before .before .before .by-fours .ensures ∙ ap (λ i. byFours i (a .half)) (omega (arith, p .end))),
+      prefixes-stand _ _ _ _ e s (c .before .before .begin .ensures .0),
       refl,
       parents-begin _ _ _ _ _ _,
     )
@@ -92,12 +99,12 @@ loop-less c = search needs
 loop-again : tie.Need-loop-again Inv-loop μ-loop
 loop-again c =
     let q = c .before .before .before .before .before .before .before .before .before .before .before .loop in
-    let a = c .before .before .before .before .before .before .before .before .before .before .before .before .before .before .before .before .before .before .before .before .before .before .before .before .args in
+    let a = c .before .before .before .before .before .before .before .before .before .before .before .before .before .before .before .before .before .before .before .before .before .before .before .before .before .args in
     let z = q .inv .6 .sized in
     let f = c .before .before .before .before .before .before .before .put-node-rests .ensures in
     let p = c .before .before .put-digests .ensures in
     let below : ℕ = a .from + 64 * a .half in
-    let in-all : q .j + 4 ≤ c .before .before .before .before .before .before .before .before .before .before .before .before .by-fours .result = omega (arith, q .inv .6 .whole) in (
+    let in-all : q .j + 4 ≤ c .before .before .before .before .before .before .before .before .before .before .before .before .before .before .before .before .before .before .before .before .before .by-fours .result = omega (arith, q .inv .6 .whole) in (
       in-all,
       omega arith,
       omega arith,
@@ -116,12 +123,8 @@ same-length c = search needs
 same-length-2 : tie.Need-same-length-2 Inv-loop μ-loop
 same-length-2 c = search needs
 
-returns : tie.Need-returns Inv-loop μ-loop
-returns c =
-    let q = c .before .loop in
-    let p = c .before .before .before .before .before .before .before .before .before .node-prefix .ensures in
-    let a = c .before .before .before .before .before .before .before .before .before .before .before .before .before .before .args in
-    (c .before .before .by-fours .ensures ∙ ap (λ s. byFours s (a .half)) (omega (arith, p .end)), parents-end _ _ _ _ _ _ _ _ (c .loop-test .left) (q .inv .9))
+returns-2 : tie.Need-returns-2 Inv-loop μ-loop
+returns-2 c = (c .before .before .before .before .before .before .before .before .before .before .before .by-fours .ensures, parents-end _ _ _ _ _ _ _ _ (c .loop-test .left) (c .before .loop .inv .9))
 
 pub put-parents-spec : {M : Type 1} → statement M
 put-parents-spec =
@@ -129,13 +132,15 @@ put-parents-spec =
     (tie.spec
     Inv-loop
     μ-loop
+    add-by-fours
+    by-fours-requires
+    returns
     slice-aggregate-node-prefix
     node-prefix-requires
     array-share-prefix-front
     slice-aggregate-begin
     begin-requires
     add-size
-    by-fours-requires
     mul-dst
     add-dst
     loop-holds
@@ -147,4 +152,4 @@ put-parents-spec =
     loop-again
     same-length
     same-length-2
-    returns)
+    returns-2)

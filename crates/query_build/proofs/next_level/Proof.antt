@@ -1,5 +1,4 @@
 use Rattle.query_build.proofs.Sizes.{next-fits, next-first, next-tree}
-use native.Mathlib.Omega.{arith}
 use borrow.Author.Needs.{needs}
 use Rattle.query_build.proofs.next_level.Statement.{statement}
 use Rattle.query_build.proofs.next_level.Tie as tie

@@ -3,7 +3,7 @@ use Rattle.query_build.proofs.Sizes.{no-levels}
 use Rattle.query_build.proofs.Puts.{levelsLeft, first-level, first-pair, next-pair, next-from, levels-end, levels-step, count-room, first-levels}
 use Rattle.query_build.proofs.Levels.{level-room}
 use Prim.Native.Nat.{_+_, _-_, _≤_}
-use mathlib.Core.Path.{_≡_, refl}
+use mathlib.Core.Path.{_≡_}
 use lib.ListN.{length}
 use Rattle.field.specs.Words.{words}
 use Rattle.record.specs.Widths.{present, total}

@@ -1,9 +1,10 @@
 -- `whole_run::deposit` meets its contract.
 use Prim.Native.Nat.{ℕ, _*_}
 use mathlib.Core.Path.{sym, _∙_, ap}
+use native.Mathlib.Omega.{arith}
 use lib.Seq.{length-take-le}
 use Rattle.seal.proofs.Sizes.{made}
-use Rattle.whole_run.proofs.Deposits.{front-fits, tree-fits, commit-allowed, first-level, calls-left, first-tree}
+use Rattle.whole_run.proofs.Deposits.{front-fits, tree-fits, commit-allowed, first-level, calls-left, after-none, first-tree}
 use borrow.Author.Needs.{needs}
 use Rattle.whole_run.proofs.deposit.Statement.{statement}
 use Rattle.whole_run.proofs.deposit.Tie as tie
@@ -54,8 +55,8 @@ level-trees-requires c κs =
     let word-list = made _ _ _ _ _ (e .0) z (e .1 .1 .0) in
     let tree = made _ _ _ _ _ (e .0) z (e .1 .1 .1) in
     let kept = c .before .before .before .before .before .before .before .before .before .before .before .before .before .before .before .before .before .before .before .commit .kept in
-    let left = calls-left _ _ _ _ _ _ _ _ (first-level _ _ _ _ (kept .1 .1 .1 .1 .1 .0 ∙ size) ∙ word-list) (c .before .before .before .before .before .before .before .before .before .fold-calls .ensures) in
-    (search needs, search needs, first-tree _ _ _ _ _ _ _ (kept .1 .1 .1 .1 .1 .1 .0 ∙ bytes) tree (left .first))
+    let left = calls-left _ _ _ _ (c .before .before .before .before .before .before .before .before .before .before .before .before .before .before .before .before .before .before .before .commit .last .1 .1 .1 .1 .1 .0) (c .before .before .before .before .before .before .before .before .before .before .before .before .before .before .before .before .before .before .before .before .before .before .before .before .before .before .before .before .before .before .before .before .before .before .before .args .levels .now) _ _ _ _ _ es (kept .1 .1 .1 .1 .1 .0 ∙ size) (first-level _ _ (c .before .before .before .before .before .before .before .before .before .before .before .before .before .before .before .before .before .before .before .commit .last .1 .1 .1 .1 .1 .0) _ (kept .1 .1 .1 .1 .1 .0 ∙ size) ∙ word-list) (c .before .before .before .before .before .before .before .before .before .fold-calls .ensures .0) in
+    (search needs, search needs, first-tree _ _ _ _ _ _ _ (kept .1 .1 .1 .1 .1 .1 .0 ∙ bytes) tree (left .each 0 (omega arith) ∙ after-none _ _))
 
 same-length : tie.Need-same-length
 same-length c = search needs
@@ -87,8 +88,8 @@ returns c =
     let word-list = made _ _ _ _ _ (e .0) z (e .1 .1 .0) in
     let tree = made _ _ _ _ _ (e .0) z (e .1 .1 .1) in
     let kept = c .before .before .before .before .before .before .before .before .before .before .before .before .before .before .before .before .before .before .before .before .before .before .before .before .commit .kept in
-    let left = calls-left _ _ _ _ _ _ _ _ (first-level _ _ _ _ (kept .1 .1 .1 .1 .1 .0 ∙ size) ∙ word-list) (c .before .before .before .before .before .before .before .before .before .before .before .before .before .before .fold-calls .ensures) in
-    record { gammas-are = made _ _ _ _ _ (e .0) z (e .1 .0); left = left; trees-are = c .before .before .before .before .level-trees .ensures .0; roots-are = c .before .before .before .before .level-trees .ensures .1 }
+    let left = calls-left _ _ _ _ (c .before .before .before .before .before .before .before .before .before .before .before .before .before .before .before .before .before .before .before .before .before .before .before .before .commit .last .1 .1 .1 .1 .1 .0) (c .before .before .before .before .before .before .before .before .before .before .before .before .before .before .before .before .before .before .before .before .before .before .before .before .before .before .before .before .before .before .before .before .before .before .before .before .before .before .before .before .args .levels .now) _ _ _ _ _ es (kept .1 .1 .1 .1 .1 .0 ∙ size) (first-level _ _ (c .before .before .before .before .before .before .before .before .before .before .before .before .before .before .before .before .before .before .before .before .before .before .before .before .commit .last .1 .1 .1 .1 .1 .0) _ (kept .1 .1 .1 .1 .1 .0 ∙ size) ∙ word-list) (c .before .before .before .before .before .before .before .before .before .before .before .before .before .before .fold-calls .ensures .0) in
+    (record { gammas-are = made _ _ _ _ _ (e .0) z (e .1 .0); left = left; trees-are = c .before .before .before .before .level-trees .ensures .0; roots-are = c .before .before .before .before .level-trees .ensures .1 }, c .before .before .before .before .before .before .before .before .before .before .before .before .before .before .fold-calls .ensures .1)
 
 pub deposit-spec : {M : Type 1} → statement M
 deposit-spec =

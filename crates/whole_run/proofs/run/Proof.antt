@@ -1,6 +1,6 @@
 -- `whole_run::run` meets its contract.
 use Rattle.whole_run.proofs.Deposits.{room-same}
-use Rattle.whole_run.proofs.Claims.{last-room, claim-holds}
+use Rattle.whole_run.proofs.Claims.{last-room, claimed-by}
 use borrow.Author.Needs.{needs}
 use Rattle.whole_run.proofs.run.Statement.{statement}
 use Rattle.whole_run.proofs.run.Tie as tie
@@ -45,17 +45,19 @@ same-length-8 c = search needs
 
 returns : tie.Need-returns
 returns c =
-    let d = c .before .before .before .before .before .before .before .before .before .before .before .before .before .before .before .before .before .before .before .before .before .before .before .before .before .before .before .deposit .ensures in
+    let d = c .before .before .before .before .before .before .before .before .before .before .before .before .before .before .before .before .before .before .before .before .before .before .before .before .before .before .before .deposit .ensures .0 in
     let q = c .before .before .before .before .before .before .before .before .before .query-record .ensures in
-    let t = c .before .before .tail-record .ensures in
-    record {
-      deposited = d;
-      query-is = q .0;
-      tail-is = t .0;
-      answer-is = q .1;
-      number-is = t .1;
-      claimed = λ e. claim-holds _ _ _ _ _ _ _ _ _ _ _ _ _ (room-same _ _ _ _ _ _ _ _ _ _ _ _ _ _ _ _ (c .before .before .before .before .before .before .before .before .before .before .before .before .before .before .before .before .before .before .before .before .before .before .before .before .before .before .before .before .before .before .before .before .before .before .before .before .before .before .before .before .before .before .before .before .before .before .pre .0) (c .before .before .before .before .before .before .before .before .before .before .before .before .before .before .before .before .before .before .before .before .before .before .before .before .before .before .before .deposit .kept .1 .1 .1 .1 .1 .1 .1 .0) (c .before .before .before .before .before .before .before .before .before .before .before .before .before .before .before .before .before .before .before .before .before .before .before .before .before .before .before .deposit .kept .1 .1 .1 .1 .1 .1 .1 .1 .1 .0) (c .before .before .before .before .before .before .before .before .before .before .before .before .before .before .before .before .before .before .before .before .before .before .before .before .before .before .before .deposit .kept .1 .1 .1 .1 .1 .1 .1 .1 .1 .1 .0) (c .before .before .before .before .before .before .before .before .before .before .before .before .before .before .before .before .before .before .before .before .before .before .before .before .before .before .before .deposit .kept .1 .1 .1 .1 .1 .1 .1 .1 .1 .1 .1 .0)) _ d e _ _ _ (c .before .before .before .before .before .before .before .before .before .before .before .before .before .before .before .before .before .before .before .before .before .before .before .before .before .before .before .before .before .before .before .before .before .before .before .before .before .before .before .before .before .before .before .before .before .before .pre .1) _ _ _ _ _ (q .0) (q .1) (t .0) (t .1);
-    }
+    let t = c .before .before .tail-record .ensures in (
+      record {
+        deposited = d;
+        query-is = q .0;
+        tail-is = t .0;
+        answer-is = q .1;
+        number-is = t .1;
+        claimed = λ r long e. claimed-by _ _ _ _ _ _ _ _ _ _ _ _ _ _ _ (room-same _ _ _ _ _ _ _ _ _ _ _ _ _ _ _ _ (c .before .before .before .before .before .before .before .before .before .before .before .before .before .before .before .before .before .before .before .before .before .before .before .before .before .before .before .before .before .before .before .before .before .before .before .before .before .before .before .before .before .before .before .before .before .before .pre .0) (c .before .before .before .before .before .before .before .before .before .before .before .before .before .before .before .before .before .before .before .before .before .before .before .before .before .before .before .deposit .kept .1 .1 .1 .1 .1 .1 .1 .0) (c .before .before .before .before .before .before .before .before .before .before .before .before .before .before .before .before .before .before .before .before .before .before .before .before .before .before .before .deposit .kept .1 .1 .1 .1 .1 .1 .1 .1 .1 .0) (c .before .before .before .before .before .before .before .before .before .before .before .before .before .before .before .before .before .before .before .before .before .before .before .before .before .before .before .deposit .kept .1 .1 .1 .1 .1 .1 .1 .1 .1 .1 .0) (c .before .before .before .before .before .before .before .before .before .before .before .before .before .before .before .before .before .before .before .before .before .before .before .before .before .before .before .deposit .kept .1 .1 .1 .1 .1 .1 .1 .1 .1 .1 .1 .0)) _ d r long e _ _ _ (c .before .before .before .before .before .before .before .before .before .before .before .before .before .before .before .before .before .before .before .before .before .before .before .before .before .before .before .before .before .before .before .before .before .before .before .before .before .before .before .before .before .before .before .before .before .before .pre .1) _ _ _ _ _ (q .0) (q .1) (t .0) (t .1);
+      },
+      c .before .before .before .before .before .before .before .before .before .before .before .before .before .before .before .before .before .before .before .before .before .before .before .before .before .before .before .deposit .ensures .1,
+    )
 
 pub run-spec : {M : Type 1} → statement M
 run-spec =
