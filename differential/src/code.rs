@@ -1,6 +1,6 @@
 //! The code layer: code.rs. Gammas travel as one list, j outer, n words a row.
 
-use crate::harness::{done, hex, hexes, same_words, Comparison, Difference, Verdict};
+use crate::harness::{done, hex, hexes, same, same_words, Comparison, Verdict, LARGE};
 use crate::random::Random;
 use oracle::{code as rust, Word};
 
@@ -18,26 +18,10 @@ pub struct Code {
 }
 
 pub const COMPARISONS: &[Comparison<Code>] = &[
-    Comparison {
-        function: "derive",
-        fixed: 21 * 5 + 200,
-        compare: derive,
-    },
-    Comparison {
-        function: "l_of",
-        fixed: 21 * 5 + 200,
-        compare: l_of,
-    },
-    Comparison {
-        function: "encode",
-        fixed: SIZES + 200,
-        compare: encode,
-    },
-    Comparison {
-        function: "fold",
-        fixed: SIZES + 300,
-        compare: fold,
-    },
+    Comparison::of("derive", 21 * 5 + 200, derive),
+    Comparison::of("l_of", 21 * 5 + 200, l_of),
+    Comparison::of("encode", SIZES + 200, encode).and_large(LARGE_SIZES),
+    Comparison::of("fold", SIZES + 300, fold).and_large(LARGE_SIZES),
 ];
 
 /// Every n up to 20 and k up to 4, each in turn.
@@ -46,10 +30,19 @@ fn any_size(case: u64) -> (usize, usize) {
 }
 
 /// The sizes whose codewords are small: every n up to 9 and k up to 4, each in turn.
-const SIZES: u64 = 10 * 5;
+pub const SIZES: u64 = 10 * 5;
 
-fn small_size(case: u64) -> (usize, usize) {
-    ((case / 5 % 10) as usize, (case % 5) as usize)
+/// Those past them: n from 10 to 12 with every k, and five with codewords of 2^20 words.
+pub const LARGE_SIZES: u64 = 3 * 5 + 5;
+
+/// The n and k of a case.
+pub fn size(case: u64) -> (usize, usize) {
+    let (n, k) = match case.checked_sub(LARGE) {
+        None => (case / 5 % 10, case % 5),
+        Some(large @ 0..15) => (10 + large / 5, large % 5),
+        Some(large) => (20 - large % 5, large % 5),
+    };
+    (n as usize, k as usize)
 }
 
 /// A base domain of up to 200 bytes.
@@ -78,7 +71,7 @@ fn l_of(ours: &Code, case: u64, random: &mut Random) -> Verdict {
 }
 
 fn encode(ours: &Code, case: u64, random: &mut Random) -> Verdict {
-    let (n, k) = small_size(case);
+    let (n, k) = size(case);
     let (gammas, table) = (random.words(n * k), random.words(1 << n));
     let input = || format!("encode n {n} k {k} {} {}", hexes(&gammas), hexes(&table));
     let (number, codeword) = (ours.encode)(n, k, &gammas, &table);
@@ -86,23 +79,19 @@ fn encode(ours: &Code, case: u64, random: &mut Random) -> Verdict {
     same_words(&rust::encode(n, k, &gammas, &table), &codeword, input)
 }
 
-/// At every variable in turn; n = 0 has none.
+/// At every variable in turn, of a large codeword at any; n = 0 has none.
 fn fold(ours: &Code, case: u64, random: &mut Random) -> Verdict {
-    let (n, k) = small_size(case);
+    let (n, k) = size(case);
     let n = n.max(1);
-    let var = (case / SIZES) as usize % n;
+    let var = match case.checked_sub(LARGE) {
+        None => (case / SIZES) as usize % n,
+        Some(_) => random.below(n as u64) as usize,
+    };
     let (r, values) = (random.word(), random.words(1 << (n + k)));
     let input = || format!("fold n {n} k {k} var {var} r {} {}", hex(r), hexes(&values));
     let (number, folded, left) = (ours.fold)(n, k, var, r, &values);
     done(number, input)?;
     let (rust, rust_left) = rust::fold(n, k, var, r, &values);
     same_words(&rust, &folded, input)?;
-    if left == rust_left {
-        return Ok(());
-    }
-    Err(Difference {
-        input: input(),
-        rust: format!("n {rust_left}"),
-        ours: format!("n {left}"),
-    })
+    same(&rust_left, &left, input)
 }

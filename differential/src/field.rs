@@ -24,56 +24,16 @@ pub struct Field {
 }
 
 pub const COMPARISONS: &[Comparison<Field>] = &[
-    Comparison {
-        function: "mul",
-        fixed: 128 * 128 + 20_000,
-        compare: mul,
-    },
-    Comparison {
-        function: "square",
-        fixed: 128 * 128 + 10_000,
-        compare: square,
-    },
-    Comparison {
-        function: "inv",
-        fixed: 128 + 4_000,
-        compare: inv,
-    },
-    Comparison {
-        function: "pack_table",
-        fixed: 128 + 1_000,
-        compare: pack_table,
-    },
-    Comparison {
-        function: "phi_c",
-        fixed: 128 + 5_000,
-        compare: phi_c,
-    },
-    Comparison {
-        function: "phi_tab",
-        fixed: 128 + 5_000,
-        compare: phi_tab,
-    },
-    Comparison {
-        function: "eq_coefficients",
-        fixed: 2_000,
-        compare: eq_coefficients,
-    },
-    Comparison {
-        function: "eq_table",
-        fixed: 13 * 20 + 2,
-        compare: eq_table,
-    },
-    Comparison {
-        function: "mul_run",
-        fixed: 1_000,
-        compare: mul_run,
-    },
-    Comparison {
-        function: "axpy_run",
-        fixed: 1_000,
-        compare: axpy_run,
-    },
+    Comparison::of("mul", 128 * 128 + 20_000, mul),
+    Comparison::of("square", 128 * 128 + 10_000, square),
+    Comparison::of("inv", 128 + 4_000, inv),
+    Comparison::of("pack_table", 128 + 1_000, pack_table),
+    Comparison::of("phi_c", 128 + 5_000, phi_c),
+    Comparison::of("phi_tab", 128 + 5_000, phi_tab),
+    Comparison::of("eq_coefficients", 2_000, eq_coefficients),
+    Comparison::of("eq_table", 13 * 20 + 2, eq_table),
+    Comparison::of("mul_run", 1_000, mul_run),
+    Comparison::of("axpy_run", 1_000, axpy_run),
 ];
 
 /// x^i.

@@ -3,16 +3,42 @@
 
 use crate::random::Random;
 use oracle::Word;
+use std::fmt::Debug;
+use std::sync::atomic::{AtomicU64, Ordering};
 use std::time::Instant;
 
-/// One function compared: `fixed` cases always, more while there is time.
+/// One function compared: `fixed` cases always, then the large ones, more of the
+/// first kind while there is time.
 /// A case's number may choose its input (so that the fixed cases can be a full
 /// list); what it does not fix comes from the case's random stream.
 /// F is a layer's set of functions, as one implementation has them.
 pub struct Comparison<F> {
     pub function: &'static str,
-    pub fixed: u64,
-    pub compare: fn(&F, u64, &mut Random) -> Verdict,
+    fixed: u64,
+    large: u64,
+    compare: Compared<F>,
+}
+
+/// Compares one case, on one implementation's functions.
+pub type Compared<F> = fn(&F, u64, &mut Random) -> Verdict;
+
+/// The number of the first large case: inputs that are slow to make, and that a
+/// plan may leave out.
+pub const LARGE: u64 = 1 << 32;
+
+impl<F> Comparison<F> {
+    pub const fn of(function: &'static str, fixed: u64, compare: Compared<F>) -> Self {
+        Comparison {
+            function,
+            fixed,
+            large: 0,
+            compare,
+        }
+    }
+
+    pub const fn and_large(self, large: u64) -> Self {
+        Comparison { large, ..self }
+    }
 }
 
 /// Runs the case with this number, on this stream.
@@ -22,6 +48,7 @@ type Compare = dyn Fn(u64, &mut Random) -> Verdict;
 pub struct Bound {
     function: &'static str,
     fixed: u64,
+    large: u64,
     compare: Box<Compare>,
 }
 
@@ -32,6 +59,7 @@ pub fn bind<F: Copy + 'static>(functions: F, comparisons: &[Comparison<F>]) -> V
         Bound {
             function: comparison.function,
             fixed: comparison.fixed,
+            large: comparison.large,
             compare: Box::new(move |case, random| compare(&functions, case, random)),
         }
     };
@@ -55,6 +83,8 @@ pub struct Plan {
     pub until: Instant,
     pub only: Option<String>,
     pub case: Option<u64>,
+    /// Whether the large cases are run.
+    pub large: bool,
     /// How many differences of one function are printed.
     pub shown: u64,
 }
@@ -78,18 +108,31 @@ pub fn run(comparisons: &[Bound], plan: &Plan) -> Vec<Row> {
         .map(|comparison| Row::of(comparison))
         .collect();
     for (comparison, row) in chosen.iter().zip(&mut rows) {
+        let large = if plan.large { comparison.large } else { 0 };
         match plan.case {
             Some(case) => row.run(comparison, case, plan),
-            None => (0..comparison.fixed).for_each(|case| row.run(comparison, case, plan)),
+            None => (0..comparison.fixed)
+                .chain(LARGE..LARGE + large)
+                .for_each(|case| row.run(comparison, case, plan)),
         }
     }
-    while plan.case.is_none() && !chosen.is_empty() && Instant::now() < plan.until {
-        for (comparison, row) in chosen.iter().zip(&mut rows) {
-            let next = row.compared;
+    if plan.case.is_none() && !chosen.is_empty() {
+        go_on(&chosen, &mut rows, plan);
+    }
+    rows
+}
+
+/// Further cases, a turn of each function after the other, until the time is over.
+fn go_on(chosen: &[&Bound], rows: &mut [Row], plan: &Plan) {
+    for turn in 0.. {
+        for (comparison, row) in chosen.iter().zip(&mut *rows) {
+            if Instant::now() >= plan.until {
+                return;
+            }
+            let next = comparison.fixed + turn * TURN;
             (next..next + TURN).for_each(|case| row.run(comparison, case, plan));
         }
     }
-    rows
 }
 
 impl Row {
@@ -133,6 +176,28 @@ fn cut(text: &str) -> String {
     }
 }
 
+/// How often the Rust's answer was each of document 01's numbers.
+static ANSWERED: [AtomicU64; 34] = [const { AtomicU64::new(0) }; 34];
+
+/// One answer more that is this number.
+pub fn answered(number: u32) {
+    ANSWERED[number as usize].fetch_add(1, Ordering::Relaxed);
+}
+
+/// Prints how often each number was the Rust's answer, in lines of four.
+pub fn report_numbers() {
+    let counts = ANSWERED.iter().map(|count| count.load(Ordering::Relaxed));
+    let seen: Vec<String> = (0..)
+        .zip(counts)
+        .filter(|(_, count)| *count > 0)
+        .map(|(number, count): (u32, u64)| format!("{number:2}: {count:>8}"))
+        .collect();
+    println!("checks by the number that both answered:");
+    for line in seen.chunks(6) {
+        println!("    {}", line.join("   "));
+    }
+}
+
 /// Prints a table of the counts; the differences in all.
 pub fn report(rows: &[Row]) -> u64 {
     for row in rows {
@@ -145,6 +210,18 @@ pub fn report(rows: &[Row]) -> u64 {
     let different: u64 = rows.iter().map(|row| row.different).sum();
     println!("{compared} comparisons, {different} differences");
     different
+}
+
+/// Compares two answers of any kind.
+pub fn same<T: PartialEq + Debug>(rust: &T, ours: &T, input: impl FnOnce() -> String) -> Verdict {
+    if rust == ours {
+        return Ok(());
+    }
+    Err(Difference {
+        input: input(),
+        rust: format!("{rust:?}"),
+        ours: format!("{ours:?}"),
+    })
 }
 
 /// Compares two words.

@@ -6,6 +6,7 @@
 //! and one in `self_test`.
 
 mod code;
+mod eval;
 mod field;
 mod harness;
 #[cfg(archive)]
@@ -61,6 +62,7 @@ fn comparisons() -> Vec<Bound> {
     all.extend(harness::bind(ours::tree::TREE, tree::COMPARISONS));
     all.extend(harness::bind(ours::code::CODE, code::COMPARISONS));
     all.extend(harness::bind(ours::ring::RING, ring::COMPARISONS));
+    all.extend(harness::bind(ours::eval::EVAL, eval::COMPARISONS));
     all.extend(harness::bind(ours::record::RECORD, record::COMPARISONS));
     all
 }
@@ -80,6 +82,7 @@ fn compare_all(plan: &Plan) -> ExitCode {
     }
     let rows = harness::run(&comparisons, plan);
     let different = harness::report(&rows);
+    harness::report_numbers();
     // A run that compared nothing has shown nothing.
     let passed = different == 0 && rows.iter().any(|row| row.compared > 0);
     ExitCode::from(u8::from(!passed))
@@ -88,36 +91,22 @@ fn compare_all(plan: &Plan) -> ExitCode {
 /// Tests the harness on every layer: a layer joins by a line here.
 fn self_test(seed: u64) -> ExitCode {
     let mut faults = 0;
-    faults += self_test_layer(
-        seed,
-        stand_in::field::RIGHT,
-        stand_in::field::WRONG,
-        field::COMPARISONS,
-    );
-    faults += self_test_layer(
-        seed,
-        stand_in::tree::RIGHT,
-        stand_in::tree::WRONG,
-        tree::COMPARISONS,
-    );
-    faults += self_test_layer(
-        seed,
-        stand_in::code::RIGHT,
-        stand_in::code::WRONG,
-        code::COMPARISONS,
-    );
-    faults += self_test_layer(
-        seed,
-        stand_in::ring::RIGHT,
-        stand_in::ring::WRONG,
-        ring::COMPARISONS,
-    );
-    faults += self_test_layer(
-        seed,
-        stand_in::record::RIGHT,
-        stand_in::record::WRONG,
-        record::COMPARISONS,
-    );
+    macro_rules! layer {
+        ($layer:ident) => {
+            faults += self_test_layer(
+                seed,
+                stand_in::$layer::RIGHT,
+                stand_in::$layer::WRONG,
+                $layer::COMPARISONS,
+            );
+        };
+    }
+    layer!(field);
+    layer!(tree);
+    layer!(code);
+    layer!(ring);
+    layer!(eval);
+    layer!(record);
     println!("{faults} faults of the harness");
     ExitCode::from(u8::from(faults > 0))
 }
@@ -135,6 +124,7 @@ fn self_test_layer<F: Copy + 'static>(
         until: Instant::now(),
         only: None,
         case: None,
+        large: false,
         shown: 0,
     };
     println!("the right stand-in");
@@ -211,6 +201,7 @@ impl Options {
             until: Instant::now() + Duration::from_secs(self.seconds),
             only: self.only.clone(),
             case: self.case,
+            large: true,
             shown: 3,
         }
     }

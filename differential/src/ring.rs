@@ -1,6 +1,6 @@
 //! The ring layer: partial evaluations and the indicator of ring.rs.
 
-use crate::harness::{done, hexes, same_word, same_words, Comparison, Verdict};
+use crate::harness::{done, hexes, same_word, same_words, Comparison, Verdict, LARGE};
 use crate::random::Random;
 use oracle::{ring as rust, Word};
 
@@ -18,31 +18,18 @@ pub struct Ring {
 }
 
 pub const COMPARISONS: &[Comparison<Ring>] = &[
-    Comparison {
-        function: "partial_evals",
-        fixed: 11 * 20,
-        compare: partial_evals,
-    },
-    Comparison {
-        function: "fold_partials",
-        fixed: 500,
-        compare: fold_partials,
-    },
-    Comparison {
-        function: "materialize",
-        fixed: 11 * 10,
-        compare: materialize,
-    },
-    Comparison {
-        function: "eval_at",
-        fixed: 21 * 10,
-        compare: eval_at,
-    },
+    Comparison::of("partial_evals", 11 * 20, partial_evals).and_large(4),
+    Comparison::of("fold_partials", 500, fold_partials),
+    Comparison::of("materialize", 11 * 10, materialize).and_large(4),
+    Comparison::of("eval_at", 21 * 10, eval_at),
 ];
 
-/// Every n up to 10 in turn, for what has 2^n entries.
+/// Every n up to 10 in turn, for what has 2^n entries; large cases have 11, 12, 16 and 20.
 fn small_n(case: u64) -> usize {
-    (case % 11) as usize
+    match case.checked_sub(LARGE) {
+        None => (case % 11) as usize,
+        Some(large) => [11, 12, 16, 20][large as usize % 4],
+    }
 }
 
 fn partial_evals(ours: &Ring, case: u64, random: &mut Random) -> Verdict {

@@ -1,12 +1,14 @@
-//! The oracle's program: answers requests line by line, prints the Rust's
-//! times, or shows its findings.
+//! The oracle's program: answers requests line by line, writes the fixed list
+//! of answers, prints the Rust's times, or shows its findings.
 
+mod answers;
 mod bench;
 mod findings;
 mod protocol;
 mod requests;
 
 use std::io::{self, BufRead, Write};
+use std::path::Path;
 use std::process::ExitCode;
 
 const USAGE: &str = "\
@@ -14,6 +16,7 @@ oracle              answer requests, one a line on standard input, one answer li
 oracle help         list the requests
 oracle kind         print the vector kind that the Rust runs by
 oracle findings     show, by running it, where the Rust differs from document 01
+oracle answers DIR  write the fixed list of answers for the replay programs in DIR (crates)
 oracle bench [--large]
                     print the Rust's times on one thread, `name<TAB>ns`;
                     --large adds n = 20, k = 4";
@@ -45,6 +48,7 @@ fn main() -> ExitCode {
         [] => answer_all(),
         ["kind"] => println!("{kind}"),
         ["findings"] => return findings::show(kind),
+        ["answers", folder] => return write_answers(folder),
         ["bench"] => bench::run(kind, false),
         ["bench", "--large"] => bench::run(kind, true),
         _ => {
@@ -67,4 +71,16 @@ fn answer_all() {
         writeln!(out, "{}", requests::answer(line)).expect("standard output is open");
         out.flush().expect("standard output is open");
     }
+}
+
+/// Writes the fixed list, and says how long it is.
+fn write_answers(folder: &str) -> ExitCode {
+    match answers::write(Path::new(folder)) {
+        Ok(count) => println!("oracle: {count} answers written under {folder}"),
+        Err(reason) => {
+            eprintln!("oracle: {folder}: {reason}");
+            return ExitCode::FAILURE;
+        }
+    }
+    ExitCode::SUCCESS
 }

@@ -6,12 +6,13 @@
 //! is a refusal.
 
 pub mod code;
+pub mod eval;
 pub mod field;
 pub mod record;
 pub mod ring;
 pub mod tree;
 
-use oracle::Word;
+use oracle::{Digest, Word};
 
 /// A word as the archive has it.
 #[repr(C)]
@@ -67,4 +68,10 @@ fn raised(halves: &[u64]) -> Vec<Word> {
         })
     };
     halves.chunks_exact(2).map(joined).collect()
+}
+
+/// Bytes, 32 to a digest.
+fn cut(bytes: &[u8]) -> Vec<Digest> {
+    let digest = |run: &[u8]| run.try_into().expect("32 bytes");
+    bytes.chunks_exact(32).map(digest).collect()
 }

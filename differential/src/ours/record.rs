@@ -1,8 +1,8 @@
-//! The record checks and the tail builder of the archive.
+//! Records of the archive, built and checked.
 
 use super::{lowered, pair, Pair};
 use crate::record::Record;
-use oracle::query::Claim;
+use oracle::query::{fold_tree_width, Claim};
 use oracle::{Digest, Word};
 
 /// A number, and the level for 16 to 26.
@@ -37,6 +37,17 @@ extern "C" {
         s: *const u8,
         s_length: usize,
     ) -> u32;
+    fn dequmlo_test_build_query(
+        out: *mut u8,
+        out_length: usize,
+        levels: *const u64,
+        levels_length: usize,
+        trees: *const u8,
+        trees_length: usize,
+        n: usize,
+        k: usize,
+        position: usize,
+    ) -> u32;
     fn dequmlo_test_build_tail(
         out: *mut u8,
         out_length: usize,
@@ -52,6 +63,7 @@ extern "C" {
 pub const RECORD: Record = Record {
     check_query,
     check_tail,
+    build_query,
     build_tail,
 };
 
@@ -113,4 +125,42 @@ fn build_tail(n: usize, k: usize, level: &[Word], tree: &[Digest]) -> (u64, Vec<
         )
     };
     (u64::from(number), out)
+}
+
+fn build_query(
+    n: usize,
+    k: usize,
+    words: &[Word],
+    trees: &[Digest],
+    position: usize,
+) -> (u64, Vec<u8>) {
+    let (levels, trees) = (lowered(words), trees.concat());
+    let mut out = vec![0; query_size(n, k)];
+    // SAFETY: the three slices are whole, and live through the call.
+    let number = unsafe {
+        dequmlo_test_build_query(
+            out.as_mut_ptr(),
+            out.len(),
+            levels.as_ptr(),
+            levels.len(),
+            trees.as_ptr(),
+            trees.len(),
+            n,
+            k,
+            position,
+        )
+    };
+    (u64::from(number), out)
+}
+
+/// The bytes of a query record: a count; per level three words, four counts, and
+/// the group and path of its own level and of the next.
+fn query_size(n: usize, k: usize) -> usize {
+    let opening = |level: usize| {
+        let count = 1 << (n + k - level);
+        let width = fold_tree_width(count);
+        16 * width + 32 * (count / width).ilog2() as usize
+    };
+    let level = |level: usize| 48 + 16 + opening(level) + opening(level + 1);
+    4 + (0..n).map(level).sum::<usize>()
 }

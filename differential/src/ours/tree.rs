@@ -1,6 +1,6 @@
 //! The hash and the trees of the archive.
 
-use super::lowered;
+use super::{cut, lowered};
 use crate::tree::Tree;
 use oracle::{Digest, Word};
 
@@ -13,6 +13,14 @@ struct Digested {
 
 extern "C" {
     fn dequmlo_test_digest(input: *const u8, input_length: usize) -> Digested;
+    fn dequmlo_test_serialize_parts(
+        bytes: *const u8,
+        bytes_length: usize,
+        lengths: *const u64,
+        lengths_length: usize,
+        out: *mut u8,
+        out_length: usize,
+    ) -> u32;
     fn dequmlo_test_leaf_digest(
         domain: *const u8,
         domain_length: usize,
@@ -65,6 +73,7 @@ extern "C" {
 
 pub const TREE: Tree = Tree {
     blake3,
+    serialize_parts,
     leaf_digest,
     node_digest,
     build,
@@ -76,15 +85,27 @@ fn answered(answer: Digested) -> (u64, Digest) {
     (u64::from(answer.number), answer.bytes)
 }
 
-/// Bytes, 32 to a digest.
-fn cut(bytes: &[u8]) -> Vec<Digest> {
-    let digest = |run: &[u8]| run.try_into().expect("32 bytes");
-    bytes.chunks_exact(32).map(digest).collect()
-}
-
 fn blake3(bytes: &[u8]) -> (u64, Digest) {
     // SAFETY: the slice is whole, and lives through the call.
     answered(unsafe { dequmlo_test_digest(bytes.as_ptr(), bytes.len()) })
+}
+
+fn serialize_parts(parts: &[&[u8]]) -> (u64, Vec<u8>) {
+    let lengths: Vec<u64> = parts.iter().map(|part| part.len() as u64).collect();
+    let bytes = parts.concat();
+    let mut out = vec![0; 8 + 8 * parts.len() + bytes.len()];
+    // SAFETY: the three slices are whole, and live through the call.
+    let number = unsafe {
+        dequmlo_test_serialize_parts(
+            bytes.as_ptr(),
+            bytes.len(),
+            lengths.as_ptr(),
+            lengths.len(),
+            out.as_mut_ptr(),
+            out.len(),
+        )
+    };
+    (u64::from(number), out)
 }
 
 fn leaf_digest(

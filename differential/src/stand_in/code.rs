@@ -70,7 +70,7 @@ fn gammas(n: usize, k: usize, at: impl Fn(usize, usize) -> Word) -> Vec<Word> {
     pairs.map(|(j, i)| at(j, i)).collect()
 }
 
-fn derive(n: usize, k: usize, domain: &str) -> Vec<Word> {
+pub fn derive(n: usize, k: usize, domain: &str) -> Vec<Word> {
     gammas(n, k, |j, i| gamma(n, k, domain, j, i))
 }
 
@@ -97,7 +97,7 @@ fn l_of(n: usize, k: usize, gammas: &[Word], eps: usize) -> Vec<Word> {
 }
 
 /// Entry eps × 2^n + v: P(v + L(eps)), coordinate i of v being its bit i.
-fn encode(n: usize, k: usize, gammas: &[Word], table: &[Word]) -> Vec<Word> {
+pub fn encode(n: usize, k: usize, gammas: &[Word], table: &[Word]) -> Vec<Word> {
     let entry = |eps: usize, v: usize| {
         let shift = l_of(n, k, gammas, eps);
         let point: Vec<Word> = shift

@@ -3,6 +3,7 @@
 //! function and as little as a likely slip would be.
 
 pub mod code;
+pub mod eval;
 pub mod field;
 pub mod record;
 pub mod ring;

@@ -9,6 +9,7 @@ use oracle::{Digest, Word};
 /// Written from document 01's messages.
 pub const RIGHT: Tree = Tree {
     blake3: |bytes| (0, blake3(bytes)),
+    serialize_parts: |parts| (0, serialized(parts.len(), parts)),
     leaf_digest: |domain, count, width, place, values| {
         (0, leaf(domain, count, width, place / width, values))
     },
@@ -27,6 +28,17 @@ pub const WRONG: &[Wrong<Tree>] = &[
                 let mut digest = blake3(bytes);
                 digest[31] ^= u8::from(bytes.len() == 1025);
                 (0, digest)
+            },
+            ..RIGHT
+        },
+    ),
+    (
+        "serialize_parts",
+        "the count left out where there is one part",
+        Tree {
+            serialize_parts: |parts| {
+                let skipped = if parts.len() == 1 { 8 } else { 0 };
+                (0, serialized(parts.len(), parts)[skipped..].to_vec())
             },
             ..RIGHT
         },
@@ -97,6 +109,12 @@ fn part(bytes: &[u8]) -> Vec<u8> {
     [&number(bytes.len()), bytes].concat()
 }
 
+/// A count, then the parts.
+fn serialized(count: usize, parts: &[&[u8]]) -> Vec<u8> {
+    let parts = parts.iter().flat_map(|bytes| part(bytes));
+    number(count).into_iter().chain(parts).collect()
+}
+
 fn leaf(domain: &str, count: usize, width: usize, group: usize, values: &[Word]) -> Digest {
     leaf_with(width, domain, count, width, group, values)
 }
@@ -140,7 +158,7 @@ fn node(domain: &str, level: usize, left: &Digest, right: &Digest) -> Digest {
     )
 }
 
-fn build(domain: &str, width: usize, values: &[Word]) -> Vec<Digest> {
+pub fn build(domain: &str, width: usize, values: &[Word]) -> Vec<Digest> {
     build_with(domain, width, values, |level| level)
 }
 
