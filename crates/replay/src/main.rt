@@ -42,6 +42,7 @@ fn answer(
         Layer::Field => replay_field::answer(f, x, a, b, s),
         Layer::Trees => replay_trees::answer(f, x, a, s, t),
         Layer::Code => replay_code::answer(f, x, a, b, c, s, t),
+        Layer::Seal => replay_seal::answer(f, x, a, b, c, s, t),
     }
 }
 
