@@ -1,5 +1,5 @@
 // The code, after code.rs: the shifts L(eps), the codeword of a table, and folds. A table of words is lent as u64 halves, two to a word,
-// the low half first. A refused call changes no lent byte.
+// the low half first. A refused call changes no lent byte. `copy` is a helper for the crates above, and requires.
 ghost use mathlib.Core.Path.{_≡_};
 ghost use Prim.Native.Nat.{ℕ, _+_, _*_, _^_, _<_, _≤_};
 ghost use lib.ListN.{length};
