@@ -1,4 +1,5 @@
-// Lines of a list: numbers of five decimal digits, bytes of two hexadecimal digits, and words of 32, the highest first.
+// Lines of a list: numbers of five decimal digits, bytes of two hexadecimal digits, and words of 32, the highest first. `word` and `case_at` are
+// helpers for the replays, and require.
 ghost use Prim.Native.Nat.{_+_, _<_, _≤_};
 use gf128::Word;
 use text::Line;
