@@ -1,17 +1,13 @@
 // The messages nearest the root in which two accepted query records differ, at the lowest level that differs, path a before path c. These
 // are helpers for the crate above: each requires.
 use compare_opening::pick_opening;
-use query::pair_of;
-use reader::Level;
-use reader::level_at;
-ghost use mathlib.Core.Path.{_≡_};
-ghost use Prim.Native.Nat.{_<_};
-ghost use lib.ListN.{length};
-ghost use Rattle.blake3.specs.Digest.{hash};
-ghost use Rattle.record.specs.Widths.{present};
-ghost use Rattle.comparing.specs.Compare.{recordsFound};
-ghost use Rattle.differing.specs.Chains.{Picked};
-ghost use Rattle.compare_levels.specs.Levels.{pathFound, placesFound, LevelSized, Comparable};
+use record_query_check::pair_of;
+use record_reader::Level;
+use record_reader::level_at;
+ghost use Rattle.theory_compare.specs.Compare.{recordsFound};
+ghost use Rattle.compare_pick.specs.helpers.Chains.{PickedIn};
+ghost use Rattle.compare_levels.specs.helpers.Levels.{pathFound, placesFound, LevelsSized, Comparable};
+ghost use Rattle.theory_record.specs.Scheme.{scheme};
 
 // Of the levels at these places of two records: path c, which is of the next level, or else path a.
 fn pick_path(
@@ -28,8 +24,8 @@ fn pick_path(
     first: &mut [u8],
     second: &mut [u8],
 ) -> usize
-    requires { ⌜ (q < 16777216) × (LevelSized (now base) n k l (now s) x) × (LevelSized (now base) n k l (now t) y) × (length (now first) ≡ 512) × (length (now second) ≡ 512) ⌝ }
-    ensures { λ r. ⌜ Picked (pathFound (now (base .entry)) n k l q next (now (s .entry)) x (now (t .entry)) y) (now (first .entry)) (now (second .entry)) (now (first .exit)) (now (second .exit)) r ⌝ }
+    requires { ⌜ LevelsSized (scheme (now base) n k) l q (now s) x (now t) y (now first) (now second) ⌝ }
+    ensures { λ r. ⌜ PickedIn (pathFound (scheme (now (base .entry)) n k) l q next (now (s .entry)) x (now (t .entry)) y) first second r ⌝ }
 {
     if next {
         return pick_opening(
@@ -79,8 +75,8 @@ fn pick_level(
     first: &mut [u8],
     second: &mut [u8],
 ) -> usize
-    requires { ⌜ (q < 16777216) × (LevelSized (now base) n k l (now s) x) × (LevelSized (now base) n k l (now t) y) × (length (now first) ≡ 512) × (length (now second) ≡ 512) ⌝ }
-    ensures { λ r. ⌜ Picked (placesFound (now (base .entry)) n k l q (now (s .entry)) x (now (t .entry)) y) (now (first .entry)) (now (second .entry)) (now (first .exit)) (now (second .exit)) r ⌝ }
+    requires { ⌜ LevelsSized (scheme (now base) n k) l q (now s) x (now t) y (now first) (now second) ⌝ }
+    ensures { λ r. ⌜ PickedIn (placesFound (scheme (now (base .entry)) n k) l q (now (s .entry)) x (now (t .entry)) y) first second r ⌝ }
 {
     let m = pick_path(base, n, k, l, q, false, s, x, t, y, first, second);
     if m != 0 {
@@ -100,8 +96,8 @@ pub fn pick_levels(
     first: &mut [u8],
     second: &mut [u8],
 ) -> usize
-    requires { ⌜ Comparable (now base) n k position (now s) (now t) (now first) (now second) ⌝ }
-    ensures { λ r. ⌜ Picked (recordsFound hash present (now (base .entry)) n k position (now (s .entry)) (now (t .entry))) (now (first .entry)) (now (second .entry)) (now (first .exit)) (now (second .exit)) r ⌝ }
+    requires { ⌜ Comparable (scheme (now base) n k) position (now s) (now t) (now first) (now second) ⌝ }
+    ensures { λ r. ⌜ PickedIn (recordsFound (scheme (now (base .entry)) n k) position (now (s .entry)) (now (t .entry))) first second r ⌝ }
 {
     let mut l: usize = 0;
     let mut i: usize = 4;

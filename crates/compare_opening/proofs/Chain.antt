@@ -7,29 +7,33 @@ use native.Mathlib.Omega.{arith}
 use lib.Dec.{eqb}
 use lib.ListN.{length, drop, length-append}
 use lib.Seq.{take-at, drop-at}
-use Rattle.laws.specs.Questions.{pick}
-use Rattle.laws.specs.Lists.{part, flat, stored}
-use Rattle.laws.proofs.Lists.{AllLong, runs-flat, length-flat, drop-stored}
-use Rattle.blake3.specs.Digest.{hash}
-use Rattle.blake3.proofs.HashMode.{length-hash}
-use Rattle.merkle.specs.Message.{leafMessage, nodeMessage}
-use Rattle.merkle.specs.Tree.{groupOf, left, right}
-use Rattle.merkle.specs.Binding.{messagesOf}
-use Rattle.merkle.proofs.Message.{length-leafMessage, length-nodeMessage}
-use Rattle.chains.specs.Nodes.{nodesOf}
-use Rattle.chains.proofs.Nodes.{messages-nodes}
-use Rattle.differing.specs.Chains.{chainOf}
+use Rattle.theory_laws.specs.Questions.{pick}
+use Rattle.theory_laws.specs.Lists.{part, flat, stored}
+use Rattle.theory_laws.proofs.Lists.{AllLong, runs-flat, length-flat, drop-stored}
+use Rattle.theory_blake3.specs.Digest.{hash}
+use Rattle.theory_blake3.proofs.HashMode.{length-hash}
+use Rattle.theory_merkle.specs.Message.{leafMessage, nodeMessage}
+use Rattle.theory_merkle.specs.Tree.{groupOf, left, right}
+use Rattle.theory_merkle.specs.Binding.{messagesOf}
+use Rattle.theory_merkle.proofs.Message.{length-leafMessage, length-nodeMessage}
+use Rattle.compare_chain.specs.helpers.Nodes.{nodesOf}
+use Rattle.compare_chain.proofs.Nodes.{messages-nodes}
+use Rattle.compare_pick.specs.helpers.Chains.{chainOf}
 
 pick-long : (n : ℕ) (b : Bool) (x y : List ℕ) → length x ≡ n → length y ≡ n → length (pick b x y) ≡ n
 pick-long n true x y h k = h
 pick-long n false x y h k = k
 
-nodes-long : (domain : List ℕ) (level g : ℕ) (d : List ℕ) (ss : List (List ℕ)) → length d ≡ 32 → AllLong 32 ss → AllLong (136 + length domain) (nodesOf domain level g d ss)
+nodes-long : (domain : List ℕ) (level g : ℕ) (d : List ℕ) (ss : List (List ℕ)) → length d ≡ 32 → AllLong 32 ss
+    → AllLong (136 + length domain) (nodesOf domain level g d ss)
 unfolding nodesOf
 nodes-long domain level g d [] h a = tt
 nodes-long domain level g d (s ∷ ss) h a =
     let m : List ℕ = nodeMessage domain level (left g d s) (right g d s) in
-    (length-nodeMessage domain level (left g d s) (right g d s) (pick-long 32 (eqb (g % 2) 0) d s h (a .0)) (pick-long 32 (eqb (g % 2) 0) s d (a .0) h), nodes-long domain (suc level) (g / 2) (hash m) ss (length-hash m) (a .1))
+    let even = eqb (g % 2) 0 in (
+      length-nodeMessage domain level (left g d s) (right g d s) (pick-long 32 even d s h (a .0)) (pick-long 32 even s d (a .0) h),
+      nodes-long domain (suc level) (g / 2) (hash m) ss (length-hash m) (a .1),
+    )
 
 length-nodes : (domain : List ℕ) (level g : ℕ) (d : List ℕ) (ss : List (List ℕ)) → length (nodesOf domain level g d ss) ≡ length ss
 unfolding nodesOf
@@ -48,14 +52,18 @@ chain-read leaf node m ns o em long room =
     rw (e, take-at m (flat ns ++ r) leaf em, drop-at m (flat ns ++ r) leaf em, runs-flat node ns r long)
 
 -- the messages of a group and a path
-pub messages-read : (domain : List ℕ) (count width place : ℕ) (values : List ℕ) (ss : List (List ℕ)) (depth : ℕ) (o : List ℕ) → length values ≡ width → length ss ≡ depth → AllLong 32 ss
+pub messages-read : (domain : List ℕ) (count width place : ℕ) (values : List ℕ) (ss : List (List ℕ)) (depth : ℕ) (o : List ℕ) → length values ≡ width
+    → length ss ≡ depth → AllLong 32 ss
     → 97 + length domain + 16 * width + (136 + length domain) * depth ≤ length o
-    → chainOf (97 + length domain + 16 * width) (136 + length domain) depth (stored o 0 (flat (messagesOf hash domain count width place values ss))) ≡ messagesOf hash domain count width place values ss
+    → chainOf (97 + length domain + 16 * width) (136 + length domain) depth (stored o 0 (flat (messagesOf hash domain count width place values ss)))
+    ≡ messagesOf hash domain count width place values ss
 unfolding messagesOf
 messages-read domain count width place values ss depth o ev es long room =
     let g : ℕ = groupOf place width in
     let m : List ℕ = leafMessage domain count width g values in
     let ns : List (List ℕ) = nodesOf domain 0 g (hash m) ss in
     let z : length ns ≡ depth = length-nodes domain 0 g (hash m) ss ∙ es in
-    let q = chain-read (97 + length domain + 16 * width) (136 + length domain) m ns o (length-leafMessage domain count width g values ev) (nodes-long domain 0 g (hash m) ss (length-hash m) long) (rw z room) in
+    let nodes = nodes-long domain 0 g (hash m) ss (length-hash m) long in
+    let q =
+    chain-read (97 + length domain + 16 * width) (136 + length domain) m ns o (length-leafMessage domain count width g values ev) nodes (rw z room) in
     rw (messages-nodes domain 0 g m ss) (rw z at q)

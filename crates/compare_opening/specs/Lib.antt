@@ -1,1 +1,1 @@
-pub mod Messages
+pub mod helpers

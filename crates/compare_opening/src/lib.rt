@@ -1,22 +1,24 @@
 // The messages nearest the root in which two groups and paths for one place of a level differ. These are helpers for the crates above: each
 // requires.
-use chains::put_chain;
-use differing::pick_last;
-use groups::Place;
-use levels::level_depth;
-use levels::level_domain;
-use levels::level_length;
-use levels::level_width;
+use code_level::DOMAIN;
+use code_level::level_depth;
+use code_level::level_domain;
+use code_level::level_length;
+use code_level::level_width;
+use compare_chain::put_chain;
+use compare_pick::pick_last;
+use tree_place::Place;
 ghost use mathlib.Core.Path.{_≡_};
 ghost use lib.ListN.{length};
-ghost use Rattle.laws.specs.Lists.{flat, stored};
-ghost use Rattle.blake3.specs.Digest.{hash};
-ghost use Rattle.record.specs.Widths.{present};
-ghost use Rattle.record.specs.Domain.{levelDomain};
-ghost use Rattle.opening.specs.Opening.{valuesAt, digestsAt, Sized};
-ghost use Rattle.comparing.specs.Compare.{openingFound};
-ghost use Rattle.differing.specs.Chains.{Picked};
-ghost use Rattle.compare_opening.specs.Messages.{levelMessages};
+ghost use Rattle.theory_laws.specs.Lists.{stored};
+ghost use Rattle.theory_record.specs.Domain.{levelDomain};
+ghost use Rattle.record_opening.specs.helpers.Opening.{Sized};
+ghost use Rattle.compare_opening.specs.helpers.Messages.{chainAt, foundAt, BothSized, chainBuffer};
+ghost use Rattle.compare_pick.specs.helpers.Chains.{PickedIn};
+ghost use Rattle.theory_record.specs.Scheme.{scheme};
+
+// How many bytes a buffer for a chain of messages has: `chainBuffer` of the conditions.
+const CHAIN: usize = 8714;
 
 // The messages from the group of a place of level l along the path, which stand at these places of a record, end to end in a buffer. The
 // length of the level's domain.
@@ -31,10 +33,11 @@ fn level_chain(
     group: usize,
     path: usize,
 ) -> usize
-    requires { ⌜ (Sized (now base) n k l (now s) group path) × (length (now out) ≡ 8714) ⌝ }
-    ensures { λ r. ⌜ (r ≡ length (levelDomain (now (base .entry)) l)) × (now (out .exit) ≡ stored (now (out .entry)) 0 (flat (levelMessages (now (base .entry)) n k l place (valuesAt (now (s .entry)) group) (digestsAt (now (s .entry)) path)))) ⌝ }
+    requires { ⌜ (Sized (scheme (now base) n k) l (now s) group path) × (length (now out) ≡ chainBuffer) ⌝ }
+    ensures { λ r. ⌜ r ≡ length (levelDomain (now (base .entry)) l) ⌝ }
+    ensures { λ _. ⌜ now (out .exit) ≡ stored (now (out .entry)) 0 (chainAt (scheme (now (base .entry)) n k) l place (now (s .entry)) group path) ⌝ }
 {
-    let mut domain = [0u8; 209];
+    let mut domain = [0u8; DOMAIN];
     let d = level_domain(&mut domain, base, l);
     let count = level_length(n, k, l);
     let width = level_width(n, k, l);
@@ -69,12 +72,12 @@ pub fn pick_opening(
     first: &mut [u8],
     second: &mut [u8],
 ) -> usize
-    requires { ⌜ (Sized (now base) n k l (now s) sgroup spath) × (Sized (now base) n k l (now t) tgroup tpath) × (length (now first) ≡ 512) × (length (now second) ≡ 512) ⌝ }
-    ensures { λ r. ⌜ Picked (openingFound hash present (now (base .entry)) n k l place (valuesAt (now (s .entry)) sgroup) (digestsAt (now (s .entry)) spath) (valuesAt (now (t .entry)) tgroup) (digestsAt (now (t .entry)) tpath)) (now (first .entry)) (now (second .entry)) (now (first .exit)) (now (second .exit)) r ⌝ }
+    requires { ⌜ BothSized (scheme (now base) n k) l (now s) sgroup spath (now t) tgroup tpath (now first) (now second) ⌝ }
+    ensures { λ r. ⌜ PickedIn (foundAt (scheme (now (base .entry)) n k) l place (now (s .entry)) sgroup spath (now (t .entry)) tgroup tpath) first second r ⌝ }
 {
-    let mut a = [0u8; 8714];
+    let mut a = [0u8; CHAIN];
     let d = level_chain(&mut a, base, n, k, l, place, s, sgroup, spath);
-    let mut b = [0u8; 8714];
+    let mut b = [0u8; CHAIN];
     level_chain(&mut b, base, n, k, l, place, t, tgroup, tpath);
     let width = level_width(n, k, l);
     let depth = level_depth(n, k, l);

@@ -1,29 +1,41 @@
+-- `compare_levels::pick_levels` meets its contract: below level l nothing was found, and the buffers are as they were.
 use Prim.Native.Nat.{_≤_, _-_}
 use mathlib.Core.Path.{_≡_, refl}
 use native.Mathlib.Omega.{arith}
 use lib.ListN.{length}
-use Rattle.blake3.specs.Digest.{hash}
-use Rattle.record.specs.Widths.{present}
-use Rattle.comparing.specs.Compare.{recordsFound}
+use Rattle.theory_compare.specs.Compare.{recordsFound}
 use Rattle.compare_levels.proofs.Level.{Rest, rest-begin, rest-next, level-sized, pair-low}
-use Rattle.compare_levels.proofs.Levels.{foundFrom, found-begin, level-stop, level-next, levels-end}
+use Rattle.compare_levels.proofs.Levels.{found-begin, NoneBelow, level-picked, level-stop, level-next, levels-end}
 use borrow.Author.Needs.{needs}
 use Rattle.compare_levels.proofs.pick_levels.Statement.{statement}
 use Rattle.compare_levels.proofs.pick_levels.Tie as tie
 use Rattle.compare_levels.proofs.pick_levels.Reads as reads
 use Rattle.compare_levels.proofs.pick_levels.Lts as lts
 use Rattle.compare_levels.proofs.pick_level.Reads as pick-level-reads
-use Rattle.query.proofs.pair_of.Reads as pair-of-reads
-use Rattle.reader.proofs.level_at.Reads as level-at-reads
+use Rattle.record_query_check.proofs.pair_of.Reads as pair-of-reads
+use Rattle.record_reader.proofs.level_at.Reads as level-at-reads
+use Rattle.theory_record.specs.Scheme.{scheme}
 
 abbrev Inv-loop : tie.InvT-loop
-Inv-loop base n k position s t first₀ second₀ l₀ i₀ j₀ first second l i j = (l ≤ n) × (Rest base n k position l s i) × (Rest base n k position l t j) × (length first ≡ length first₀) × (length second ≡ length second₀) × (first ≡ first₀) × (second ≡ second₀) × (foundFrom base n k position l s i t j ≡ recordsFound hash present base n k position s t)
+Inv-loop base n k position s t first₀ second₀ l₀ i₀ j₀ first second l i j =
+    let S = scheme base n k in
+    (l ≤ n) × (Rest S position l s i) × (Rest S position l t j) × (length first ≡ length first₀) × (length second ≡ length second₀)
+    × (NoneBelow S position l s i t j (recordsFound S position s t) first₀ second₀ first second)
 
 abbrev μ-loop : tie.MeasureT-loop
 μ-loop base n k position s t first₀ second₀ l₀ i₀ j₀ first second l i j = n - l
 
 loop-holds : tie.Need-loop-holds Inv-loop μ-loop
-loop-holds c = (search needs, rest-begin _ _ _ _ _ _ _ (c .before .before .before .before .before .pre .first-accepted), rest-begin _ _ _ _ _ _ _ (c .before .before .before .before .before .pre .second-accepted), refl, refl, refl, refl, found-begin _ _ _ _ _ _)
+loop-holds c =
+    let lent = c .before .before in
+    let start = lent .before .before .before in (
+      search needs,
+      rest-begin (start .pre .first-accepted),
+      rest-begin (start .pre .second-accepted),
+      refl,
+      refl,
+      record { from-here = found-begin _ _ _ _; first-same = refl; second-same = refl },
+    )
 
 level-at-requires : tie.Need-level-at-requires Inv-loop μ-loop
 level-at-requires c κs = c .before .loop .inv .1 .within
@@ -35,7 +47,21 @@ pair-of-requires : tie.Need-pair-of-requires Inv-loop μ-loop
 pair-of-requires c κs = let a = c .before .before .before .loop .inv .1 .allowed in let h = c .before .before .loop-test .taken in omega arith
 
 pick-level-requires : tie.Need-pick-level-requires Inv-loop μ-loop
-pick-level-requires c κs = let q = c .before .before .before .before .before .before .loop .inv in let h = c .before .before .before .before .before .loop-test .taken in let p = c .before .before .before .before .before .before .before .before .before .before .before .before .pre in (pair-low _ _ _ _ _ _ _ _ (q .1) h (c .before .before .before .before .level-at .ensures) _ (c .before .before .pair-of .ensures), level-sized _ _ _ _ _ _ _ _ (q .1) h (c .before .before .before .before .level-at .ensures), level-sized _ _ _ _ _ _ _ _ (q .2) h (c .before .before .before .level-at2 .ensures), search needs, search needs)
+pick-level-requires c κs =
+    let paired = c .before .before in
+    let second = paired .before in
+    let first = second .before in
+    let loop = first .before .before in
+    let lent = loop .before .before .before in
+    let p = lent .before .before .before .pre in
+    let test = first .before .loop-test .taken in
+    record {
+      pair-most = pair-low _ (loop .loop .inv .1) test (first .level-at .ensures) _ (paired .pair-of .ensures);
+      first-sized = level-sized _ (loop .loop .inv .1) test (first .level-at .ensures);
+      second-sized = level-sized _ (loop .loop .inv .2) test (second .level-at2 .ensures);
+      first-room = search needs;
+      second-room = search needs;
+    }
 
 same-length : tie.Need-same-length Inv-loop μ-loop
 same-length c = search needs
@@ -44,7 +70,16 @@ same-length-2 : tie.Need-same-length-2 Inv-loop μ-loop
 same-length-2 c = search needs
 
 returns : tie.Need-returns Inv-loop μ-loop
-returns c = let q = c .before .before .before .before .before .before .before .before .before .before .before .before .loop .inv in level-stop _ _ _ _ _ _ _ _ _ _ (q .7) _ _ _ _ (q .5) (q .6) _ _ _ _ _ _ (c .before .before .before .before .before .before .before .before .before .before .before .loop-test .taken) (c .before .before .before .before .before .before .before .before .before .before .level-at .ensures) (c .before .before .before .before .before .before .before .before .before .level-at2 .ensures) (c .before .before .before .before .before .before .before .before .pair-of .ensures) (c .before .before .before .before .before .pick-level .ensures) (c .if1 .taken)
+returns c =
+    let back = c .before .before in
+    let picked = back .before .before .before in
+    let paired = picked .before .before .before in
+    let second = paired .before in
+    let first = second .before in
+    let loop = first .before .before in
+    level-stop (loop .loop .inv .5)
+    (level-picked (first .level-at .ensures) (second .level-at2 .ensures) (paired .pair-of .ensures) (picked .pick-level .ensures))
+    (first .before .loop-test .taken) (c .if1 .taken)
 
 add-l : tie.Need-add-l Inv-loop μ-loop
 add-l c = search needs
@@ -53,7 +88,25 @@ loop-less : tie.Need-loop-less Inv-loop μ-loop
 loop-less c = search needs
 
 loop-again : tie.Need-loop-again Inv-loop μ-loop
-loop-again c = let q = c .before .before .before .before .before .before .before .before .before .before .before .before .loop .inv in let h = c .before .before .before .before .before .before .before .before .before .before .before .loop-test .taken in let s = level-next _ _ _ _ _ _ _ _ _ _ (q .7) _ _ _ _ (q .5) (q .6) _ _ _ _ _ _ (c .before .before .before .before .before .before .before .before .before .before .before .loop-test .taken) (c .before .before .before .before .before .before .before .before .before .before .level-at .ensures) (c .before .before .before .before .before .before .before .before .before .level-at2 .ensures) (c .before .before .before .before .before .before .before .before .pair-of .ensures) (c .before .before .before .before .before .pick-level .ensures) (c .if1 .left) in (search needs, rest-next _ _ _ _ _ _ _ _ (q .1) h (c .before .before .before .before .before .before .before .before .before .before .level-at .ensures), rest-next _ _ _ _ _ _ _ _ (q .2) h (c .before .before .before .before .before .before .before .before .before .level-at2 .ensures), search needs, search needs, s .0, s .1, s .2)
+loop-again c =
+    let back = c .before .before in
+    let picked = back .before .before .before in
+    let paired = picked .before .before .before in
+    let second = paired .before in
+    let first = second .before in
+    let loop = first .before .before in
+    let test = first .before .loop-test .taken in
+    let none =
+    level-next (loop .loop .inv .5)
+    (level-picked (first .level-at .ensures) (second .level-at2 .ensures) (paired .pair-of .ensures) (picked .pick-level .ensures))
+    test (c .if1 .left) in (
+      search needs,
+      rest-next _ (loop .loop .inv .1) test (first .level-at .ensures),
+      rest-next _ (loop .loop .inv .2) test (second .level-at2 .ensures),
+      search needs,
+      search needs,
+      none,
+    )
 
 same-length-3 : tie.Need-same-length-3 Inv-loop μ-loop
 same-length-3 c = search needs
@@ -62,7 +115,7 @@ same-length-4 : tie.Need-same-length-4 Inv-loop μ-loop
 same-length-4 c = search needs
 
 returns-2 : tie.Need-returns-2 Inv-loop μ-loop
-returns-2 c = let q = c .before .loop .inv in levels-end _ _ _ _ _ _ _ _ _ _ (q .7) _ _ _ _ (q .5) (q .6) (c .loop-test .left)
+returns-2 c = levels-end (c .before .loop .inv .5) (c .loop-test .left)
 
 pub pick-levels-spec : {M : Type 1} → statement M
 pick-levels-spec =

@@ -1,3 +1,4 @@
+-- `compare_levels::pick_path` meets its contract.
 use Rattle.compare_levels.proofs.Level.{path-c, path-a}
 use borrow.Author.Needs.{needs}
 use Rattle.compare_levels.proofs.pick_path.Statement.{statement}
@@ -10,7 +11,17 @@ add-pick-opening : tie.Need-add-pick-opening
 add-pick-opening c = search needs
 
 pick-opening-requires : tie.Need-pick-opening-requires
-pick-opening-requires c κs = (c .before .before .before .before .before .before .before .before .pre .1 .c-sized, c .before .before .before .before .before .before .before .before .pre .2 .c-sized, c .before .before .before .before .before .before .before .before .pre .3, c .before .before .before .before .before .before .before .before .pre .4)
+pick-opening-requires c κs =
+    let branch = c .before .before .before in
+    let lent = branch .before .before in
+    let start = lent .before .before .before in
+    let z = start .pre in
+    record {
+      first-sized = z .first-sized .c-sized;
+      second-sized = z .second-sized .c-sized;
+      first-room = z .first-room;
+      second-room = z .second-room;
+    }
 
 same-length : tie.Need-same-length
 same-length c = search needs
@@ -19,13 +30,26 @@ same-length-2 : tie.Need-same-length-2
 same-length-2 c = search needs
 
 returns : tie.Need-returns
-returns c = path-c _ _ _ _ _ _ _ _ _ _ _ _ _ _ _ (c .before .before .before .before .before .before .before .if1 .taken) (c .before .before .before .before .pick-opening .ensures)
+returns c =
+    let picked = c .before .before .before .before in
+    let branch = picked .before .before .before in
+    path-c _ _ _ _ _ _ _ (branch .if1 .taken) (picked .pick-opening .ensures)
 
 mul-pick-opening : tie.Need-mul-pick-opening
 mul-pick-opening c = search needs
 
 pick-opening-requires-2 : tie.Need-pick-opening-requires-2
-pick-opening-requires-2 c κs = (c .before .before .before .before .before .before .before .before .pre .1 .a-sized, c .before .before .before .before .before .before .before .before .pre .2 .a-sized, c .before .before .before .before .before .before .before .before .pre .3, c .before .before .before .before .before .before .before .before .pre .4)
+pick-opening-requires-2 c κs =
+    let branch = c .before .before .before in
+    let lent = branch .before .before in
+    let start = lent .before .before .before in
+    let z = start .pre in
+    record {
+      first-sized = z .first-sized .a-sized;
+      second-sized = z .second-sized .a-sized;
+      first-room = z .first-room;
+      second-room = z .second-room;
+    }
 
 same-length-3 : tie.Need-same-length-3
 same-length-3 c = search needs
@@ -34,7 +58,10 @@ same-length-4 : tie.Need-same-length-4
 same-length-4 c = search needs
 
 returns-2 : tie.Need-returns-2
-returns-2 c = path-a _ _ _ _ _ _ _ _ _ _ _ _ _ _ _ (c .before .before .before .before .before .before .before .if1 .left) (c .before .before .before .before .pick-opening2 .ensures)
+returns-2 c =
+    let picked = c .before .before .before .before in
+    let branch = picked .before .before .before in
+    path-a _ _ _ _ _ _ _ (branch .if1 .left) (picked .pick-opening2 .ensures)
 
 pub pick-path-spec : {M : Type 1} → statement M
 pick-path-spec =

@@ -1,17 +1,18 @@
+-- `compare_opening::level_chain` meets its contract.
 use native.Mathlib.Omega.{arith}
-use Rattle.digests.proofs.Messages.{message-length, prefix-is}
-use Rattle.opening.proofs.Levels.{sized-room, domain-room}
-use Rattle.compare_opening.proofs.Opening.{domain-there, chain-fits, chain-is}
+use Rattle.tree_digest.proofs.Messages.{message-length, prefix-is}
+use Rattle.record_opening.proofs.Levels.{domain-room}
+use Rattle.compare_opening.proofs.Opening.{domain-there, room, chain-fits, chain-written}
 use borrow.Author.Needs.{needs}
 use Rattle.compare_opening.proofs.level_chain.Statement.{statement}
 use Rattle.compare_opening.proofs.level_chain.Tie as tie
 use Rattle.compare_opening.proofs.level_chain.Reads as reads
 use Rattle.compare_opening.proofs.level_chain.Lts as lts
-use Rattle.chains.proofs.put_chain.Reads as put-chain-reads
-use Rattle.levels.proofs.level_depth.Reads as level-depth-reads
-use Rattle.levels.proofs.level_domain.Reads as level-domain-reads
-use Rattle.levels.proofs.level_length.Reads as level-length-reads
-use Rattle.levels.proofs.level_width.Reads as level-width-reads
+use Rattle.compare_chain.proofs.put_chain.Reads as put-chain-reads
+use Rattle.code_level.proofs.level_depth.Reads as level-depth-reads
+use Rattle.code_level.proofs.level_domain.Reads as level-domain-reads
+use Rattle.code_level.proofs.level_length.Reads as level-length-reads
+use Rattle.code_level.proofs.level_width.Reads as level-width-reads
 
 slice-aggregate-level-domain : tie.Need-slice-aggregate-level-domain
 slice-aggregate-level-domain c = search needs
@@ -29,25 +30,82 @@ level-depth-requires : tie.Need-level-depth-requires
 level-depth-requires c κs = search needs
 
 array-share-prefix-domain : tie.Need-array-share-prefix-domain
-array-share-prefix-domain c = let h = sized-room _ _ _ _ _ _ _ (c .before .before .before .before .before .before .before .before .before .before .pre .0) in omega arith
+array-share-prefix-domain c =
+    let h =
+    (let width = c .before .before in
+    let domain = width .before .before .before in
+    let lent = domain .before .before in
+    let start = lent .before .before .before in
+    room (start .pre .0)) in
+    omega arith
 
 slice-aggregate-put-chain : tie.Need-slice-aggregate-put-chain
-slice-aggregate-put-chain c = let h = sized-room _ _ _ _ _ _ _ (c .before .before .before .before .before .before .before .before .before .before .before .pre .0) in message-length _ _ _ _ _ _ (c .before .before .before .before .before .before .level-domain .ensures) (omega arith)
+slice-aggregate-put-chain c =
+    let width = c .before .before .before in
+    let domain = width .before .before .before in
+    let lent = domain .before .before in
+    let start = lent .before .before .before in
+    let h = room (start .pre .0) in
+    message-length _ _ _ _ _ _ (domain .level-domain .ensures) (omega arith)
 
 add-put-chain : tie.Need-add-put-chain
-add-put-chain c = let h = sized-room _ _ _ _ _ _ _ (c .before .before .before .before .before .before .before .before .before .before .before .pre .0) in search needs
+add-put-chain c =
+    let h =
+    (let width = c .before .before .before in
+    let domain = width .before .before .before in
+    let lent = domain .before .before in
+    let start = lent .before .before .before in
+    room (start .pre .0)) in
+    search needs
 
 add-put-chain-2 : tie.Need-add-put-chain-2
-add-put-chain-2 c = let h = sized-room _ _ _ _ _ _ _ (c .before .before .before .before .before .before .before .before .before .before .before .pre .0) in search needs
+add-put-chain-2 c =
+    let h =
+    (let width = c .before .before .before in
+    let domain = width .before .before .before in
+    let lent = domain .before .before in
+    let start = lent .before .before .before in
+    room (start .pre .0)) in
+    search needs
 
 put-chain-requires : tie.Need-put-chain-requires
-put-chain-requires c κs = let h = sized-room _ _ _ _ _ _ _ (c .before .before .before .before .before .before .before .before .before .before .before .pre .0) in (domain-room _ _ _ _ _ (c .before .before .before .before .before .before .level-domain .ensures) (omega arith) (h .domain-short), omega arith, omega arith, omega arith, omega arith, chain-fits _ _ _ _ _ _ _ (c .before .before .before .before .before .before .before .before .before .before .before .pre .0) _ _ _ _ (domain-there _ _ _ _ _ (c .before .before .before .before .before .before .level-domain .ensures) (omega arith)) (c .before .before .before .level-width .ensures) (c .before .before .level-depth .ensures) (c .before .before .before .before .before .before .before .before .before .before .before .pre .1), omega arith)
+put-chain-requires c κs =
+    let depth = c .before .before in
+    let width = depth .before in
+    let domain = width .before .before .before in
+    let lent = domain .before .before in
+    let start = lent .before .before .before in
+    let h = room (start .pre .0) in
+    let put = domain .level-domain .ensures in (
+      domain-room _ _ _ _ _ put (omega arith) (h .domain-short),
+      omega arith,
+      omega arith,
+      omega arith,
+      omega arith,
+      chain-fits (start .pre .0) _ _ _ _
+          (record { domain-is = domain-there _ _ _ _ _ put (omega arith); width-is = width .level-width .ensures; depth-is = depth .level-depth .ensures })
+          (start .pre .1),
+      omega arith,
+    )
 
 same-length : tie.Need-same-length
 same-length c = search needs
 
 returns : tie.Need-returns
-returns c = let h = sized-room _ _ _ _ _ _ _ (c .before .before .before .before .before .before .before .before .before .before .before .before .before .before .pre .0) in (omega (arith, c .before .before .before .before .before .before .before .before .before .level-domain .ensures .end), chain-is _ _ _ _ _ _ _ (c .before .before .before .before .before .before .before .before .before .before .before .before .before .before .pre .0) _ _ _ _ _ _ _ (c .before .before .put-chain .ensures) (prefix-is _ _ _ _ _ (c .before .before .before .before .before .before .before .before .before .level-domain .ensures) (omega arith)) (c .before .before .before .before .before .before .before .level-length .ensures) (c .before .before .before .before .before .before .level-width .ensures) (c .before .before .before .before .before .level-depth .ensures))
+returns c =
+    let put = c .before .before in
+    let depth = put .before .before .before in
+    let width = depth .before in
+    let count = width .before in
+    let domain = count .before .before in
+    let lent = domain .before .before in
+    let start = lent .before .before .before in
+    let h = room (start .pre .0) in
+    let at = domain .level-domain .ensures in (
+      omega (arith, at .end),
+      chain-written (start .pre .0) _ _ _ _ _ _ _ (put .put-chain .ensures) (prefix-is _ _ _ _ _ at (omega arith)) (count .level-length .ensures)
+          (width .level-width .ensures) (depth .level-depth .ensures),
+    )
 
 pub level-chain-spec : {M : Type 1} → statement M
 level-chain-spec =

@@ -1,14 +1,14 @@
-use Rattle.opening.proofs.Levels.{sized-room}
-use Rattle.compare_opening.proofs.Opening.{chains-there, picked-opening}
+-- `compare_opening::pick_opening` meets its contract.
+use Rattle.compare_opening.proofs.Opening.{room, chains-there, picked-opening}
 use borrow.Author.Needs.{needs}
 use Rattle.compare_opening.proofs.pick_opening.Statement.{statement}
 use Rattle.compare_opening.proofs.pick_opening.Tie as tie
 use Rattle.compare_opening.proofs.pick_opening.Reads as reads
 use Rattle.compare_opening.proofs.pick_opening.Lts as lts
 use Rattle.compare_opening.proofs.level_chain.Reads as level-chain-reads
-use Rattle.differing.proofs.pick_last.Reads as pick-last-reads
-use Rattle.levels.proofs.level_depth.Reads as level-depth-reads
-use Rattle.levels.proofs.level_width.Reads as level-width-reads
+use Rattle.compare_pick.proofs.pick_last.Reads as pick-last-reads
+use Rattle.code_level.proofs.level_depth.Reads as level-depth-reads
+use Rattle.code_level.proofs.level_width.Reads as level-width-reads
 
 slice-aggregate-level-chain : tie.Need-slice-aggregate-level-chain
 slice-aggregate-level-chain c = search needs
@@ -35,19 +35,81 @@ slice-aggregate-pick-last-2 : tie.Need-slice-aggregate-pick-last-2
 slice-aggregate-pick-last-2 c = search needs
 
 add-pick-last : tie.Need-add-pick-last
-add-pick-last c = let h = sized-room _ _ _ _ _ _ _ (c .before .before .before .before .before .before .before .before .before .before .before .before .before .before .before .pre .0) in let e = c .before .before .before .before .before .before .before .before .level-chain .ensures .0 in search needs
+add-pick-last c =
+    let h =
+    (let width = c .before .before .before in
+    let second = width .before .before in
+    let first = second .before .before .before in
+    let lent = first .before .before .before in
+    let start = lent .before .before .before .before in
+    room (start .pre .first-sized)) in
+    let e =
+    (let width = c .before .before .before in
+    let second = width .before .before in
+    let first = second .before .before .before in
+    first .level-chain .ensures .0) in
+    search needs
 
 mul-pick-last : tie.Need-mul-pick-last
-mul-pick-last c = let h = sized-room _ _ _ _ _ _ _ (c .before .before .before .before .before .before .before .before .before .before .before .before .before .before .before .pre .0) in let e = c .before .before .before .before .before .before .before .before .level-chain .ensures .0 in search needs
+mul-pick-last c =
+    let h =
+    (let width = c .before .before .before in
+    let second = width .before .before in
+    let first = second .before .before .before in
+    let lent = first .before .before .before in
+    let start = lent .before .before .before .before in
+    room (start .pre .first-sized)) in
+    let e =
+    (let width = c .before .before .before in
+    let second = width .before .before in
+    let first = second .before .before .before in
+    first .level-chain .ensures .0) in
+    search needs
 
 add-pick-last-2 : tie.Need-add-pick-last-2
-add-pick-last-2 c = let h = sized-room _ _ _ _ _ _ _ (c .before .before .before .before .before .before .before .before .before .before .before .before .before .before .before .pre .0) in let e = c .before .before .before .before .before .before .before .before .level-chain .ensures .0 in search needs
+add-pick-last-2 c =
+    let h =
+    (let width = c .before .before .before in
+    let second = width .before .before in
+    let first = second .before .before .before in
+    let lent = first .before .before .before in
+    let start = lent .before .before .before .before in
+    room (start .pre .first-sized)) in
+    let e =
+    (let width = c .before .before .before in
+    let second = width .before .before in
+    let first = second .before .before .before in
+    first .level-chain .ensures .0) in
+    search needs
 
 add-pick-last-3 : tie.Need-add-pick-last-3
-add-pick-last-3 c = let h = sized-room _ _ _ _ _ _ _ (c .before .before .before .before .before .before .before .before .before .before .before .before .before .before .before .pre .0) in let e = c .before .before .before .before .before .before .before .before .level-chain .ensures .0 in search needs
+add-pick-last-3 c =
+    let h =
+    (let width = c .before .before .before in
+    let second = width .before .before in
+    let first = second .before .before .before in
+    let lent = first .before .before .before in
+    let start = lent .before .before .before .before in
+    room (start .pre .first-sized)) in
+    let e =
+    (let width = c .before .before .before in
+    let second = width .before .before in
+    let first = second .before .before .before in
+    first .level-chain .ensures .0) in
+    search needs
 
 pick-last-requires : tie.Need-pick-last-requires
-pick-last-requires c κs = chains-there _ _ _ _ _ _ _ _ _ _ _ (c .before .before .before .before .before .before .before .before .before .before .before .before .before .before .before .before .before .pre .0) (c .before .before .before .before .before .before .before .before .before .before .before .before .before .before .before .before .before .pre .1) _ _ _ (c .before .before .before .before .before .before .before .before .before .before .level-chain .ensures .0) (c .before .before .before .before .before .level-width .ensures) (c .before .before .before .before .level-depth .ensures) _ _ _ _ (c .before .before .before .before .before .before .before .before .before .before .level-chain .ensures .1) (c .before .before .before .before .before .before .before .level-chain2 .ensures .1) (search needs) (search needs) _ _ (c .before .before .before .before .before .before .before .before .before .before .before .before .before .before .before .before .before .pre .2) (c .before .before .before .before .before .before .before .before .before .before .before .before .before .before .before .before .before .pre .3)
+pick-last-requires c κs =
+    let depth = c .before .before .before .before in
+    let width = depth .before in
+    let second = width .before .before in
+    let first = second .before .before .before in
+    let lent = first .before .before .before in
+    let start = lent .before .before .before .before in
+    chains-there (start .pre)
+    (record { domain-is = first .level-chain .ensures .0; width-is = width .level-width .ensures; depth-is = depth .level-depth .ensures })
+    (record { chain-is = first .level-chain .ensures .1; buffer-long = search needs })
+    (record { chain-is = second .level-chain2 .ensures .1; buffer-long = search needs })
 
 same-length : tie.Need-same-length
 same-length c = search needs
@@ -56,7 +118,19 @@ same-length-2 : tie.Need-same-length-2
 same-length-2 c = search needs
 
 returns : tie.Need-returns
-returns c = picked-opening _ _ _ _ _ _ _ _ _ _ _ (c .before .before .before .before .before .before .before .before .before .before .before .before .before .before .before .before .before .before .before .before .before .before .pre .0) (c .before .before .before .before .before .before .before .before .before .before .before .before .before .before .before .before .before .before .before .before .before .before .pre .1) _ _ _ (c .before .before .before .before .before .before .before .before .before .before .before .before .before .before .before .level-chain .ensures .0) (c .before .before .before .before .before .before .before .before .before .before .level-width .ensures) (c .before .before .before .before .before .before .before .before .before .level-depth .ensures) _ _ _ _ (c .before .before .before .before .before .before .before .before .before .before .before .before .before .before .before .level-chain .ensures .1) (c .before .before .before .before .before .before .before .before .before .before .before .before .level-chain2 .ensures .1) (search needs) (search needs) _ _ _ _ _ (c .before .before .before .before .pick-last .ensures)
+returns c =
+    let picked = c .before .before .before .before in
+    let passed = picked .before .before in
+    let depth = passed .before .before .before in
+    let width = depth .before in
+    let second = width .before .before in
+    let first = second .before .before .before in
+    let lent = first .before .before .before in
+    let start = lent .before .before .before .before in
+    picked-opening (start .pre)
+    (record { domain-is = first .level-chain .ensures .0; width-is = width .level-width .ensures; depth-is = depth .level-depth .ensures })
+    (record { chain-is = first .level-chain .ensures .1; buffer-long = search needs })
+    (record { chain-is = second .level-chain2 .ensures .1; buffer-long = search needs }) (picked .pick-last .ensures)
 
 pub pick-opening-spec : {M : Type 1} → statement M
 pick-opening-spec =

@@ -1,5 +1,0 @@
-pub mod Compression
-pub mod Words
-pub mod Tree
-pub mod Stack
-pub mod HashMode

@@ -1,0 +1,62 @@
+use Rattle.bytes_reader.specs.helpers.Windows.{byteAt}
+use borrow.Author.Needs.{needs}
+use Rattle.bytes_reader.proofs.Windows.{byte-step, window-whole, window-filled}
+use native.Mathlib.Omega.{arith}
+use Prim.Native.Nat.{ℕ, _-_, _≤_, _<_}
+use mathlib.Core.Path.{_≡_}
+use lib.ListN.{length, getD}
+use Rattle.bytes_reader.proofs.window_at.Statement.{statement}
+use Rattle.bytes_reader.proofs.window_at.Tie as tie
+
+abbrev Inv-loop : tie.InvT-loop
+Inv-loop s at left bytes₀ j₀ bytes j = (j ≤ 32) × (length bytes ≡ 32) × ((k : ℕ) → k < j → getD bytes k 0 ≡ byteAt s at k)
+
+abbrev μ-loop : tie.MeasureT-loop
+μ-loop s at left bytes₀ j₀ bytes j = 32 - j
+
+left-from-requires : tie.Need-left-from-requires Inv-loop μ-loop
+left-from-requires c κs = search needs
+
+load-requires : tie.Need-load-requires Inv-loop μ-loop
+load-requires c κs = search needs
+
+returns : tie.Need-returns Inv-loop μ-loop
+returns c = search window-whole
+
+loop-holds : tie.Need-loop-holds Inv-loop μ-loop
+loop-holds c = (search needs, search needs, λ k h. absurd (omega arith))
+
+byte-or-zero-requires : tie.Need-byte-or-zero-requires Inv-loop μ-loop
+byte-or-zero-requires c κs = search needs
+
+array-write-bytes : tie.Need-array-write-bytes Inv-loop μ-loop
+array-write-bytes c = search needs
+
+add-j : tie.Need-add-j Inv-loop μ-loop
+add-j c = search needs
+
+loop-less : tie.Need-loop-less Inv-loop μ-loop
+loop-less c = search needs
+
+loop-again : tie.Need-loop-again Inv-loop μ-loop
+loop-again c = (search needs, search needs, byte-step _ (c .before .before .loop .bytes) _ (c .before .before .loop .j) _ (c .before .before .loop .inv .2) (c .byte-or-zero .ensures) (c .before .before .loop .inv .1) (c .before .loop-test .taken))
+
+returns-2 : tie.Need-returns-2 Inv-loop μ-loop
+returns-2 c = search window-filled
+
+pub window-at-spec : {M : Type 1} → statement M
+window-at-spec =
+    tie.close
+    (tie.spec
+    Inv-loop
+    μ-loop
+    left-from-requires
+    load-requires
+    returns
+    loop-holds
+    byte-or-zero-requires
+    array-write-bytes
+    add-j
+    loop-less
+    loop-again
+    returns-2)

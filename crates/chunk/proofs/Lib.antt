@@ -1,4 +1,0 @@
-pub mod Parts
-pub mod Chunk
-pub mod Feed
-pub mod Stands

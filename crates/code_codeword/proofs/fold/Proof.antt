@@ -1,0 +1,49 @@
+-- `code_codeword::fold` meets its contract.
+use borrow.Author.Needs.{needs}
+use mathlib.Core.Path.{refl}
+use native.Mathlib.Omega.{arith}
+use Rattle.theory_laws.proofs.Questions.{asks}
+use Rattle.code_codeword.proofs.Lengths.{fold-sizes, refused-same}
+use Rattle.code_codeword.proofs.fold.Statement.{statement}
+use Rattle.code_codeword.proofs.fold.Tie as tie
+
+fold-number-requires : tie.Need-fold-number-requires
+fold-number-requires c κs = search needs
+
+returns : tie.Need-returns
+returns c = search (asks, refused-same, needs)
+
+slice-aggregate-fold : tie.Need-slice-aggregate-fold
+slice-aggregate-fold c = search needs
+
+fold-requires : tie.Need-fold-requires
+fold-requires c κs =
+    let d = c .before .before .before .fold-number in
+    let z = fold-sizes _ _ _ _ _ _ (d .ensures) (c .before .before .if1 .left) in
+    (z .paired, z .halved, refl)
+
+sub-t9 : tie.Need-sub-t9
+sub-t9 c =
+    let else1 : tie.Else1 = search in
+    let after-fold-number = else1 .before in
+    let d = after-fold-number .fold-number in
+    let z = fold-sizes _ _ _ _ _ _ (d .ensures) (else1 .if1 .left) in
+    omega (arith, z .below)
+
+same-length : tie.Need-same-length
+same-length c = search needs
+
+returns-2 : tie.Need-returns-2
+returns-2 c = search (asks, needs)
+
+pub fold-spec : {M : Type 1} → statement M
+fold-spec =
+    tie.close
+    (tie.spec
+    fold-number-requires
+    returns
+    slice-aggregate-fold
+    fold-requires
+    sub-t9
+    same-length
+    returns-2)

@@ -1,0 +1,27 @@
+-- `code_codeword::l_of` meets its contract.
+use borrow.Author.Needs.{needs}
+use Rattle.theory_laws.proofs.Questions.{asks}
+use Rattle.code_codeword.proofs.Lengths.{shift-sizes}
+use Rattle.code_codeword.proofs.l_of.Statement.{statement}
+use Rattle.code_codeword.proofs.l_of.Tie as tie
+
+l-of-number-requires : tie.Need-l-of-number-requires
+l-of-number-requires c κs = search needs
+
+returns : tie.Need-returns
+returns c = search (asks, needs)
+
+coordinates-requires : tie.Need-coordinates-requires
+coordinates-requires c κs =
+    let d = c .before .before .l-of-number in
+    shift-sizes _ _ _ _ _ (d .ensures) (c .before .if1 .left)
+
+same-length : tie.Need-same-length
+same-length c = search needs
+
+returns-2 : tie.Need-returns-2
+returns-2 c = search needs
+
+pub l-of-spec : {M : Type 1} → statement M
+l-of-spec =
+    tie.close (tie.spec l-of-number-requires returns coordinates-requires same-length returns-2)

@@ -1,0 +1,15 @@
+-- What the entries of the code answer beside their numbers.
+use Prim.Native.Nat.{ℕ, _-_, _^_}
+use mathlib.Core.List.{List}
+use Rattle.theory_laws.specs.Questions.{onDone}
+use Rattle.theory_laws.specs.Table.{tab, at}
+use Rattle.theory_multilinear.specs.Codeword.{shift, block}
+use Rattle.code_codeword.specs.declared.Folded.{Folded}
+
+-- block eps of the codeword of a table: P(v + L(eps)) for v below 2^n
+unfoldable pub blockOf : ℕ → ℕ → List ℕ → ℕ → List ℕ → List ℕ
+blockOf n k gammas eps t = tab (2 ^ n) (block (shift n k gammas eps) (at t))
+
+-- what `fold` answers: 0 and the new n, or the number of the refusal and 0
+abbrev pub foldedOf : ℕ → ℕ → Folded
+foldedOf n number = onDone number (record { number = 0; n = n - 1 }) (record { number = number; n = 0 })

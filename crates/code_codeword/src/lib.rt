@@ -1,0 +1,228 @@
+// The code, after code.rs: the shifts L(eps), the codeword of a table, and folds. A table of words is lent as u64 halves, two to a word,
+// the low half first. A refused call changes no lent byte.
+ghost use mathlib.Core.Path.{_≡_};
+ghost use Prim.Native.Nat.{_+_, _*_, _^_, _<_};
+ghost use lib.ListN.{length};
+ghost use Rattle.theory_laws.specs.Questions.{onDone};
+ghost use Rattle.theory_field.specs.Words.{words};
+ghost use Rattle.field_gf128.specs.Word.{word};
+ghost use Rattle.theory_multilinear.specs.Fold.{foldList};
+ghost use Rattle.theory_multilinear.specs.Codeword as C;
+ghost use Rattle.theory_code.specs.Questions.{shiftNumber, encodeNumber, foldNumber};
+ghost use Rattle.code_codeword.specs.Answers.{blockOf, foldedOf};
+ghost use Rattle.code_codeword.specs.helpers.Sizes.{ShiftSizes, EncodeSizes};
+
+pub mod sizes;
+
+use field_gf128::Word;
+use field_words::copy;
+use sizes::holds;
+use sizes::holds_half;
+use sizes::power;
+
+// ---- the shifts
+
+// Coordinate i of L(eps): the sum of the gammas (j, i) over the set bits j of eps.
+fn coordinate(n: usize, k: usize, eps: usize, gammas: &[u64], i: usize) -> Word
+    requires { ⌜ ShiftSizes n k (length (now gammas)) × (i < n) ⌝ }
+    ensures { λ r. ⌜ word r ≡ C.shiftAt n k (words (now (gammas .entry))) eps i ⌝ }
+{
+    let mut d = Word { lo: 0, hi: 0 };
+    let mut j = 0;
+    while j < k {
+        if (eps >> j) % 2 == 1 {
+            d = field_gf128::add(d, field_words::get(gammas, j * n + i));
+        }
+        j += 1;
+    }
+    d
+}
+
+// The number that `l_of` answers.
+fn l_of_number(n: usize, k: usize, gammas: usize, out: usize) -> u32
+    ensures { λ r. ⌜ r ≡ shiftNumber n k gammas out ⌝ }
+{
+    if n > 20 {
+        return 4;
+    }
+    if k > 4 {
+        return 4;
+    }
+    if gammas != 2 * (k * n) {
+        return 5;
+    }
+    if out != 2 * n {
+        return 5;
+    }
+    0
+}
+
+// L(eps), once the questions are answered.
+fn coordinates(n: usize, k: usize, eps: usize, gammas: &[u64], out: &mut [u64])
+    requires { ⌜ ShiftSizes n k (length (now gammas)) × (length (now out) ≡ 2 * n) ⌝ }
+    ensures { λ _. ⌜ words (now (out .exit)) ≡ C.shift n k (words (now (gammas .entry))) eps ⌝ }
+{
+    let mut i = 0;
+    while i < n {
+        let d = coordinate(n, k, eps, gammas, i);
+        field_words::put(out, i, d);
+        i += 1;
+    }
+}
+
+// L(eps), a point of n coordinates, of k × n gammas lent with j outer: of a codeword folded part way, the first n of each row. It
+// refuses n past 20 or k past 4 with 4, and lengths that are not theirs with 5.
+pub fn l_of(n: usize, k: usize, eps: usize, gammas: &[u64], out: &mut [u64]) -> u32
+    ensures { λ r. ⌜ r ≡ shiftNumber n k (length (now (gammas .entry))) (length (now (out .entry))) ⌝ }
+    ensures { λ r. ⌜ words (now (out .exit)) ≡ onDone r (C.shift n k (words (now (gammas .entry))) eps) (words (now (out .entry))) ⌝ }
+{
+    let number = l_of_number(n, k, gammas.len(), out.len());
+    if number != 0 {
+        return number;
+    }
+    coordinates(n, k, eps, gammas, out);
+    0
+}
+
+// ---- the codeword
+
+// Block eps of the codeword in place of the table: a pass for each coordinate of L(eps). `multiples` is room for the pass's products.
+fn shift_block(
+    n: usize,
+    k: usize,
+    eps: usize,
+    gammas: &[u64],
+    out: &mut [u64],
+    multiples: &mut [u64],
+)
+    requires { ⌜ ShiftSizes n k (length (now gammas)) × (length (now out) ≡ 2 * 2 ^ n) × (length (now multiples) ≡ 8192) ⌝ }
+    ensures { λ _. ⌜ words (now (out .exit)) ≡ blockOf n k (words (now (gammas .entry))) eps (words (now (out .entry))) ⌝ }
+{
+    let mut i = 0;
+    while i < n {
+        let d = coordinate(n, k, eps, gammas, i);
+        field_runs::pass(out, i as u64, d, multiples);
+        i += 1;
+    }
+}
+
+// Block eps of the codeword: block 0 is the table.
+fn encode_block(
+    n: usize,
+    k: usize,
+    eps: usize,
+    table: &[u64],
+    gammas: &[u64],
+    out: &mut [u64],
+    multiples: &mut [u64],
+)
+    requires { ⌜ EncodeSizes n k (length (now table)) (length (now gammas)) × (length (now out) ≡ 2 * 2 ^ n) × (length (now multiples) ≡ 8192) ⌝ }
+    ensures { λ _. ⌜ words (now (out .exit)) ≡ blockOf n k (words (now (gammas .entry))) eps (words (now (table .entry))) ⌝ }
+{
+    copy(table, out);
+    if eps != 0 {
+        shift_block(n, k, eps, gammas, out, multiples);
+    }
+}
+
+// The codeword, block after block, once the questions are answered.
+fn encode_blocks(n: usize, k: usize, table: &[u64], gammas: &[u64], out: &mut [u64])
+    requires { ⌜ EncodeSizes n k (length (now table)) (length (now gammas)) × (length (now out) ≡ 2 * 2 ^ (n + k)) ⌝ }
+    ensures { λ _. ⌜ words (now (out .exit)) ≡ C.encode n k (words (now (gammas .entry))) (words (now (table .entry))) ⌝ }
+{
+    let mut multiples = [0u64; 8192];
+    let size = table.len();
+    let count = power(k);
+    let mut eps = 0;
+    while eps < count {
+        let from = eps * size;
+        let to = from + size;
+        encode_block(n, k, eps, table, gammas, &mut out[from..to], &mut multiples);
+        eps += 1;
+    }
+}
+
+// The number that `encode` answers.
+fn encode_number(n: usize, k: usize, table: usize, gammas: usize, out: usize) -> u32
+    ensures { λ r. ⌜ r ≡ encodeNumber n k table gammas out ⌝ }
+{
+    if n > 20 {
+        return 4;
+    }
+    if k > 4 {
+        return 4;
+    }
+    if !holds(table, n) {
+        return 5;
+    }
+    if gammas != 2 * (k * n) {
+        return 5;
+    }
+    if !holds(out, n + k) {
+        return 5;
+    }
+    0
+}
+
+// The codeword of a table of 2^n words: entry eps × 2^n + v is P(v + L(eps)). It refuses n past 20 or k past 4 with 4, and lengths that
+// are not theirs with 5.
+pub fn encode(n: usize, k: usize, table: &[u64], gammas: &[u64], out: &mut [u64]) -> u32
+    ensures { λ r. ⌜ r ≡ encodeNumber n k (length (now (table .entry))) (length (now (gammas .entry))) (length (now (out .entry))) ⌝ }
+    ensures { λ r. ⌜ words (now (out .exit)) ≡ onDone r (C.encode n k (words (now (gammas .entry))) (words (now (table .entry)))) (words (now (out .entry))) ⌝ }
+{
+    let number = encode_number(n, k, table.len(), gammas.len(), out.len());
+    if number != 0 {
+        return number;
+    }
+    encode_blocks(n, k, table, gammas, out);
+    0
+}
+
+// ---- folds
+
+// What `fold` answers: the number, and the n of the folded codeword, 0 where it refused.
+pub struct Folded {
+    pub number: u32,
+    pub n: usize,
+}
+
+// The number that `fold` answers.
+fn fold_number(n: usize, k: usize, var: usize, src: usize, out: usize) -> u32
+    ensures { λ r. ⌜ r ≡ foldNumber n k var src out ⌝ }
+{
+    if n > 20 {
+        return 4;
+    }
+    if k > 4 {
+        return 4;
+    }
+    if !holds(src, n + k) {
+        return 5;
+    }
+    if !holds_half(out, n + k) {
+        return 5;
+    }
+    if var >= n {
+        return 6;
+    }
+    0
+}
+
+// The codeword folded at a variable by r, into a buffer of half its length: a + r × (a + b) for each pair of places that differ in
+// bit var. The new n is n - 1. It refuses n past 20 or k past 4 with 4, lengths that are not theirs with 5, and a variable that is
+// not below n with 6.
+pub fn fold(n: usize, k: usize, var: usize, r: Word, src: &[u64], out: &mut [u64]) -> Folded
+    ensures { λ a. ⌜ a ≡ foldedOf n (foldNumber n k var (length (now (src .entry))) (length (now (out .entry)))) ⌝ }
+    ensures { λ a. ⌜ words (now (out .exit)) ≡ onDone (a .number) (foldList var (word r) (words (now (src .entry)))) (words (now (out .entry))) ⌝ }
+{
+    let number = fold_number(n, k, var, src.len(), out.len());
+    if number != 0 {
+        return Folded { number, n: 0 };
+    }
+    let mut multiples = [0u64; 8192];
+    field_runs::fold(out, src, var as u64, r, &mut multiples);
+    Folded {
+        number: 0,
+        n: n - 1,
+    }
+}

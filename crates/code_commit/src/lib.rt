@@ -1,0 +1,85 @@
+// Committing a table, after eval.rs: its gammas, its codeword and level 0's tree, into three lent buffers. A refused call changes no
+// lent byte.
+pub mod trees;
+
+use code_codeword::sizes::holds;
+use trees::build_level;
+use trees::tree_bytes;
+ghost use mathlib.Core.Path.{_≡_};
+ghost use Rattle.theory_laws.specs.Questions.{onDone};
+ghost use Rattle.theory_field.specs.Words.{words};
+ghost use Rattle.theory_blake3.specs.Digest.{hash};
+ghost use Rattle.theory_code.specs.Gammas as G;
+ghost use Rattle.theory_record.specs.Widths.{present};
+ghost use Rattle.theory_claim.specs.Commit.{commitNumber, commitAnswer, codewordOf, committedTree};
+ghost use Rattle.theory_record.specs.Scheme.{scheme};
+
+// The number that `commit` answers.
+fn number(
+    n: usize,
+    k: usize,
+    base: usize,
+    table: usize,
+    gammas: usize,
+    codeword: usize,
+    tree: usize,
+) -> u32
+    ensures { λ r. ⌜ r ≡ commitNumber present n k base table gammas codeword tree ⌝ }
+{
+    if n > 20 {
+        return 4;
+    }
+    if k > 4 {
+        return 4;
+    }
+    if !holds(table, n) {
+        return 5;
+    }
+    if gammas != 2 * (k * n) {
+        return 5;
+    }
+    if !holds(codeword, n + k) {
+        return 5;
+    }
+    if tree != tree_bytes(n, k, 0) {
+        return 5;
+    }
+    if base > 200 {
+        return 7;
+    }
+    0
+}
+
+// The gammas of a base domain, the codeword of a table of 2^n words, and level 0's tree. It refuses n past 20 or k past 4 with 4,
+// lengths that are not theirs with 5, and a base domain of more than 200 bytes with 7.
+pub fn commit(
+    n: usize,
+    k: usize,
+    base: &[u8],
+    table: &[u64],
+    gammas: &mut [u64],
+    codeword: &mut [u64],
+    tree: &mut [u8],
+) -> u32
+    ensures { λ r. ⌜ r ≡ commitAnswer n k (now (base .entry)) (now (table .entry)) (now (gammas .entry)) (now (codeword .entry)) (now (tree .entry)) ⌝ }
+    ensures { λ r. ⌜ words (now (gammas .exit)) ≡ onDone r (G.gammas hash (now (base .entry)) n k) (words (now (gammas .entry))) ⌝ }
+    ensures { λ r. ⌜ words (now (codeword .exit)) ≡ onDone r (codewordOf (now (base .entry)) n k (now (table .entry))) (words (now (codeword .entry))) ⌝ }
+    ensures { λ r. ⌜ now (tree .exit) ≡ onDone r (committedTree (scheme (now (base .entry)) n k) (words (now (table .entry)))) (now (tree .entry)) ⌝ }
+{
+    let refusal = number(
+        n,
+        k,
+        base.len(),
+        table.len(),
+        gammas.len(),
+        codeword.len(),
+        tree.len(),
+    );
+    if refusal != 0 {
+        return refusal;
+    }
+    code_gamma::derive(n, k, base, gammas);
+    code_codeword::encode(n, k, table, gammas, codeword);
+    build_level(n, k, 0, base, codeword, tree);
+    0
+}

@@ -1,0 +1,42 @@
+-- A level's sizes, from its length and its width as code computes them.
+use Prim.Native.Nat.{ℕ, _+_, _-_, _*_, _/_, _%_, _^_, _<_, _≤_}
+use mathlib.Core.Path.{_≡_, refl, sym, _∙_, ap, ap₂}
+use native.Mathlib.Nat.{mod-eq-of-lt}
+use native.Mathlib.Omega.{arith}
+use lib.Pow.{pow-mono}
+use Rattle.theory_merkle.specs.Tree.{depthOf}
+use Rattle.theory_record.specs.Widths.{present, widthFor, levelLength, levelWidth, levelGroups, levelDepth}
+use Rattle.theory_laws.proofs.Questions.{all-yes}
+use Rattle.theory_record.specs.Query.{sizeQuestions}
+use Rattle.theory_record.proofs.Ranges.{SizesFit, sizes-fit}
+use Rattle.code_level.specs.helpers.Numbers.{sizeNumber}
+use Rattle.theory_record.proofs.Widths.{present-powers, level-shape, width-pos}
+
+-- the code's shift, which keeps 64 bits
+pub shifted : (n k l m : ℕ) → n + k ≤ 24 → m ≡ n + k - l → 1 * 2 ^ m % 2 ^ 64 ≡ levelLength n k l
+unfolding levelLength
+shifted n k l m h e =
+    let b : 2 ^ m ≤ 2 ^ 24 = pow-mono {i = m} {j = 24} (omega arith) in
+    let z : 1 * 2 ^ m ≡ 2 ^ m = omega arith in
+    rw (z, mod-eq-of-lt {n = 2 ^ m} {m = 2 ^ 64} (omega arith)) (ap (λ (i : ℕ). 2 ^ i) e)
+
+module _ (n k l x w : ℕ) where
+  pub level-width : (r : ℕ) → x ≡ levelLength n k l → r ≡ widthFor present x → r ≡ levelWidth present n k l
+  unfolding levelWidth
+  level-width r e f = f ∙ ap (widthFor present) e
+
+  pub width-positive : w ≡ levelWidth present n k l → 0 < w
+  width-positive e = rw e (width-pos present n k l (level-shape present n k l present-powers))
+
+  pub level-groups : x ≡ levelLength n k l → w ≡ levelWidth present n k l → x / w ≡ levelGroups present n k l
+  unfolding levelGroups
+  level-groups e f = ap₂ (λ (a b : ℕ). a / b) e f
+
+  pub level-depth : (r : ℕ) → x ≡ levelLength n k l → w ≡ levelWidth present n k l → r ≡ depthOf x w → r ≡ levelDepth present n k l
+  unfolding levelDepth
+  level-depth r e f g = g ∙ ap₂ (λ (a b : ℕ). depthOf a b) e f
+
+-- what question 4's yes settles
+pub sizes-said : (n k x : ℕ) → x ≡ sizeNumber n k → x ≡ 0 → SizesFit n k
+unfolding sizeNumber
+sizes-said n k x e z = sizes-fit n k (all-yes (sizeQuestions n k) tt (sym e ∙ z)) .0

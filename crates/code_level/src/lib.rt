@@ -1,0 +1,107 @@
+// The levels of a commitment: their widths, lengths, depths and domains. `fold_tree_width` is an entry; the other functions serve the
+// crates above and require.
+use bytes_numbers::put;
+use tree_place::depth_of;
+ghost use mathlib.Core.Path.{_≡_};
+ghost use Prim.Native.Nat.{_+_, _≤_, _<_};
+ghost use lib.ListN.{length};
+ghost use Rattle.bytes_numbers.specs.helpers.Put.{Put};
+ghost use Rattle.theory_record.specs.Widths.{present, widthFor, levelLength, levelWidth, levelGroups, levelDepth};
+ghost use Rattle.theory_record.specs.Domain.{digit, decimal, levelDomain};
+ghost use Rattle.code_level.specs.helpers.Numbers.{sizeNumber};
+
+// How many bytes the longest level domain has, `domainRoom` of the definitions: a base domain of 200, "/level/" and two digits.
+pub const DOMAIN: usize = 209;
+
+// The width of the groups of a tree over this many values: 8 from length 16, 2 from length 2, else 1.
+pub fn fold_tree_width(len: usize) -> usize
+    ensures { λ r. ⌜ r ≡ widthFor present len ⌝ }
+{
+    if len >= 16 {
+        return 8;
+    }
+    if len >= 2 {
+        return 2;
+    }
+    1
+}
+
+// Question 4, for records: is n from 1 to 20 and k at most 4?
+pub fn size_number(n: usize, k: usize) -> u32
+    ensures { λ r. ⌜ r ≡ sizeNumber n k ⌝ }
+{
+    if n > 20 {
+        return 4;
+    }
+    if k > 4 {
+        return 4;
+    }
+    if n < 1 {
+        return 4;
+    }
+    0
+}
+
+// How many values level l has.
+pub fn level_length(n: usize, k: usize, l: usize) -> usize
+    requires { ⌜ (n + k ≤ 24) × (l ≤ n) ⌝ }
+    ensures { λ r. ⌜ r ≡ levelLength n k l ⌝ }
+{
+    1 << (n + k - l)
+}
+
+// The width of its groups.
+pub fn level_width(n: usize, k: usize, l: usize) -> usize
+    requires { ⌜ (n + k ≤ 24) × (l ≤ n) ⌝ }
+    ensures { λ r. ⌜ r ≡ levelWidth present n k l ⌝ }
+{
+    fold_tree_width(level_length(n, k, l))
+}
+
+// How many groups it has.
+pub fn level_groups(n: usize, k: usize, l: usize) -> usize
+    requires { ⌜ (n + k ≤ 24) × (l ≤ n) ⌝ }
+    ensures { λ r. ⌜ r ≡ levelGroups present n k l ⌝ }
+{
+    level_length(n, k, l) / level_width(n, k, l)
+}
+
+// How many digests a path of its tree has.
+pub fn level_depth(n: usize, k: usize, l: usize) -> usize
+    requires { ⌜ (n + k ≤ 24) × (l ≤ n) ⌝ }
+    ensures { λ r. ⌜ r ≡ levelDepth present n k l ⌝ }
+{
+    depth_of(level_length(n, k, l), level_width(n, k, l))
+}
+
+// The ASCII code of a digit.
+fn digit_of(d: usize) -> u8
+    requires { ⌜ d < 10 ⌝ }
+    ensures { λ r. ⌜ r ≡ digit d ⌝ }
+{
+    48 + d as u8
+}
+
+// A number below 100 in decimal, without leading zeros.
+fn put_decimal(out: &mut [u8], from: usize, x: usize) -> usize
+    requires { ⌜ (x < 100) × (from + 2 ≤ length (now out)) ⌝ }
+    ensures { λ r. ⌜ Put (now (out .entry)) from (length (decimal x)) (decimal x) (now (out .exit)) r ⌝ }
+{
+    if x < 10 {
+        out[from] = digit_of(x);
+        return from + 1;
+    }
+    out[from] = digit_of(x / 10);
+    out[from + 1] = digit_of(x % 10);
+    from + 2
+}
+
+// The domain of level l: the base domain, "/level/", the level in decimal.
+pub fn level_domain(out: &mut [u8], base: &[u8], l: usize) -> usize
+    requires { ⌜ (l < 100) × (length (now base) + 9 ≤ length (now out)) ⌝ }
+    ensures { λ r. ⌜ Put (now (out .entry)) 0 (length (levelDomain (now (base .entry)) l)) (levelDomain (now (base .entry)) l) (now (out .exit)) r ⌝ }
+{
+    let a = put(out, 0, base);
+    let b = put(out, a, b"/level/");
+    put_decimal(out, b, l)
+}

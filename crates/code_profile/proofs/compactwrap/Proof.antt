@@ -1,0 +1,13 @@
+use mathlib.Core.Path.{refl}
+use Rattle.theory_record.specs.Profiles.{parametersOf, fieldsOf}
+use Rattle.code_profile.proofs.compactwrap.Statement.{statement}
+use Rattle.code_profile.proofs.compactwrap.Tie as tie
+use Rattle.code_profile.proofs.compactwrap.Reads as reads
+use Rattle.code_profile.proofs.compactwrap.Lts as lts
+
+returns : tie.Need-returns
+unfolding parametersOf fieldsOf
+returns c = refl
+
+pub compactwrap-spec : {M : Type 1} → statement M
+compactwrap-spec = tie.close (tie.spec returns)

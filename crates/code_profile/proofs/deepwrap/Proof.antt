@@ -1,0 +1,13 @@
+use mathlib.Core.Path.{refl}
+use Rattle.theory_record.specs.Profiles.{parametersOf, fieldsOf}
+use Rattle.code_profile.proofs.deepwrap.Statement.{statement}
+use Rattle.code_profile.proofs.deepwrap.Tie as tie
+use Rattle.code_profile.proofs.deepwrap.Reads as reads
+use Rattle.code_profile.proofs.deepwrap.Lts as lts
+
+returns : tie.Need-returns
+unfolding parametersOf fieldsOf
+returns c = refl
+
+pub deepwrap-spec : {M : Type 1} → statement M
+deepwrap-spec = tie.close (tie.spec returns)

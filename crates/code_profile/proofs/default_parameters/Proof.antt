@@ -1,0 +1,13 @@
+use mathlib.Core.Path.{refl}
+use Rattle.theory_record.specs.Profiles.{defaultParameters, fieldsOf}
+use Rattle.code_profile.proofs.default_parameters.Statement.{statement}
+use Rattle.code_profile.proofs.default_parameters.Tie as tie
+use Rattle.code_profile.proofs.default_parameters.Reads as reads
+use Rattle.code_profile.proofs.default_parameters.Lts as lts
+
+returns : tie.Need-returns
+unfolding defaultParameters fieldsOf
+returns c = refl
+
+pub default-parameters-spec : {M : Type 1} → statement M
+default-parameters-spec = tie.close (tie.spec returns)

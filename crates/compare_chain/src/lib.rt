@@ -1,0 +1,117 @@
+// The messages that are hashed on the way from a group of a record to the root, end to end in a lent buffer, the root's last. These are
+// helpers for the crates above: each requires that its bytes fit.
+use bytes_numbers::put;
+use bytes_reader::digest_at;
+use record_opening::group_values;
+use tree_digest::digest;
+use tree_message::leaf_prefix;
+use tree_message::leaf_rest;
+use tree_message::node_prefix;
+use tree_message::node_rest;
+use tree_place::Group;
+use tree_place::Place;
+use tree_place::group_of;
+use tree_walk::children;
+ghost use mathlib.Core.Path.{_≡_};
+ghost use Prim.Native.Nat.{_+_, _*_, _≤_};
+ghost use lib.ListN.{length};
+ghost use Rattle.compare_chain.specs.helpers.Nodes.{LeafNoted, LeafRoom, NodeNoted, nodesInto, chainInto, ChainRoom};
+
+// The leaf message of the group whose values stand from a place of a record on; its digest.
+fn put_leaf(
+    out: &mut [u8],
+    domain: &[u8],
+    count: usize,
+    width: usize,
+    group: Group,
+    s: &[u8],
+    from: usize,
+) -> [u8; 32]
+    requires { ⌜ LeafRoom (length (now domain)) width (length (now s)) from (length (now out)) ⌝ }
+    ensures { λ r. ⌜ LeafNoted (now (out .entry)) (now (domain .entry)) count width (group .0) (now (s .entry)) from (now (out .exit)) r ⌝ }
+{
+    let values = group_values(s, from, width);
+    let prefix = leaf_prefix(out, domain, count, width);
+    let n = leaf_rest(out, prefix, width, group.0, &values[..2 * width]);
+    digest(&out[..n])
+}
+
+// The node message of a digest, number g of its level, and its sibling; its digest.
+fn put_node(
+    out: &mut [u8],
+    at: usize,
+    domain: &[u8],
+    level: usize,
+    g: usize,
+    d: [u8; 32],
+    sibling: [u8; 32],
+) -> [u8; 32]
+    requires { ⌜ (length (now domain) ≤ 255) × (at + (136 + length (now domain)) ≤ length (now out)) ⌝ }
+    ensures { λ r. ⌜ NodeNoted (now (out .entry)) at (now (domain .entry)) level g d sibling (now (out .exit)) r ⌝ }
+{
+    let c = children(g, d, sibling);
+    let l = c.left;
+    let r = c.right;
+    let mut message = [0u8; tree_message::NODE_MESSAGE];
+    let prefix = node_prefix(&mut message, domain, level);
+    let n = node_rest(&mut message, prefix, l, r);
+    put(out, at, &message[..n]);
+    digest(&message[..n])
+}
+
+// The node messages on the way of a leaf digest, by its number, along the digests that stand from a place of a record on.
+fn put_nodes(
+    out: &mut [u8],
+    from: usize,
+    domain: &[u8],
+    group: usize,
+    leaf: [u8; 32],
+    s: &[u8],
+    path: usize,
+    depth: usize,
+)
+    requires { ⌜ (length (now domain) ≤ 255) × (path + 32 * depth ≤ length (now s)) × (from + (136 + length (now domain)) * depth ≤ length (now out)) ⌝ }
+    ensures { λ _. ⌜ now (out .exit) ≡ nodesInto (now (out .entry)) from (now (domain .entry)) group leaf (now (s .entry)) path depth ⌝ }
+{
+    let mut at = from;
+    let mut d = leaf;
+    let mut g = group;
+    let mut l: usize = 0;
+    while l < depth {
+        let e = digest_at(s, path + 32 * l);
+        let p = put_node(out, at, domain, l, g, d, e);
+        d = p;
+        at += 136 + domain.len();
+        g = g / 2;
+        l += 1;
+    }
+}
+
+// The messages from the group of a place, whose values stand from one place of a record on, along the path from another.
+pub fn put_chain(
+    out: &mut [u8],
+    domain: &[u8],
+    count: usize,
+    width: usize,
+    place: Place,
+    s: &[u8],
+    from: usize,
+    path: usize,
+    depth: usize,
+)
+    requires { ⌜ ChainRoom (length (now domain)) width (length (now s)) from path depth (length (now out)) ⌝ }
+    ensures { λ _. ⌜ now (out .exit) ≡ chainInto (now (out .entry)) (now (domain .entry)) count width (place .0) (now (s .entry)) from path depth ⌝ }
+{
+    let g = group_of(place, width);
+    let d = put_leaf(out, domain, count, width, g, s, from);
+    put_nodes(
+        out,
+        97 + domain.len() + 16 * width,
+        domain,
+        g.0,
+        d,
+        s,
+        path,
+        depth,
+    );
+}

@@ -1,0 +1,73 @@
+-- The questions put to what is lent, in the order of the code.
+use Prim.Native.Nat.{ℕ, _+_, _-_, _*_, _^_, _<_, _≤_}
+use mathlib.Core.Path.{_≡_, sym, _∙_, ap}
+use native.Mathlib.Omega.{arith}
+use borrow.Author.Tests.{eq-eqb, ne-eqb, le-leb, lt-leb, le-ltb, lt-ltb}
+use Rattle.theory_laws.specs.Questions.{firstNo}
+use Rattle.theory_laws.proofs.Questions.{first-stops, first-passes}
+use Rattle.code_level.specs.helpers.Numbers.{sizeNumber}
+use Rattle.theory_record.specs.Widths.{levelLength}
+use Rattle.theory_record.specs.Query.{sizeQuestions}
+use Rattle.compare_records.specs.helpers.Numbers.{lengthQuestions, lentNumber}
+
+-- a position is below the length of level 0
+first-length : (n k len : ℕ) → len ≡ levelLength n k 0 → 2 ^ (n + k) ≡ len
+unfolding levelLength
+first-length n k len e = ap (λ (i : ℕ). 2 ^ i) {x = n + k} {y = n + k - 0} (omega arith) ∙ sym e
+
+module _ (base n k position challenges roots first second x : ℕ) (ex : x ≡ sizeNumber n k) where
+  pub wrong-size : (x ≡ 0 → ⊥) → x ≡ lentNumber base n k position challenges roots first second
+  unfolding lentNumber sizeNumber
+  wrong-size z = first-stops (sizeQuestions n k) (lengthQuestions base n k position challenges roots first second) x tt ex z
+
+  module _ (z : x ≡ 0) where
+    passes : (r : ℕ) → r ≡ firstNo (lengthQuestions base n k position challenges roots first second)
+        → r ≡ lentNumber base n k position challenges roots first second
+    unfolding lentNumber sizeNumber
+    passes r f = first-passes (sizeQuestions n k) (lengthQuestions base n k position challenges roots first second) x tt ex r z f
+
+    pub wrong-challenges : (challenges ≡ 2 * n → ⊥) → 5 ≡ lentNumber base n k position challenges roots first second
+    wrong-challenges e = passes 5 (rw (ne-eqb challenges (2 * n) e))
+
+    module _ (a : challenges ≡ 2 * n) where
+      pub wrong-roots : (roots ≡ 32 * (n + 1) → ⊥) → 5 ≡ lentNumber base n k position challenges roots first second
+      wrong-roots e = passes 5 (rw (eq-eqb challenges (2 * n) a, ne-eqb roots (32 * (n + 1)) e))
+
+      module _ (b : roots ≡ 32 * (n + 1)) where
+        pub wrong-first : (first ≡ 512 → ⊥) → 5 ≡ lentNumber base n k position challenges roots first second
+        wrong-first e = passes 5 (rw (eq-eqb challenges (2 * n) a, eq-eqb roots (32 * (n + 1)) b, ne-eqb first 512 e))
+
+        module _ (c : first ≡ 512) where
+          pub wrong-second : (second ≡ 512 → ⊥) → 5 ≡ lentNumber base n k position challenges roots first second
+          wrong-second e = passes 5 (rw (eq-eqb challenges (2 * n) a, eq-eqb roots (32 * (n + 1)) b, eq-eqb first 512 c, ne-eqb second 512 e))
+
+          module _ (d : second ≡ 512) where
+            pub long-base : 200 < base → 7 ≡ lentNumber base n k position challenges roots first second
+            long-base e = passes 7 (rw (eq-eqb challenges (2 * n) a, eq-eqb roots (32 * (n + 1)) b, eq-eqb first 512 c, eq-eqb second 512 d, lt-leb base 200 e))
+
+            module _ (f : base ≤ 200) (len : ℕ) (el : len ≡ levelLength n k 0) where
+              pub high-position : len ≤ position → 11 ≡ lentNumber base n k position challenges roots first second
+              high-position e =
+                  passes 11
+                  (rw (
+                    eq-eqb challenges (2 * n) a,
+                    eq-eqb roots (32 * (n + 1)) b,
+                    eq-eqb first 512 c,
+                    eq-eqb second 512 d,
+                    le-leb base 200 f,
+                    first-length n k len el,
+                    le-ltb position len e,
+                  ))
+
+              pub none-says-no : position < len → 0 ≡ lentNumber base n k position challenges roots first second
+              none-says-no e =
+                  passes 0
+                  (rw (
+                    eq-eqb challenges (2 * n) a,
+                    eq-eqb roots (32 * (n + 1)) b,
+                    eq-eqb first 512 c,
+                    eq-eqb second 512 d,
+                    le-leb base 200 f,
+                    first-length n k len el,
+                    lt-ltb position len e,
+                  ))

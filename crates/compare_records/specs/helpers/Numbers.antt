@@ -1,0 +1,41 @@
+-- The questions put to a comparison in two parts, what is lent and the records, and its answer. Rests on comparing.
+use Prim.Native.Nat.{ℕ, _+_, _*_, _^_}
+use mathlib.Core.Bool.{not}
+use mathlib.Core.List.{List, [], _∷_, _++_}
+use lib.Dec.{leb, ltb, eqb}
+use Rattle.theory_laws.specs.Questions.{Question, _asks_, firstNo}
+use Rattle.theory_laws.specs.Lists.{same}
+use Rattle.theory_record.specs.Query.{sizeQuestions}
+use Rattle.theory_compare.specs.Compare.{accepts, Comparison, messageBuffer}
+use Rattle.compare_records.specs.declared.Compared.{Compared}
+use Rattle.theory_record.specs.Scheme.{scheme}
+
+-- 5, 7 and 11, of lengths
+abbrev pub lengthQuestions : ℕ → ℕ → ℕ → ℕ → ℕ → ℕ → ℕ → ℕ → List Question
+lengthQuestions base n k position challenges roots first second =
+    (5 asks eqb challenges (2 * n)) ∷
+    (5 asks eqb roots (32 * (n + 1))) ∷
+    (5 asks eqb first messageBuffer) ∷
+    (5 asks eqb second messageBuffer) ∷
+    (7 asks leb base 200) ∷
+    (11 asks ltb position (2 ^ (n + k))) ∷
+    []
+
+-- 4, 5, 7 and 11
+unfoldable pub lentNumber : ℕ → ℕ → ℕ → ℕ → ℕ → ℕ → ℕ → ℕ → ℕ
+lentNumber base n k position challenges roots first second = firstNo (sizeQuestions n k ++ lengthQuestions base n k position challenges roots first second)
+
+-- 32 and 33
+abbrev pub recordQuestions : List ℕ → ℕ → ℕ → ℕ → List ℕ → List ℕ → List ℕ → List ℕ → List Question
+recordQuestions base n k position challenges roots first second =
+    (32 asks accepts (scheme base n k) position challenges roots first) ∷
+    (32 asks accepts (scheme base n k) position challenges roots second) ∷
+    (33 asks not (same first second)) ∷
+    []
+
+unfoldable pub recordsNumber : List ℕ → ℕ → ℕ → ℕ → List ℕ → List ℕ → List ℕ → List ℕ → ℕ
+recordsNumber base n k position challenges roots first second = firstNo (recordQuestions base n k position challenges roots first second)
+
+-- the answer, as comparing has it
+abbrev pub comparison : Compared → Comparison
+comparison r = record { number = r .number; first = r .first; second = r .second }

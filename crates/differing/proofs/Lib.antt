@@ -1,4 +1,0 @@
-pub mod Same
-pub mod Buffers
-pub mod Picked
-pub mod Chains

@@ -1,0 +1,61 @@
+// Committing a table, and folding a codeword.
+use field_gf128::Word;
+ghost use mathlib.Core.Path.{_≡_};
+ghost use lib.ListN.{length};
+ghost use Rattle.theory_laws.specs.Questions.{onDone};
+ghost use Rattle.theory_field.specs.Words.{words};
+ghost use Rattle.field_gf128.specs.Word.{word};
+ghost use Rattle.theory_blake3.specs.Digest.{hash};
+ghost use Rattle.theory_multilinear.specs.Fold.{foldList};
+ghost use Rattle.theory_code.specs.Questions.{foldNumber};
+ghost use Rattle.code_codeword.specs.Answers.{foldedOf};
+ghost use Rattle.theory_code.specs.Gammas as G;
+ghost use Rattle.theory_claim.specs.Commit.{commitAnswer, codewordOf, committedTree};
+ghost use Rattle.export_dequmlo.specs.Answers.{folded};
+ghost use Rattle.theory_record.specs.Scheme.{scheme};
+
+// The gammas of a base domain, the codeword of a table of 2^n words, and level 0's tree: 4, 5, 7.
+#[no_mangle]
+pub extern "C" fn dequmlo_commit(
+    n: usize,
+    k: usize,
+    base: &[u8],
+    table: &[u64],
+    gammas: &mut [u64],
+    codeword: &mut [u64],
+    tree: &mut [u8],
+) -> u32
+    ensures { λ r. ⌜ r ≡ commitAnswer n k (now (base .entry)) (now (table .entry)) (now (gammas .entry)) (now (codeword .entry)) (now (tree .entry)) ⌝ }
+    ensures { λ r. ⌜ words (now (gammas .exit)) ≡ onDone r (G.gammas hash (now (base .entry)) n k) (words (now (gammas .entry))) ⌝ }
+    ensures { λ r. ⌜ words (now (codeword .exit)) ≡ onDone r (codewordOf (now (base .entry)) n k (now (table .entry))) (words (now (codeword .entry))) ⌝ }
+    ensures { λ r. ⌜ now (tree .exit) ≡ onDone r (committedTree (scheme (now (base .entry)) n k) (words (now (table .entry)))) (now (tree .entry)) ⌝ }
+{
+    code_commit::commit(n, k, base, table, gammas, codeword, tree)
+}
+
+// The number, and the n of the folded codeword, 0 where it is refused.
+#[repr(C)]
+pub struct Folded {
+    pub number: u32,
+    pub n: usize,
+}
+
+// The codeword folded at a variable by r, into a buffer of half its length: 4, 5, 6.
+#[no_mangle]
+pub extern "C" fn dequmlo_fold(
+    n: usize,
+    k: usize,
+    var: usize,
+    r: Word,
+    codeword: &[u64],
+    out: &mut [u64],
+) -> Folded
+    ensures { λ a. ⌜ folded a ≡ foldedOf n (foldNumber n k var (length (now (codeword .entry))) (length (now (out .entry)))) ⌝ }
+    ensures { λ a. ⌜ words (now (out .exit)) ≡ onDone (a .number) (foldList var (word r) (words (now (codeword .entry)))) (words (now (out .entry))) ⌝ }
+{
+    let a = code_codeword::fold(n, k, var, r, codeword, out);
+    Folded {
+        number: a.number,
+        n: a.n,
+    }
+}

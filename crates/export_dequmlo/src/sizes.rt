@@ -1,0 +1,49 @@
+// The sizes of every buffer that n and k fix, so that a caller can lend what question 5 asks for.
+ghost use mathlib.Core.Path.{_≡_};
+ghost use Rattle.export_dequmlo.specs.Sizes.{sizesOf};
+
+// Words of the table, the gammas, the codeword and all levels; bytes of level 0's tree, of all trees, and of a query and a tail record.
+#[repr(C)]
+pub struct Sizes {
+    pub number: u32,
+    pub table: usize,
+    pub gammas: usize,
+    pub codeword: usize,
+    pub tree: usize,
+    pub levels: usize,
+    pub trees: usize,
+    pub query: usize,
+    pub tail: usize,
+}
+
+// The sizes of a seal: 4 where n is not from 1 to 20 or k is above 4.
+#[no_mangle]
+pub extern "C" fn dequmlo_sizes(n: usize, k: usize) -> Sizes
+    ensures { λ r. ⌜ r ≡ sizesOf n k ⌝ }
+{
+    let number = code_level::size_number(n, k);
+    if number != 0 {
+        return Sizes {
+            number,
+            table: 0,
+            gammas: 0,
+            codeword: 0,
+            tree: 0,
+            levels: 0,
+            trees: 0,
+            query: 0,
+            tail: 0,
+        };
+    }
+    Sizes {
+        number: 0,
+        table: code_codeword::sizes::power(n),
+        gammas: k * n,
+        codeword: code_level::level_length(n, k, 0),
+        tree: code_commit::trees::tree_bytes(n, k, 0),
+        levels: record_query_build::levels_length(n, k),
+        trees: record_query_build::trees_size(n, k),
+        query: record_query_build::query_size(n, k),
+        tail: record_tail_build::tail_size(n, k),
+    }
+}

@@ -1,0 +1,62 @@
+// Trees over groups of words: built, opened at a place, and the root that a group and a path lead to.
+use hash_hasher::whole::Digested;
+use tree_place::Place;
+ghost use mathlib.Core.Path.{_≡_};
+ghost use lib.ListN.{length};
+ghost use Rattle.theory_merkle.specs.Numbers.{buildNumber, openNumber};
+ghost use Rattle.tree_build.specs.Built.{builtInto};
+ghost use Rattle.tree_path.specs.Answers.{openedInto, rootAnswer};
+ghost use Rattle.theory_record.specs.Widths.{present, widthFor};
+
+// The width of the groups of a level of this many values: 8 from length 16, 2 from length 2, else 1.
+#[no_mangle]
+pub extern "C" fn dequmlo_fold_tree_width(length: usize) -> usize
+    ensures { λ r. ⌜ r ≡ widthFor present length ⌝ }
+{
+    code_level::fold_tree_width(length)
+}
+
+// The tree over groups of words, leaves first, 2 × groups - 1 digests: 7, 8, 9, 10, 5.
+#[no_mangle]
+pub extern "C" fn dequmlo_tree(
+    domain: &[u8],
+    count: usize,
+    width: usize,
+    values: &[u64],
+    tree: &mut [u8],
+) -> u32
+    ensures { λ r. ⌜ r ≡ buildNumber (length (now (domain .entry))) count width (length (now (values .entry))) (length (now (tree .entry))) ⌝ }
+    ensures { λ _. ⌜ now (tree .exit) ≡ builtInto (now (domain .entry)) count width (now (values .entry)) (now (tree .entry)) ⌝ }
+{
+    tree_build::build(domain, count, width, values, tree)
+}
+
+// The path of the group that holds a place, off a tree that `dequmlo_tree` built: 8, 9, 10, 11, 5.
+#[no_mangle]
+pub extern "C" fn dequmlo_open(
+    count: usize,
+    width: usize,
+    place: usize,
+    tree: &[u8],
+    path: &mut [u8],
+) -> u32
+    ensures { λ r. ⌜ r ≡ openNumber count width place (length (now (tree .entry))) (length (now (path .entry))) ⌝ }
+    ensures { λ _. ⌜ now (path .exit) ≡ openedInto count width place (now (tree .entry)) (now (path .entry)) ⌝ }
+{
+    tree_path::open(count, width, Place(place), tree, path)
+}
+
+// The root that the group of a place and a path lead to: 7, 8, 9, 10, 11, 12, 5.
+#[no_mangle]
+pub extern "C" fn dequmlo_root_of_path(
+    domain: &[u8],
+    count: usize,
+    width: usize,
+    place: usize,
+    values: &[u64],
+    path: &[u8],
+) -> Digested
+    ensures { λ r. ⌜ r ≡ rootAnswer (now (domain .entry)) count width place (now (values .entry)) (now (path .entry)) ⌝ }
+{
+    tree_path::root_of_path(domain, count, width, Place(place), values, path)
+}

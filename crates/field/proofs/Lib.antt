@@ -1,7 +1,0 @@
-pub mod Product
-pub mod Powers
-pub mod LongProduct
-pub mod Square
-pub mod Inverse
-pub mod Spread
-pub mod Words

@@ -1,0 +1,48 @@
+-- `words::put` meets its contract.
+use Rattle.field_gf128.specs.Word.{word}
+use Rattle.theory_field.proofs.Words.{set-words}
+use borrow.Author.Needs.{needs}
+use Rattle.field_words.proofs.put.Statement.{statement}
+use Rattle.field_words.proofs.put.Tie as tie
+
+mul-s : tie.Need-mul-s
+mul-s c = search needs
+
+mul-s-2 : tie.Need-mul-s-2
+mul-s-2 c = search needs
+
+slice-write-s : tie.Need-slice-write-s
+slice-write-s c = search needs
+
+mul-s-3 : tie.Need-mul-s-3
+mul-s-3 c = search needs
+
+add-s : tie.Need-add-s
+add-s c = search needs
+
+mul-s-4 : tie.Need-mul-s-4
+mul-s-4 c = search needs
+
+slice-write-s-2 : tie.Need-slice-write-s-2
+slice-write-s-2 c = search needs
+
+same-length : tie.Need-same-length
+same-length c = search needs
+
+returns : tie.Need-returns
+unfolding word
+returns c = set-words (c .args .s .now) (c .args .k) (c .args .w .lo) (c .args .w .hi) (c .pre)
+
+pub put-spec : {M : Type 1} → statement M
+put-spec =
+    tie.close
+    (tie.spec
+    mul-s
+    mul-s-2
+    slice-write-s
+    mul-s-3
+    add-s
+    mul-s-4
+    slice-write-s-2
+    same-length
+    returns)

@@ -1,2 +1,0 @@
-pub mod Gammas
-pub mod Questions

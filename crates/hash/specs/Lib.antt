@@ -1,4 +1,0 @@
-pub mod Whole
-pub mod Hasher
-pub mod Sequence
-pub mod Walk

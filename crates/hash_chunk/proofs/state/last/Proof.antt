@@ -1,0 +1,30 @@
+-- `chunk::state::last` meets its contract.
+use native.Mathlib.Omega.{arith}
+use Rattle.hash_node.specs.helpers.Node.{outOf}
+use Rattle.hash_chunk.proofs.Feed.{block-length, last-law}
+use borrow.Author.Needs.{needs}
+use Rattle.hash_chunk.proofs.state.last.Statement.{statement}
+use Rattle.hash_chunk.proofs.state.last.Tie as tie
+
+slice-aggregate-last-words : tie.Need-slice-aggregate-last-words
+slice-aggregate-last-words c = search needs
+
+last-words-requires : tie.Need-last-words-requires
+last-words-requires c κs = omega (arith, block-length (c .before .before .before .args .s) _ (c .before .before .before .good .0))
+
+start-flag-requires : tie.Need-start-flag-requires
+start-flag-requires c κs = search needs
+
+cast-t9 : tie.Need-cast-t9
+cast-t9 c = search needs
+
+returns : tie.Need-returns
+unfolding outOf
+returns c =
+    let s = c .before .before .before .before .before .before .args .s in
+    λ x. last-law s _ _ x (omega (arith, block-length s _ (c .before .before .before .before .before .before .good .0))) (c .before .before .last-words .ensures) (c .before .start-flag .ensures)
+
+pub last-spec : {M : Type 1} → statement M
+last-spec =
+    tie.close
+    (tie.spec slice-aggregate-last-words last-words-requires start-flag-requires cast-t9 returns)

@@ -1,0 +1,4 @@
+pub mod Whole
+pub mod Hasher
+pub mod Sequence
+pub mod helpers

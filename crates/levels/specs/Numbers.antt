@@ -1,7 +1,0 @@
--- The number of question 4, for records: the first of its parts that says no.
-use Prim.Native.Nat.{ℕ}
-use Rattle.laws.specs.Questions.{firstNo}
-use Rattle.record.specs.Query.{sizeQuestions}
-
-unfoldable pub sizeNumber : ℕ → ℕ → ℕ
-sizeNumber n k = firstNo (sizeQuestions n k)

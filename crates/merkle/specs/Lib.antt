@@ -1,5 +1,0 @@
-pub mod Message
-pub mod Tree
-pub mod Shape
-pub mod Binding
-pub mod Questions

@@ -1,9 +1,0 @@
-pub mod Equality
-pub mod Points
-pub mod Multilinear
-pub mod Fold
-pub mod Folds
-pub mod Codeword
-pub mod Levels
-pub mod Phi
-pub mod Partials

@@ -1,9 +1,0 @@
-pub mod Widths
-pub mod Domain
-pub mod Trees
-pub mod Profiles
-pub mod Format
-pub mod Sizes
-pub mod Query
-pub mod Tail
-pub mod Build

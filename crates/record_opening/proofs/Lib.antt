@@ -1,0 +1,5 @@
+pub mod Values
+pub mod Levels
+pub mod Numbers
+pub mod Words
+pub mod Again

@@ -1,0 +1,63 @@
+use Rattle.theory_record.proofs.Widths.{present-powers}
+use native.Mathlib.Omega.{arith}
+use Rattle.tree_digest.proofs.Messages.{message-length, prefix-is}
+use Rattle.record_opening.proofs.Levels.{width-most, sized-room, domain-room, leads-is}
+use borrow.Author.Needs.{needs}
+use Rattle.record_opening.proofs.leads_to.Statement.{statement}
+use Rattle.record_opening.proofs.leads_to.Tie as tie
+use Rattle.record_opening.proofs.leads_to.Reads as reads
+use Rattle.record_opening.proofs.leads_to.Lts as lts
+use Rattle.code_level.proofs.level_depth.Reads as level-depth-reads
+use Rattle.code_level.proofs.level_domain.Reads as level-domain-reads
+use Rattle.code_level.proofs.level_length.Reads as level-length-reads
+use Rattle.code_level.proofs.level_width.Reads as level-width-reads
+use Rattle.record_opening.proofs.root_from.Reads as root-from-reads
+
+slice-aggregate-level-domain : tie.Need-slice-aggregate-level-domain
+slice-aggregate-level-domain c = search needs
+
+level-domain-requires : tie.Need-level-domain-requires
+level-domain-requires c κs = search needs
+
+level-length-requires : tie.Need-level-length-requires
+level-length-requires c κs = search needs
+
+level-width-requires : tie.Need-level-width-requires
+level-width-requires c κs = search needs
+
+level-depth-requires : tie.Need-level-depth-requires
+level-depth-requires c κs = search needs
+
+array-share-prefix-domain : tie.Need-array-share-prefix-domain
+array-share-prefix-domain c = let h = sized-room _ present-powers (width-most _ _) _ _ _ _ (c .before .before .before .before .before .before .before .before .pre) in search needs
+
+slice-aggregate-root-from : tie.Need-slice-aggregate-root-from
+slice-aggregate-root-from c = let h = sized-room _ present-powers (width-most _ _) _ _ _ _ (c .before .before .before .before .before .before .before .before .before .pre) in message-length _ _ _ _ _ _ (c .before .before .before .before .before .level-domain .ensures) (omega arith)
+
+add-root-from : tie.Need-add-root-from
+add-root-from c = let h = sized-room _ present-powers (width-most _ _) _ _ _ _ (c .before .before .before .before .before .before .before .before .before .pre) in search needs
+
+add-root-from-2 : tie.Need-add-root-from-2
+add-root-from-2 c = let h = sized-room _ present-powers (width-most _ _) _ _ _ _ (c .before .before .before .before .before .before .before .before .before .pre) in search needs
+
+root-from-requires : tie.Need-root-from-requires
+root-from-requires c κs = let h = sized-room _ present-powers (width-most _ _) _ _ _ _ (c .before .before .before .before .before .before .before .before .before .pre) in (domain-room _ _ _ _ _ (c .before .before .before .before .before .level-domain .ensures) (omega arith) (h .domain-short), omega arith, omega arith, omega arith, omega arith)
+
+returns : tie.Need-returns
+returns c = let p = c .before .before .before .before .before .before .before .before .before .before .pre in let h = sized-room _ present-powers (width-most _ _) _ _ _ _ p in leads-is _ _ _ _ _ _ _ _ _ _ _ p (c .root-from .ensures) (prefix-is _ _ _ _ _ (c .before .before .before .before .before .before .level-domain .ensures) (omega arith)) (c .before .before .before .before .level-length .ensures) (c .before .before .before .level-width .ensures) (c .before .before .level-depth .ensures)
+
+pub leads-to-spec : {M : Type 1} → statement M
+leads-to-spec =
+    tie.close
+    (tie.spec
+    slice-aggregate-level-domain
+    level-domain-requires
+    level-length-requires
+    level-width-requires
+    level-depth-requires
+    array-share-prefix-domain
+    slice-aggregate-root-from
+    add-root-from
+    add-root-from-2
+    root-from-requires
+    returns)

@@ -1,0 +1,245 @@
+// The root that a group and a path of a record lead to, and the questions put to both. These are helpers for the crates above: each
+// requires that what it reads is in the record.
+use bytes_numbers::same_bytes;
+use bytes_reader::digest_at;
+use code_level::DOMAIN;
+use code_level::level_depth;
+use code_level::level_domain;
+use code_level::level_length;
+use code_level::level_width;
+use field_gf128::Word;
+use record_reader::count_at;
+use record_reader::word_at;
+use tree_digest::hash_group;
+use tree_message::leaf_prefix;
+use tree_place::Group;
+use tree_place::Place;
+use tree_place::group_of;
+use tree_walk::climb_path;
+ghost use mathlib.Core.Path.{_≡_};
+ghost use mathlib.Core.Bool.{true};
+ghost use Prim.Native.Nat.{_+_, _*_, _≤_, _<_};
+ghost use lib.Dec.{eqb};
+ghost use lib.ListN.{length, take};
+ghost use Rattle.theory_laws.specs.Lists.{part, same};
+ghost use Rattle.theory_field.specs.Words.{words};
+ghost use Rattle.field_gf128.specs.Word.{word};
+ghost use Rattle.theory_merkle.specs.Tree.{leafDigest};
+ghost use Rattle.theory_blake3.specs.Digest.{hash};
+ghost use Rattle.theory_record.specs.Trees.{leadsTo};
+ghost use Rattle.record_opening.specs.helpers.Opening.{valuesFrom, valuesAt, digestsAt, rootFrom, WayThere, Readable, Sized, numberAt, AgainThere};
+ghost use Rattle.record_opening.specs.helpers.Again.{OldThere, Same};
+ghost use Rattle.theory_record.specs.Scheme.{scheme};
+
+// How many bytes the longest leaf message of a level has: a domain of 255 bytes, 8 values of 16 bytes, and 97 beside.
+const LEVEL_LEAF: usize = 480;
+
+// The values that stand from a place on, two halves each.
+pub fn group_values(s: &[u8], from: usize, width: usize) -> [u64; 16]
+    requires { ⌜ (width ≤ 8) × (from + 16 * width ≤ length (now s)) ⌝ }
+    ensures { λ r. ⌜ words (take (2 * width) r) ≡ valuesFrom (now (s .entry)) from width ⌝ }
+{
+    let mut values = [0u64; 16];
+    let mut i: usize = 0;
+    while i < width {
+        let w = word_at(s, from + 16 * i);
+        field_words::put(&mut values, i, w);
+        i += 1;
+    }
+    values
+}
+
+// The digest of the group whose values stand from a place on.
+fn leaf_at(
+    domain: &[u8],
+    count: usize,
+    width: usize,
+    group: Group,
+    s: &[u8],
+    from: usize,
+) -> [u8; 32]
+    requires { ⌜ (length (now domain) ≤ 255) × (width ≤ 8) × (from + 16 * width ≤ length (now s)) ⌝ }
+    ensures { λ r. ⌜ r ≡ leafDigest hash (now (domain .entry)) count width (group .0) (valuesFrom (now (s .entry)) from width) ⌝ }
+{
+    let values = group_values(s, from, width);
+    let mut message = [0u8; LEVEL_LEAF];
+    let prefix = leaf_prefix(&mut message, domain, count, width);
+    hash_group(&mut message, prefix, width, group, &values[..2 * width])
+}
+
+// The root that the group of a place, whose values stand from one place on, and the path from another lead to.
+fn root_from(
+    domain: &[u8],
+    count: usize,
+    width: usize,
+    place: Place,
+    s: &[u8],
+    from: usize,
+    path: usize,
+    depth: usize,
+) -> [u8; 32]
+    requires { ⌜ WayThere (length (now domain)) width (length (now s)) from path depth ⌝ }
+    ensures { λ r. ⌜ r ≡ rootFrom (now (domain .entry)) count width (place .0) (now (s .entry)) from path depth ⌝ }
+{
+    let g = group_of(place, width);
+    let leaf = leaf_at(domain, count, width, g, s, from);
+    climb_path(domain, g.0, leaf, s, path, depth)
+}
+
+// The root that a place of level l, and the group and the path at these places of a record lead to.
+pub fn leads_to(
+    base: &[u8],
+    n: usize,
+    k: usize,
+    l: usize,
+    place: usize,
+    s: &[u8],
+    group: usize,
+    path: usize,
+) -> [u8; 32]
+    requires { ⌜ Sized (scheme (now base) n k) l (now s) group path ⌝ }
+    ensures { λ r. ⌜ r ≡ leadsTo (scheme (now (base .entry)) n k) l place (valuesAt (now (s .entry)) group) (digestsAt (now (s .entry)) path) ⌝ }
+{
+    let mut domain = [0u8; DOMAIN];
+    let d = level_domain(&mut domain, base, l);
+    let count = level_length(n, k, l);
+    let width = level_width(n, k, l);
+    let depth = level_depth(n, k, l);
+    root_from(
+        &domain[..d],
+        count,
+        width,
+        Place(place),
+        s,
+        group + 4,
+        path + 4,
+        depth,
+    )
+}
+
+// Are two words the same?
+pub fn same_word(a: Word, b: Word) -> bool
+    ensures { λ r. ⌜ r ≡ eqb (word a) (word b) ⌝ }
+{
+    if a.lo != b.lo {
+        return false;
+    }
+    if a.hi != b.hi {
+        return false;
+    }
+    true
+}
+
+// Are two digests the same?
+fn same_digest(a: [u8; 32], b: [u8; 32]) -> bool
+    ensures { λ r. ⌜ r ≡ same a b ⌝ }
+{
+    same_bytes(&a, &b)
+}
+
+// The number of the first of three questions that says no, of which the first has the number `first`: a group of the right width, a path
+// length, the root.
+pub fn opening_number(
+    base: &[u8],
+    n: usize,
+    k: usize,
+    l: usize,
+    place: usize,
+    s: &[u8],
+    group: usize,
+    path: usize,
+    root: [u8; 32],
+    first: u32,
+) -> u32
+    requires { ⌜ (Readable (scheme (now base) n k) l (now s) group path) × (first < 100) ⌝ }
+    ensures { λ r. ⌜ r ≡ numberAt (scheme (now (base .entry)) n k) l place (now (s .entry)) group path root first ⌝ }
+{
+    if count_at(s, group) != level_width(n, k, l) {
+        return first;
+    }
+    if count_at(s, path) != level_depth(n, k, l) {
+        return first + 1;
+    }
+    let d = leads_to(base, n, k, l, place, s, group, path);
+    if !same_digest(d, root) {
+        return first + 2;
+    }
+    0
+}
+
+// A group and a path, by their places in a record, that are known to lead to a root; or none.
+pub struct Opened {
+    pub known: bool,
+    pub group: usize,
+    pub path: usize,
+}
+
+// Stand the same 32 bytes, as often as this, from two places of a record on?
+fn same_items(s: &[u8], i: usize, j: usize, count: usize) -> bool
+    requires { ⌜ (i + 32 * count ≤ length (now s)) × (j + 32 * count ≤ length (now s)) ⌝ }
+    ensures { λ r. ⌜ (r ≡ true → part (32 * count) i (now (s .entry)) ≡ part (32 * count) j (now (s .entry))) ⌝ }
+{
+    let mut t: usize = 0;
+    while t < count {
+        let d = digest_at(s, i + 32 * t);
+        let e = digest_at(s, j + 32 * t);
+        if !same_digest(d, e) {
+            return false;
+        }
+        t += 1;
+    }
+    true
+}
+
+// Have the group and the path at two places of a record the bytes of a known opening?
+fn same_opening(
+    s: &[u8],
+    group: usize,
+    path: usize,
+    old: Opened,
+    width: usize,
+    depth: usize,
+) -> bool
+    requires { ⌜ OldThere (now s) group path old width depth ⌝ }
+    ensures { λ r. ⌜ (r ≡ true → Same (now (s .entry)) group path old) ⌝ }
+{
+    if !old.known {
+        return false;
+    }
+    if count_at(s, group) != width {
+        return false;
+    }
+    if count_at(s, path) != depth {
+        return false;
+    }
+    if !same_items(s, group + 4, old.group + 4, width / 2) {
+        return false;
+    }
+    same_items(s, path + 4, old.path + 4, depth)
+}
+
+// As `opening_number`, for a level of at least two values. A record that was built opens a level twice with the same bytes, for c and for
+// the next level's a: what is known to lead to this root is not hashed again.
+pub fn opening_again(
+    base: &[u8],
+    n: usize,
+    k: usize,
+    l: usize,
+    place: usize,
+    s: &[u8],
+    group: usize,
+    path: usize,
+    root: [u8; 32],
+    first: u32,
+    old: Opened,
+) -> u32
+    requires { ⌜ AgainThere (scheme (now base) n k) n l place (now s) group path old root first ⌝ }
+    ensures { λ r. ⌜ r ≡ numberAt (scheme (now (base .entry)) n k) l place (now (s .entry)) group path root first ⌝ }
+{
+    let w = level_width(n, k, l);
+    let d = level_depth(n, k, l);
+    if same_opening(s, group, path, old, w, d) {
+        return 0;
+    }
+    opening_number(base, n, k, l, place, s, group, path, root, first)
+}

@@ -1,0 +1,77 @@
+-- The numbers of a query record's building, question by question, and what the entry leaves.
+use Prim.Native.Nat.{ℕ, suc, _+_, _*_, _^_, _<_, _≤_}
+use mathlib.Core.Path.{_≡_, sym, _∙_}
+use mathlib.Core.List.{List}
+use borrow.Author.Tests.{eq-eqb, ne-eqb, lt-ltb, le-ltb}
+use lib.ListN.{length}
+use Rattle.theory_field.specs.Words.{words}
+use Rattle.code_level.specs.helpers.Numbers.{sizeNumber}
+use Rattle.theory_laws.proofs.Questions.{first-stops, first-passes}
+use Rattle.theory_record.specs.Widths.{present, levelLength}
+use Rattle.theory_record.specs.Sizes.{querySize}
+use Rattle.theory_record.specs.Query.{sizeQuestions}
+use Rattle.theory_record.specs.Build.{levelsLength, treeStart, queryBytes, buildQueryNumber, buildQuery}
+use Rattle.theory_record.proofs.Offsets.{first-length}
+use Rattle.theory_record.proofs.BuildAllowed.{QueryBuild, query-build}
+use Rattle.record_query_build.specs.helpers.Numbers.{lengths, buildNumber}
+
+module _ (n k levels trees out position x : ℕ) (ex : x ≡ sizeNumber n k) where
+  pub wrong-size : (x ≡ 0 → ⊥) → x ≡ buildNumber n k levels trees out position
+  unfolding buildNumber sizeNumber
+  wrong-size z = first-stops (sizeQuestions n k) (lengths n k levels trees out position) x tt ex z
+
+  module _ (z : x ≡ 0) (len : ℕ) (el : len ≡ levelsLength n k) where
+    pub wrong-levels : (levels ≡ 2 * len → ⊥) → 5 ≡ buildNumber n k levels trees out position
+    unfolding buildNumber sizeNumber
+    wrong-levels h = first-passes (sizeQuestions n k) (lengths n k levels trees out position) x tt ex 5 z (rw (← el, ne-eqb levels (2 * len) h))
+
+    module _ (a : levels ≡ 2 * len) (size : ℕ) (et : size ≡ 32 * treeStart present n k (suc n)) where
+      pub wrong-trees : (trees ≡ size → ⊥) → 5 ≡ buildNumber n k levels trees out position
+      unfolding buildNumber sizeNumber
+      wrong-trees h =
+          first-passes (sizeQuestions n k) (lengths n k levels trees out position) x tt ex 5 z (rw (← el, eq-eqb levels (2 * len) a, ← et, ne-eqb trees size h))
+
+      module _ (b : trees ≡ size) (room : ℕ) (eo : room ≡ querySize present n k) where
+        pub wrong-out : (out ≡ room → ⊥) → 5 ≡ buildNumber n k levels trees out position
+        unfolding buildNumber sizeNumber
+        wrong-out h =
+            first-passes (sizeQuestions n k) (lengths n k levels trees out position) x tt ex 5 z
+            (rw (← el, eq-eqb levels (2 * len) a, ← et, eq-eqb trees size b, ← eo, ne-eqb out room h))
+
+        module _ (c : out ≡ room) (count : ℕ) (ec : count ≡ levelLength n k 0) where
+          count-is : count ≡ 2 ^ (n + k)
+          count-is = ec ∙ first-length n k
+
+          pub wrong-position : count ≤ position → 11 ≡ buildNumber n k levels trees out position
+          unfolding buildNumber sizeNumber
+          wrong-position h =
+              first-passes (sizeQuestions n k) (lengths n k levels trees out position) x tt ex 11 z
+              (rw (← el, eq-eqb levels (2 * len) a, ← et, eq-eqb trees size b, ← eo, eq-eqb out room c, ← count-is, le-ltb position count h))
+
+          pub none-says-no : position < count → 0 ≡ buildNumber n k levels trees out position
+          unfolding buildNumber sizeNumber
+          none-says-no h =
+              first-passes (sizeQuestions n k) (lengths n k levels trees out position) x tt ex 0 z
+              (rw (← el, eq-eqb levels (2 * len) a, ← et, eq-eqb trees size b, ← eo, eq-eqb out room c, ← count-is, lt-ltb position count h))
+
+-- ---- the answer
+
+module _ (n k : ℕ) (levels trees : List ℕ) (position : ℕ) (out : List ℕ) (q : ℕ)
+    (e : q ≡ buildNumber n k (length levels) (length trees) (length out) position) where
+  pub number-is : q ≡ buildQueryNumber present n k levels trees position out
+  unfolding buildNumber buildQueryNumber
+  number-is = e
+
+  pub refused : (q ≡ 0 → ⊥) → out ≡ buildQuery present n k levels trees position out
+  unfolding buildQuery
+  refused z = rw (← number-is, ne-eqb q 0 z)
+
+  pub allowed : q ≡ 0 → QueryBuild present n k levels trees position out
+  allowed z = query-build present n k levels trees position out (sym number-is ∙ z)
+
+  pub zero-is : q ≡ 0 → 0 ≡ buildQueryNumber present n k levels trees position out
+  zero-is z = sym z ∙ number-is
+
+  pub done : (o : List ℕ) → q ≡ 0 → o ≡ queryBytes present n k (words levels) trees position → o ≡ buildQuery present n k levels trees position out
+  unfolding buildQuery
+  done o z f = rw (← number-is, eq-eqb q 0 z) f

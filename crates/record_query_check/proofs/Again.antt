@@ -1,0 +1,72 @@
+-- What a level that passed makes known of the next: its c opens the group of the next level's a.
+use Prim.Native.Nat.{ℕ, zero, suc, _+_, _*_, _/_, _%_, _<_}
+use mathlib.Core.Path.{_≡_, sym, _∙_, ap}
+use mathlib.Core.Bool.{true}
+use mathlib.Core.List.{List}
+use native.Mathlib.Omega.{arith}
+use native.Mathlib.Nat.{mod-lt, div-add-mod}
+use native.Mathlib.Numerals.{add-one}
+use lib.ListN.{drop}
+use Rattle.theory_laws.specs.Table.{at}
+use Rattle.theory_laws.specs.Lists.{part}
+use Rattle.theory_field.specs.Words.{words}
+use Rattle.theory_merkle.specs.Tree.{groupOf, rootOfPath, leafOf, leafDigest, climb}
+use Rattle.record_reader.specs.helpers.Places.{levelAt}
+use Rattle.record_reader.specs.declared.Level.{Level}
+use Rattle.record_reader.proofs.Places.{level-places}
+use Rattle.theory_record.specs.Trees.{leadsTo}
+use Rattle.theory_record.specs.Format.{levelRead}
+use Rattle.theory_record.specs.Query.{pairOf, rootAt, levelNumber}
+use Rattle.theory_record.proofs.Query.{level-holds}
+use Rattle.theory_record.proofs.Offsets.{pair-next}
+use Rattle.theory_record.proofs.Widths.{PowersOfTwo, level-shape, width-pos, width-even, pair-group}
+use Rattle.record_opening.specs.declared.Opened.{Opened}
+use Rattle.record_opening.specs.helpers.Opening.{valuesAt, digestsAt, Leads, Known}
+use Rattle.record_query_check.specs.helpers.Level.{Allowed}
+use Rattle.record_query_check.proofs.Level.{level-room}
+use Rattle.theory_record.specs.Scheme.{Scheme, widthAt, lengthAt, domainAt}
+
+-- for the roots as they are read
+pub known-read : (S : Scheme) (position : ℕ) (roots : List ℕ) (l q : ℕ) (s : List ℕ) (old : Opened) (ra : List ℕ) → q ≡ pairOf position l
+    → ra ≡ part 32 (32 * l) roots
+    → Known S l (2 * pairOf position l) s old (rootAt roots l) → Known S l (2 * q) s old ra
+unfolding rootAt
+known-read S position roots l q s old ra eq er z = rw (eq, er) z
+
+-- the even place of the two that share a pair
+even-place : (w q : ℕ) → 0 < w → w ≡ 2 * (w / 2) → groupOf q w ≡ groupOf (2 * (q / 2)) w
+even-place w q pos even = go (q % 2) (sym (div-add-mod q 2)) (mod-lt q (omega arith))
+  where
+    go : (r : ℕ) → q ≡ 2 * (q / 2) + r → r < 2 → groupOf q w ≡ groupOf (2 * (q / 2)) w
+    go zero e h = ap (λ (x : ℕ). groupOf x w) {x = q} {y = 2 * (q / 2)} (omega arith)
+    go (suc zero) e h = ap (λ (x : ℕ). groupOf x w) {x = q} {y = 2 * (q / 2) + 1} e ∙ pair-group w (q / 2) pos even
+    go (suc (suc r)) e h = absurd (omega arith)
+
+-- places of one group lead to one root
+one-group-leads : (S : Scheme) (l p q : ℕ) (values : List ℕ) (path : List (List ℕ)) → groupOf p (widthAt S l) ≡ groupOf q (widthAt S l)
+    → leadsTo S l p values path ≡ leadsTo S l q values path
+unfolding leadsTo rootOfPath leafOf
+one-group-leads S l p q values path e =
+    ap (λ (g : ℕ). climb (S .digest) (domainAt S l) 0 g (leafDigest (S .digest) (domainAt S l) (lengthAt S l) (widthAt S l) g values) path) e
+
+pub leads-next : (S : Scheme) (pw : PowersOfTwo (S .widths)) (position : ℕ) (challenges roots : List ℕ) (l : ℕ) (s : List ℕ) (i : ℕ) (v : Level) (x : ℕ)
+    → Allowed S position challenges roots → l + 1 < S .n → v ≡ levelAt s i
+    → v .fits ≡ true → x ≡ levelNumber S position challenges roots l (levelRead (drop i s)) → x ≡ 0
+    → Leads S (l + 1) (2 * pairOf position (l + 1)) s (v .«c_group») (v .«c_path») (rootAt roots (l + 1))
+unfolding levelNumber levelRead valuesAt digestsAt
+leads-next S pw position challenges roots l s i v x a h ev fits ex z =
+    let q : ℕ = pairOf position l in
+    let p = level-places s i v ev in
+    let room = level-room l s i v a (omega arith) ev fits in
+    let y = level-holds S l q (at (words challenges) l) (rootAt roots l) (rootAt roots (suc l)) (levelRead (drop i s)) (sym ex ∙ z) in
+    let shape = level-shape (S .widths) (S .n) (S .k) (suc l) pw in
+    let same : groupOf q (widthAt S (suc l)) ≡ groupOf (2 * (q / 2)) (widthAt S (suc l)) =
+    even-place (widthAt S (suc l)) q (width-pos (S .widths) (S .n) (S .k) (suc l) shape) (width-even (S .widths) (S .n) (S .k) (suc l) shape (omega arith)) in
+    rw (add-one, pair-next position l)
+    (record {
+      group-fits = room .c-readable .group-fits;
+      path-fits = room .c-readable .path-fits;
+      width-is = rw (p .c-group) (y .c-width);
+      depth-is = rw (p .c-path) (y .c-path);
+      root-is = rw (p .c-group, p .c-path) (sym (one-group-leads S (suc l) q (2 * (q / 2)) _ _ same) ∙ y .c-root);
+    })

@@ -1,0 +1,271 @@
+// Checking a query record. The entry is `check_query`; the other functions require.
+use bytes_numbers::load;
+use code_level::level_length;
+use code_level::level_width;
+use code_level::size_number;
+use field_gf128::Word;
+use field_gf128::add;
+use field_gf128::mul;
+use record_opening::Opened;
+use record_opening::opening_again;
+use record_opening::opening_number;
+use record_opening::same_word;
+use record_reader::Level;
+use record_reader::count_at;
+use record_reader::level_at;
+use record_reader::query_whole;
+use record_reader::word_at;
+ghost use mathlib.Core.Path.{_≡_};
+ghost use Prim.Native.Nat.{_%_, _<_};
+ghost use lib.Dec.{eqb};
+ghost use Rattle.theory_laws.specs.Xor.{_⊕_};
+ghost use Rattle.theory_field.specs.Field.{_⊗_};
+ghost use Rattle.field_gf128.specs.Word.{word};
+ghost use Rattle.theory_record.specs.Query.{pairOf, valueAt, queryNumber, checkQuery};
+ghost use Rattle.record_opening.specs.helpers.Opening.{valuesAt, Readable};
+ghost use Rattle.record_query_check.specs.helpers.Level.{aNumberAt, cNumberAt, levelNumberAt, levelsAnswer};
+ghost use Rattle.record_query_check.specs.helpers.Level.{WideGroup, Allowed, Whole, PairThere, LevelThere};
+ghost use Rattle.record_query_check.specs.Answer.{answer};
+ghost use Rattle.theory_record.specs.Scheme.{scheme};
+
+// 0 and 0 where the record is accepted; else the number of the first question whose answer is no, and the level for 16 to 26.
+pub struct Checked {
+    pub number: u32,
+    pub level: u32,
+}
+
+// The pair of level l, for a query at a position.
+pub fn pair_of(position: usize, l: usize) -> usize
+    requires { ⌜ l < 24 ⌝ }
+    ensures { λ r. ⌜ r ≡ pairOf position l ⌝ }
+{
+    position >> (l + 1)
+}
+
+// a + r × (a + b)
+fn fold_of(a: Word, b: Word, r: Word) -> Word
+    ensures { λ x. ⌜ word x ≡ word a ⊕ word r ⊗ (word a ⊕ word b) ⌝ }
+{
+    add(a, mul(r, add(a, b)))
+}
+
+// Where in its group the value of a place belongs.
+fn place_in(place: usize, width: usize) -> usize
+    requires { ⌜ 0 < width ⌝ }
+    ensures { λ r. ⌜ (r ≡ place % width) × (r < width) ⌝ }
+{
+    place % width
+}
+
+// Has the group at a place of the record this word, where the value of a place of its level belongs?
+fn holds(s: &[u8], group: usize, width: usize, place: usize, w: Word) -> bool
+    requires { ⌜ WideGroup (now s) group width ⌝ }
+    ensures { λ r. ⌜ r ≡ eqb (valueAt width place (valuesAt (now (s .entry)) group)) (word w) ⌝ }
+{
+    let j = place_in(place, width);
+    let v = word_at(s, group + 4 + 16 * j);
+    same_word(v, w)
+}
+
+// 16 to 21: the group of a and b, at place 2q and the one after it. It may be known from the level before, whose c it holds.
+fn a_number(
+    base: &[u8],
+    n: usize,
+    k: usize,
+    l: usize,
+    q: usize,
+    s: &[u8],
+    group: usize,
+    path: usize,
+    root: [u8; 32],
+    a: Word,
+    b: Word,
+    old: Opened,
+) -> u32
+    requires { ⌜ PairThere (scheme (now base) n k) l q (now s) group path root old ⌝ }
+    ensures { λ r. ⌜ r ≡ aNumberAt (scheme (now (base .entry)) n k) l q (now (s .entry)) group path root (word a) (word b) ⌝ }
+{
+    let x = opening_again(base, n, k, l, 2 * q, s, group, path, root, 16, old);
+    if x != 0 {
+        return x;
+    }
+    let w = level_width(n, k, l);
+    if !holds(s, group, w, 2 * q, a) {
+        return 19;
+    }
+    if (2 * q + 1) / w != 2 * q / w {
+        return 20;
+    }
+    if !holds(s, group, w, 2 * q + 1, b) {
+        return 21;
+    }
+    0
+}
+
+// 22 to 25: the group of c, at place q of level l.
+fn c_number(
+    base: &[u8],
+    n: usize,
+    k: usize,
+    l: usize,
+    q: usize,
+    s: &[u8],
+    group: usize,
+    path: usize,
+    root: [u8; 32],
+    c: Word,
+) -> u32
+    requires { ⌜ Readable (scheme (now base) n k) l (now s) group path ⌝ }
+    ensures { λ r. ⌜ r ≡ cNumberAt (scheme (now (base .entry)) n k) l q (now (s .entry)) group path root (word c) ⌝ }
+{
+    let x = opening_number(base, n, k, l, q, s, group, path, root, 22);
+    if x != 0 {
+        return x;
+    }
+    let w = level_width(n, k, l);
+    if !holds(s, group, w, q, c) {
+        return 25;
+    }
+    0
+}
+
+// 16 to 26: the level at a place of the record, of which the level before may have opened the group of a and b.
+fn level_number(
+    base: &[u8],
+    n: usize,
+    k: usize,
+    position: usize,
+    challenges: &[u64],
+    roots: &[u8],
+    l: usize,
+    s: &[u8],
+    at: usize,
+    v: Level,
+    old: Opened,
+) -> u32
+    requires { ⌜ LevelThere (scheme (now base) n k) position (now challenges) (now roots) l (now s) at v old ⌝ }
+    ensures { λ r. ⌜ r ≡ levelNumberAt (scheme (now (base .entry)) n k) position (now (challenges .entry)) (now (roots .entry)) l (now (s .entry)) at ⌝ }
+{
+    let q = pair_of(position, l);
+    let a = word_at(s, at);
+    let b = word_at(s, at + 16);
+    let c = word_at(s, at + 32);
+    let ra = load(roots, 32 * l);
+    let x = a_number(base, n, k, l, q, s, v.a_group, v.a_path, ra, a, b, old);
+    if x != 0 {
+        return x;
+    }
+    let rc = load(roots, 32 * (l + 1));
+    let y = c_number(base, n, k, l + 1, q, s, v.c_group, v.c_path, rc, c);
+    if y != 0 {
+        return y;
+    }
+    let r = field_words::get(challenges, l);
+    let f = fold_of(a, b, r);
+    if !same_word(f, c) {
+        return 26;
+    }
+    0
+}
+
+// 16 to 26, level by level, of a record that reads whole and has n levels.
+fn check_levels(
+    base: &[u8],
+    n: usize,
+    k: usize,
+    position: usize,
+    challenges: &[u64],
+    roots: &[u8],
+    s: &[u8],
+) -> Checked
+    requires { ⌜ (Allowed (scheme (now base) n k) position (now challenges) (now roots)) × (Whole n (now s)) ⌝ }
+    ensures { λ r. ⌜ answer r ≡ levelsAnswer (scheme (now (base .entry)) n k) position (now (challenges .entry)) (now (roots .entry)) (now (s .entry)) ⌝ }
+{
+    let mut l: usize = 0;
+    let mut at: usize = 4;
+    let mut old = Opened {
+        known: false,
+        group: 0,
+        path: 0,
+    };
+    while l < n {
+        let v = level_at(s, at);
+        let q = level_number(base, n, k, position, challenges, roots, l, s, at, v, old);
+        if q != 0 {
+            return Checked {
+                number: q,
+                level: l as u32,
+            };
+        }
+        old = Opened {
+            known: true,
+            group: v.c_group,
+            path: v.c_path,
+        };
+        at = v.next;
+        l = l + 1;
+    }
+    Checked {
+        number: 0,
+        level: 0,
+    }
+}
+
+// 4, 5, 7, 11, 14 and 15.
+fn query_number(
+    base: &[u8],
+    n: usize,
+    k: usize,
+    position: usize,
+    challenges: &[u64],
+    roots: &[u8],
+    s: &[u8],
+) -> u32
+    ensures { λ r. ⌜ r ≡ queryNumber (scheme (now (base .entry)) n k) position (now (challenges .entry)) (now (roots .entry)) (now (s .entry)) ⌝ }
+{
+    let x = size_number(n, k);
+    if x != 0 {
+        return x;
+    }
+    if challenges.len() != 2 * n {
+        return 5;
+    }
+    if roots.len() != 32 * (n + 1) {
+        return 5;
+    }
+    if base.len() > 200 {
+        return 7;
+    }
+    if position >= level_length(n, k, 0) {
+        return 11;
+    }
+    if !query_whole(s) {
+        return 14;
+    }
+    if count_at(s, 0) != n {
+        return 15;
+    }
+    0
+}
+
+// Check a query record for a position, lent n challenges and n + 1 roots, level 0 first: 4, 5, 7, 11, 14, 15, then level by level 16 to 26.
+pub fn check_query(
+    base: &[u8],
+    n: usize,
+    k: usize,
+    position: usize,
+    challenges: &[u64],
+    roots: &[u8],
+    s: &[u8],
+) -> Checked
+    ensures { λ r. ⌜ answer r ≡ checkQuery (scheme (now (base .entry)) n k) position (now (challenges .entry)) (now (roots .entry)) (now (s .entry)) ⌝ }
+{
+    let number = query_number(base, n, k, position, challenges, roots, s);
+    if number != 0 {
+        return Checked {
+            number: number,
+            level: 0,
+        };
+    }
+    check_levels(base, n, k, position, challenges, roots, s)
+}

@@ -1,0 +1,105 @@
+-- `record_tail_build::put_groups` meets its contract: what is left to store from group g on gives the record.
+use Rattle.record_tail_build.proofs.Groups.{groupsLeft, groups-step, groups-end}
+use Rattle.record_tail_build.proofs.Sizes.{count-room, group-room, first-groups, next-place}
+use Prim.Native.Nat.{_-_, _≤_, _+_, _*_}
+use mathlib.Core.Path.{_≡_}
+use lib.ListN.{length}
+use Rattle.theory_field.specs.Words.{words}
+use Rattle.theory_record.specs.Widths.{present}
+use Rattle.theory_record.specs.Build.{tailBytes}
+use native.Mathlib.Omega.{arith}
+use borrow.Author.Needs.{needs}
+use Rattle.record_tail_build.proofs.put_groups.Statement.{statement}
+use Rattle.record_tail_build.proofs.put_groups.Tie as tie
+use Rattle.record_tail_build.proofs.put_groups.Reads as reads
+use Rattle.record_tail_build.proofs.put_groups.Lts as lts
+use Rattle.code_level.proofs.level_depth.Reads as level-depth-reads
+use Rattle.code_level.proofs.level_groups.Reads as level-groups-reads
+use Rattle.code_level.proofs.level_width.Reads as level-width-reads
+use Rattle.record_tail_build.proofs.put_group.Reads as put-group-reads
+
+abbrev Inv-loop : tie.InvT-loop
+Inv-loop out₀ level tree n k groups width depth at₀ g₀ out at g =
+    (g ≤ groups) × (length out ≡ length out₀) × (at ≡ 4 + g * (8 + 16 * width + 32 * depth))
+    × (groupsLeft out at (words level) tree width depth groups g ≡ tailBytes present n k (words level) tree)
+
+abbrev μ-loop : tie.MeasureT-loop
+μ-loop out₀ level tree n k groups width depth at₀ g₀ out at g = groups - g
+
+level-groups-requires : tie.Need-level-groups-requires Inv-loop μ-loop
+level-groups-requires c κs = search needs
+
+level-width-requires : tie.Need-level-width-requires Inv-loop μ-loop
+level-width-requires c κs = search needs
+
+level-depth-requires : tie.Need-level-depth-requires Inv-loop μ-loop
+level-depth-requires c κs = search needs
+
+put-number-requires : tie.Need-put-number-requires Inv-loop μ-loop
+put-number-requires c κs = search count-room
+
+loop-holds : tie.Need-loop-holds Inv-loop μ-loop
+loop-holds c =
+    let counted = c .before .before in
+    let depth = counted .before .before in
+    let width = depth .before in
+    let groups = width .before in
+    let start = groups .before .before .before .before in (
+      search needs,
+      search needs,
+      omega arith,
+      first-groups (start .pre) (groups .level-groups .ensures) (width .level-width .ensures) (depth .level-depth .ensures)
+          (counted .put-number .ensures) (λ j. groups .before .before .shared-slice-known .given j .fits),
+    )
+
+put-group-requires : tie.Need-put-group-requires Inv-loop μ-loop
+put-group-requires c κs =
+    let loop = c .before .before in
+    let counted = loop .before .before .before in
+    let depth = counted .before .before in
+    let width = depth .before in
+    let groups = width .before in
+    let start = groups .before .before .before .before in
+    group-room (start .pre) (groups .level-groups .ensures) (width .level-width .ensures) (depth .level-depth .ensures) _
+    (c .before .loop-test .taken) (loop .loop .inv .2) (search needs)
+
+add-g : tie.Need-add-g Inv-loop μ-loop
+add-g c = search needs
+
+loop-less : tie.Need-loop-less Inv-loop μ-loop
+loop-less c = search needs
+
+loop-again : tie.Need-loop-again Inv-loop μ-loop
+loop-again c =
+    let put = c .before .before in
+    let loop = put .before .before .before in
+    let q = loop .loop .inv in (
+      search needs,
+      search needs,
+      next-place _ _ _ _ (q .2) (put .put-group .ensures .end),
+      groups-step _ _ _ _ _ _ (q .3) (put .put-group .ensures) (put .before .before .loop-test .taken),
+    )
+
+same-length : tie.Need-same-length Inv-loop μ-loop
+same-length c = search needs
+
+returns : tie.Need-returns Inv-loop μ-loop
+returns c = search groups-end
+
+pub put-groups-spec : {M : Type 1} → statement M
+put-groups-spec =
+    tie.close
+    (tie.spec
+    Inv-loop
+    μ-loop
+    level-groups-requires
+    level-width-requires
+    level-depth-requires
+    put-number-requires
+    loop-holds
+    put-group-requires
+    add-g
+    loop-less
+    loop-again
+    same-length
+    returns)

@@ -1,2 +1,0 @@
-pub mod Commit
-pub mod LevelTree

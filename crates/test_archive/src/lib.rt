@@ -1,0 +1,422 @@
+// What the comparison with the Rust and the benchmark call: leaves and entries, exported under names of their own. It is no part of what
+// people link. A helper that requires is called only where its requirement holds; elsewhere nothing is done.
+use code_profile::Parameters;
+use code_profile::Profile;
+use field_gf128::Inverse;
+use field_gf128::Word;
+use hash_hasher::whole::Digested;
+use tree_place::Place;
+
+// 7 coordinates by value.
+#[repr(C)]
+pub struct Point7 {
+    pub words: [Word; 7],
+}
+
+// 128 coefficients by value.
+#[repr(C)]
+pub struct Coefficients {
+    pub words: [Word; 128],
+}
+
+#[no_mangle]
+pub extern "C" fn dequmlo_test_mul(a: Word, b: Word) -> Word {
+    field_gf128::mul(a, b)
+}
+
+#[no_mangle]
+pub extern "C" fn dequmlo_test_square(a: Word) -> Word {
+    field_gf128::square(a)
+}
+
+#[no_mangle]
+pub extern "C" fn dequmlo_test_inv(a: Word) -> Inverse {
+    field_gf128::inv(a)
+}
+
+#[no_mangle]
+pub extern "C" fn dequmlo_test_scale(s: &mut [u64], r: Word) {
+    if s.len() % 2 == 0 {
+        let mut t = [0u64; 8192];
+        field_runs::scale(s, r, &mut t);
+    }
+}
+
+#[no_mangle]
+pub extern "C" fn dequmlo_test_axpy(y: &mut [u64], x: &[u64], r: Word) {
+    if y.len() % 2 == 0 {
+        if x.len() == y.len() {
+            let mut t = [0u64; 8192];
+            field_runs::axpy(y, x, r, &mut t);
+        }
+    }
+}
+
+#[no_mangle]
+pub extern "C" fn dequmlo_test_pack_table(bytes: &[u8], out: &mut [u64]) -> u32 {
+    field_pack::pack_table(bytes, out)
+}
+
+#[no_mangle]
+pub extern "C" fn dequmlo_test_phi_c(p: Word, c: Coefficients) -> Word {
+    let words = c.words;
+    field_pack::phi_c(p, words)
+}
+
+#[no_mangle]
+pub extern "C" fn dequmlo_test_phi_tab(p: Word, c: Coefficients) -> Word {
+    let words = c.words;
+    let t = field_pack::phi_tab(words);
+    field_pack::phi_tab_apply(&t, p)
+}
+
+#[no_mangle]
+pub extern "C" fn dequmlo_test_eq_coefficients(r: Point7) -> Coefficients {
+    let point = r.words;
+    let words = field_pack::eq_coefficients(point);
+    Coefficients { words }
+}
+
+#[no_mangle]
+pub extern "C" fn dequmlo_test_eq_table(n: usize, point: &[u64], out: &mut [u64]) -> u32 {
+    field_equality::eq_table(n, point, out)
+}
+
+#[no_mangle]
+pub extern "C" fn dequmlo_test_digest(input: &[u8]) -> Digested {
+    hash_hasher::whole::digest(input)
+}
+
+// The digests of four messages of one length, of at most a chunk.
+#[repr(C)]
+pub struct FourDigests {
+    pub a: [u8; 32],
+    pub b: [u8; 32],
+    pub c: [u8; 32],
+    pub d: [u8; 32],
+}
+
+fn none() -> FourDigests {
+    FourDigests {
+        a: [0; 32],
+        b: [0; 32],
+        c: [0; 32],
+        d: [0; 32],
+    }
+}
+
+#[no_mangle]
+pub extern "C" fn dequmlo_test_four(s0: &[u8], s1: &[u8], s2: &[u8], s3: &[u8]) -> FourDigests {
+    if s0.len() > 1024 {
+        return none();
+    }
+    if s1.len() != s0.len() {
+        return none();
+    }
+    if s2.len() != s0.len() {
+        return none();
+    }
+    if s3.len() != s0.len() {
+        return none();
+    }
+    let counters = [0u64; 4];
+    let v = hash_four_chunks::chunks(hash_compress::iv(), 0, 0, &counters, s0, s1, s2, s3, 8);
+    let a = hash_four_chunks::lane_bytes(&v, 0);
+    let b = hash_four_chunks::lane_bytes(&v, 1);
+    let c = hash_four_chunks::lane_bytes(&v, 2);
+    let d = hash_four_chunks::lane_bytes(&v, 3);
+    FourDigests { a, b, c, d }
+}
+
+// A number, and a word that is 0 where the number is not.
+#[repr(C)]
+pub struct NumberedWord {
+    pub number: u32,
+    pub word: Word,
+}
+
+// A number, and the n of a folded codeword.
+#[repr(C)]
+pub struct NumberedN {
+    pub number: u32,
+    pub n: usize,
+}
+
+#[no_mangle]
+pub extern "C" fn dequmlo_test_derive(n: usize, k: usize, domain: &[u8], out: &mut [u64]) -> u32 {
+    code_gamma::derive(n, k, domain, out)
+}
+
+#[no_mangle]
+pub extern "C" fn dequmlo_test_l_of(
+    n: usize,
+    k: usize,
+    eps: usize,
+    gammas: &[u64],
+    out: &mut [u64],
+) -> u32 {
+    code_codeword::l_of(n, k, eps, gammas, out)
+}
+
+#[no_mangle]
+pub extern "C" fn dequmlo_test_encode(
+    n: usize,
+    k: usize,
+    table: &[u64],
+    gammas: &[u64],
+    out: &mut [u64],
+) -> u32 {
+    code_codeword::encode(n, k, table, gammas, out)
+}
+
+#[no_mangle]
+pub extern "C" fn dequmlo_test_fold(
+    n: usize,
+    k: usize,
+    var: usize,
+    r: Word,
+    src: &[u64],
+    out: &mut [u64],
+) -> NumberedN {
+    let a = code_codeword::fold(n, k, var, r, src, out);
+    NumberedN {
+        number: a.number,
+        n: a.n,
+    }
+}
+
+#[no_mangle]
+pub extern "C" fn dequmlo_test_partial_evals(
+    n: usize,
+    packed: &[u64],
+    eq: &[u64],
+    out: &mut [u64],
+) -> u32 {
+    ring_partials::partial_evals(n, packed, eq, out)
+}
+
+#[no_mangle]
+pub extern "C" fn dequmlo_test_fold_partials(s: &[u64], rb: Coefficients) -> NumberedWord {
+    let words = rb.words;
+    let a = ring_partials::fold_partials(s, words);
+    let word = a.word;
+    NumberedWord {
+        number: a.number,
+        word,
+    }
+}
+
+#[no_mangle]
+pub extern "C" fn dequmlo_test_materialize(
+    n: usize,
+    z: &[u64],
+    rb: Coefficients,
+    out: &mut [u64],
+) -> u32 {
+    let words = rb.words;
+    ring_indicator::materialize(n, z, words, out)
+}
+
+#[no_mangle]
+pub extern "C" fn dequmlo_test_eval_at(
+    n: usize,
+    z: &[u64],
+    rb: Coefficients,
+    point: &[u64],
+) -> NumberedWord {
+    let words = rb.words;
+    let a = ring_indicator::eval_at(n, z, words, point);
+    let word = a.word;
+    NumberedWord {
+        number: a.number,
+        word,
+    }
+}
+
+#[no_mangle]
+pub extern "C" fn dequmlo_test_build(
+    domain: &[u8],
+    count: usize,
+    width: usize,
+    values: &[u64],
+    tree: &mut [u8],
+) -> u32 {
+    tree_build::build(domain, count, width, values, tree)
+}
+
+#[no_mangle]
+pub extern "C" fn dequmlo_test_serialize_parts(
+    bytes: &[u8],
+    lengths: &[u64],
+    out: &mut [u8],
+) -> u32 {
+    hash_serialize_parts::serialize_parts(bytes, lengths, out)
+}
+
+#[no_mangle]
+pub extern "C" fn dequmlo_test_leaf_digest(
+    domain: &[u8],
+    count: usize,
+    width: usize,
+    place: usize,
+    values: &[u64],
+) -> Digested {
+    tree_digest::leaf_digest(domain, count, width, Place(place), values)
+}
+
+#[no_mangle]
+pub extern "C" fn dequmlo_test_node_digest(
+    domain: &[u8],
+    level: usize,
+    left: &[u8],
+    right: &[u8],
+) -> Digested {
+    tree_digest::node_digest(domain, level, left, right)
+}
+
+#[no_mangle]
+pub extern "C" fn dequmlo_test_open(
+    count: usize,
+    width: usize,
+    place: usize,
+    tree: &[u8],
+    path: &mut [u8],
+) -> u32 {
+    tree_path::open(count, width, Place(place), tree, path)
+}
+
+#[no_mangle]
+pub extern "C" fn dequmlo_test_root_of_path(
+    domain: &[u8],
+    count: usize,
+    width: usize,
+    place: usize,
+    values: &[u64],
+    path: &[u8],
+) -> Digested {
+    tree_path::root_of_path(domain, count, width, Place(place), values, path)
+}
+
+// A number, and the level for 16 to 26.
+#[repr(C)]
+pub struct NumberedLevel {
+    pub number: u32,
+    pub level: u32,
+}
+
+#[no_mangle]
+pub extern "C" fn dequmlo_test_check_query(
+    base: &[u8],
+    n: usize,
+    k: usize,
+    position: usize,
+    challenges: &[u64],
+    roots: &[u8],
+    s: &[u8],
+) -> NumberedLevel {
+    let a = record_query_check::check_query(base, n, k, position, challenges, roots, s);
+    NumberedLevel {
+        number: a.number,
+        level: a.level,
+    }
+}
+
+#[no_mangle]
+pub extern "C" fn dequmlo_test_check_tail(
+    base: &[u8],
+    n: usize,
+    k: usize,
+    root: &[u8],
+    claim: Word,
+    s: &[u8],
+) -> u32 {
+    record_tail_check::check_tail(base, n, k, root, claim, s)
+}
+
+#[no_mangle]
+pub extern "C" fn dequmlo_test_build_tail(
+    out: &mut [u8],
+    level: &[u64],
+    tree: &[u8],
+    n: usize,
+    k: usize,
+) -> u32 {
+    record_tail_build::build_tail(out, level, tree, n, k)
+}
+
+#[no_mangle]
+pub extern "C" fn dequmlo_test_build_query(
+    out: &mut [u8],
+    levels: &[u64],
+    trees: &[u8],
+    n: usize,
+    k: usize,
+    position: usize,
+) -> u32 {
+    record_query_build::build_query(out, levels, trees, n, k, position)
+}
+
+#[no_mangle]
+pub extern "C" fn dequmlo_test_fold_tree_width(length: usize) -> usize {
+    code_level::fold_tree_width(length)
+}
+
+// The domain's length.
+#[no_mangle]
+pub extern "C" fn dequmlo_test_level_domain(out: &mut [u8], base: &[u8], level: usize) -> usize {
+    if level >= 100 {
+        return 0;
+    }
+    if out.len() < 9 {
+        return 0;
+    }
+    if base.len() > out.len() - 9 {
+        return 0;
+    }
+    code_level::level_domain(out, base, level)
+}
+
+// The domain is the first `length` bytes.
+#[repr(C)]
+pub struct Params {
+    pub k: usize,
+    pub queries: usize,
+    pub domain: [u8; 24],
+    pub length: usize,
+}
+
+// The default, or profile 1 to 4.
+fn parameters_of(number: usize) -> Parameters {
+    match number {
+        1 => code_profile::parameters_of(Profile::FastChunk),
+        2 => code_profile::parameters_of(Profile::Balanced),
+        3 => code_profile::parameters_of(Profile::CompactWrap),
+        4 => code_profile::parameters_of(Profile::DeepWrap),
+        _ => code_profile::default_parameters(),
+    }
+}
+
+#[no_mangle]
+pub extern "C" fn dequmlo_test_parameters(number: usize) -> Params {
+    let p = parameters_of(number);
+    let domain = p.domain;
+    Params {
+        k: p.k,
+        queries: p.queries,
+        domain,
+        length: p.length,
+    }
+}
+
+#[no_mangle]
+pub extern "C" fn dequmlo_test_commit(
+    n: usize,
+    k: usize,
+    base: &[u8],
+    table: &[u64],
+    gammas: &mut [u64],
+    codeword: &mut [u64],
+    tree: &mut [u8],
+) -> u32 {
+    code_commit::commit(n, k, base, table, gammas, codeword, tree)
+}

@@ -1,0 +1,92 @@
+// Words and tables of words: gf128.rs, pack.rs, eq.rs, and runs of words by one word.
+use field_gf128::Word;
+use test_lines::answer::Answer;
+use test_lines::answer::no_room;
+use test_lines::answer::one;
+use test_lines::words::coefficients;
+use test_lines::words::coordinates;
+use test_lines::words::copy;
+use test_lines::words::first;
+use test_lines::words::put;
+use test_lines::words::put_coefficients;
+
+// A word as the answer.
+fn done(w: &mut [u64], x: Word) -> Answer {
+    put(w, x);
+    one(0)
+}
+
+fn inv(a: &[u64], w: &mut [u64]) -> Answer {
+    let r = field_gf128::inv(first(a));
+    let x = r.word;
+    put(w, x);
+    one(r.number)
+}
+
+fn phi_tab(a: &[u64], b: &[u64], w: &mut [u64]) -> Answer {
+    let t = field_pack::phi_tab(coefficients(b));
+    done(w, field_pack::phi_tab_apply(&t, first(a)))
+}
+
+fn eq_coefficients(a: &[u64], w: &mut [u64]) -> Answer {
+    put_coefficients(w, field_pack::eq_coefficients(coordinates(a)));
+    one(0)
+}
+
+// The operations that answer a word; the last answers 128.
+pub fn word(place: usize, a: &[u64], b: &[u64], w: &mut [u64]) -> Answer {
+    match place {
+        0 => done(w, field_gf128::add(first(a), first(b))),
+        1 => done(w, field_gf128::mul(first(a), first(b))),
+        2 => done(w, field_gf128::square(first(a))),
+        3 => inv(a, w),
+        4 => done(w, field_pack::phi_c(first(a), coefficients(b))),
+        5 => phi_tab(a, b, w),
+        6 => eq_coefficients(a, w),
+        _ => no_room(),
+    }
+}
+
+// A run times a word, where it is whole words.
+fn mul_run(a: &[u64], b: &[u64], w: &mut [u64]) -> Answer {
+    copy(w, a);
+    if w.len() % 2 != 0 {
+        return no_room();
+    }
+    let mut t = [0u64; 8192];
+    field_runs::scale(w, first(b), &mut t);
+    one(0)
+}
+
+// y + r × x, where both are whole words and of one length.
+fn axpy_run(a: &[u64], b: &[u64], c: &[u64], w: &mut [u64]) -> Answer {
+    copy(w, a);
+    if w.len() % 2 != 0 {
+        return no_room();
+    }
+    if b.len() != w.len() {
+        return no_room();
+    }
+    let mut t = [0u64; 8192];
+    field_runs::axpy(w, b, first(c), &mut t);
+    one(0)
+}
+
+// The operations on tables.
+pub fn table(
+    place: usize,
+    n: [usize; 8],
+    a: &[u64],
+    b: &[u64],
+    c: &[u64],
+    s: &[u8],
+    w: &mut [u64],
+) -> Answer {
+    match place {
+        0 => one(field_pack::pack_table(s, w)),
+        1 => one(field_equality::eq_table(n[0], a, w)),
+        2 => mul_run(a, b, w),
+        3 => axpy_run(a, b, c, w),
+        _ => no_room(),
+    }
+}

@@ -1,0 +1,37 @@
+// Ring switching: partial evaluations and the indicator of ring.rs.
+use test_lines::answer::Answer;
+use test_lines::answer::no_room;
+use test_lines::answer::one;
+use test_lines::words::coefficients;
+use test_lines::words::put;
+
+fn fold_partials(a: &[u64], b: &[u64], w: &mut [u64]) -> Answer {
+    let r = ring_partials::fold_partials(a, coefficients(b));
+    let x = r.word;
+    put(w, x);
+    one(r.number)
+}
+
+fn eval_at(n: usize, a: &[u64], b: &[u64], c: &[u64], w: &mut [u64]) -> Answer {
+    let r = ring_indicator::eval_at(n, a, coefficients(b), c);
+    let x = r.word;
+    put(w, x);
+    one(r.number)
+}
+
+pub fn answer(
+    place: usize,
+    n: [usize; 8],
+    a: &[u64],
+    b: &[u64],
+    c: &[u64],
+    w: &mut [u64],
+) -> Answer {
+    match place {
+        0 => one(ring_partials::partial_evals(n[0], a, b, w)),
+        1 => fold_partials(a, b, w),
+        2 => one(ring_indicator::materialize(n[0], a, coefficients(b), w)),
+        3 => eval_at(n[0], a, b, c, w),
+        _ => no_room(),
+    }
+}

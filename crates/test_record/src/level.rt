@@ -1,0 +1,79 @@
+// Levels, profiles, committing and the last level: eval.rs, and docs/SPECIFICATION.md's `tail-list`.
+use code_profile::Parameters;
+use code_profile::Profile;
+use test_lines::answer::Answer;
+use test_lines::answer::no_room;
+use test_lines::answer::one;
+use test_lines::answer::three;
+use test_lines::bytes::put_part;
+use test_lines::words::copy;
+
+// A length as the answer.
+fn length(x: usize) -> Answer {
+    Answer {
+        count: 1,
+        numbers: [x as u64, 0, 0, 0],
+    }
+}
+
+// The domain of a level, where it has room.
+fn level_domain(n: usize, s: &[u8], y: &mut [u8]) -> Answer {
+    let mut out = [0u8; 512];
+    if n >= 100 {
+        return no_room();
+    }
+    if s.len() > 503 {
+        return no_room();
+    }
+    let end = code_level::level_domain(&mut out, s, n);
+    put_part(y, 0, &out, 0, y.len());
+    length(end)
+}
+
+// The default, or one of the four profiles.
+fn parameters(profile: usize) -> Parameters {
+    match profile {
+        1 => code_profile::parameters_of(Profile::FastChunk),
+        2 => code_profile::parameters_of(Profile::Balanced),
+        3 => code_profile::parameters_of(Profile::CompactWrap),
+        4 => code_profile::parameters_of(Profile::DeepWrap),
+        _ => code_profile::default_parameters(),
+    }
+}
+
+// k, the query count, the domain's length, and the domain with zeros after it.
+fn profile(n: usize, y: &mut [u8]) -> Answer {
+    let p = parameters(n);
+    let domain = p.domain;
+    put_part(y, 0, &domain, 0, 24);
+    Answer {
+        count: 3,
+        numbers: [p.k as u64, p.queries as u64, p.length as u64, 0],
+    }
+}
+
+fn tails(s: &[u8], w: &mut [u64]) -> Answer {
+    let r = export_tail_entries::tails(s);
+    let entries = r.entries;
+    copy(w, &entries);
+    three(r.number, r.n, r.k)
+}
+
+pub fn answer(
+    place: usize,
+    n: [usize; 8],
+    a: &[u64],
+    s: &[u8],
+    w: &mut [u64],
+    x: &mut [u64],
+    y: &mut [u8],
+) -> Answer {
+    match place {
+        0 => length(code_level::fold_tree_width(n[0])),
+        1 => level_domain(n[0], s, y),
+        2 => profile(n[0], y),
+        3 => one(code_commit::commit(n[0], n[1], s, a, w, x, y)),
+        4 => tails(s, w),
+        _ => no_room(),
+    }
+}

@@ -1,0 +1,239 @@
+-- The single claim is proved, from nothing but the ranges.
+use Prim.Native.Nat.{ℕ, suc, _+_, _-_, _*_, _/_, _^_, _<_, _≤_}
+use mathlib.Core.Path.{_≡_, refl, sym, _∙_, ap}
+use mathlib.Core.Logic.{_↔_, _⊎_, ⊎-elim, inl, inr}
+use mathlib.Core.List.{List, [], _∷_, _++_}
+use native.Mathlib.Omega.{arith}
+use borrow.Author.Tests.{le-leb, eq-eqb, lt-ltb}
+use lib.Dec.{ltb}
+use lib.ListN.{length, getD}
+use Rattle.theory_laws.specs.Table.{at}
+use Rattle.theory_laws.specs.Lists.{flat}
+use Rattle.theory_laws.specs.Questions.{_asks_}
+use Rattle.theory_laws.proofs.Questions.{yes-all}
+use Rattle.theory_laws.proofs.Lists.{Bytes, length-flat}
+use Rattle.theory_field.specs.Words.{words}
+use Rattle.theory_field.proofs.Words.{length-words-even}
+use Rattle.theory_multilinear.specs.Folds.{atFirst}
+use Rattle.theory_multilinear.specs.Multilinear.{mle}
+use Rattle.theory_multilinear.specs.Points.{addPoint}
+use Rattle.theory_multilinear.specs.Codeword.{shift}
+use Rattle.theory_multilinear.specs.Levels.{level}
+use Rattle.theory_multilinear.proofs.Levels.{last-level-at}
+use Rattle.theory_multilinear.proofs.Codeword.{length-encode, encode-lt}
+use Rattle.theory_merkle.proofs.Tree.{treeOf-root}
+use Rattle.theory_blake3.specs.Digest.{hash}
+use Rattle.theory_blake3.proofs.HashMode.{length-hash}
+use Rattle.theory_code.specs.Gammas.{gammas}
+use Rattle.theory_code.specs.Questions.{sized, lent, foldNumber}
+use Rattle.theory_record.specs.Widths.{present, levelLength, levelWidth, levelGroups, treeLength}
+use Rattle.theory_record.specs.Domain.{levelDomain}
+use Rattle.theory_record.specs.Trees.{treeFor, rootFor, levelsLent, treesLent, rootsLent}
+use Rattle.theory_record.specs.Sizes.{querySize, tailSize}
+use Rattle.theory_record.specs.Query.{Answer, accepted, checkQuery}
+use Rattle.theory_record.specs.Tail.{checkTail}
+use Rattle.theory_record.specs.Build.{treeStart, buildQueryNumber, buildQuery, buildTailNumber, buildTail}
+use Rattle.theory_record.proofs.Ranges.{SizesFit, sizes-small}
+use Rattle.theory_record.proofs.Runs.{Words}
+use Rattle.theory_record.proofs.Totals.{endToEnd-ext}
+use Rattle.theory_record.proofs.Chain.{Sized, length-treesLent}
+use Rattle.theory_record.proofs.Widths.{present-powers, level-shape}
+use Rattle.theory_record.proofs.Accepted.{length-treeFor, treeFor-long}
+use Rattle.theory_record.proofs.BuildAllowed.{QueryBuild, TailBuild, build-query, build-query-done, build-tail, build-tail-done}
+use Rattle.theory_record.specs.Build.{levelsLength}
+use Rattle.theory_record.specs.Accepted.{AcceptedQuery, AcceptedTail}
+use Rattle.theory_record.proofs.Committed.{codeword-sized, committed-query, committed-tail, claim-is-P}
+use Rattle.theory_merkle.specs.Numbers.{buildNumber}
+use Rattle.theory_record.proofs.Domain.{levelDomain-fits}
+use Rattle.theory_claim.specs.Commit.{commitQuestions, commitNumber, committedCodeword, committedTree}
+use Rattle.theory_record.proofs.LevelTree.{build-allowed, groups-some}
+use Rattle.theory_record.proofs.Exactly.{query-exactly, tail-exactly}
+use Rattle.theory_compare.proofs.Compare.{Equal, Different, compare-accepted}
+use Rattle.theory_claim.specs.Calls.{Call, callNumber, doneFolds, afterFolds, leftBy}
+use Rattle.theory_claim.specs.Claim.{Deposit, committed, levelOf, Lent, LastLent, After, Collided, Outcome, Claim, Theorem}
+use Rattle.theory_claim.proofs.Calls.{after-level, left-level, refused-among, refused-exist, calls-exist}
+use Rattle.theory_compare.specs.Compare.{messageBuffer}
+use Rattle.theory_record.specs.Scheme.{Scheme, scheme}
+
+-- 2^j halved
+half-power : (i j : ℕ) → j ≡ suc i → 2 ^ j / 2 ≡ 2 ^ i
+half-power i j e = rw e (omega arith)
+
+module _ (n k : ℕ) (base table challenges : List ℕ) (d : Deposit n k base table challenges) where
+  abbrev S : Scheme
+  S = scheme base n k
+
+  abbrev c : List ℕ
+  c = committed n k base table challenges
+
+  sizes : SizesFit n k
+  sizes = record { n-most = d .n-most; k-most = d .k-most; n-least = d .n-least }
+
+  r-long : length (words challenges) ≡ n
+  r-long = length-words-even challenges n (d .challenges-long)
+
+  c-long : length c ≡ 2 ^ (n + k)
+  unfolding committedCodeword
+  c-long = length-encode n k _ (words table)
+
+  c-words : Words c
+  unfolding committedCodeword
+  c-words = encode-lt n k _ (words table)
+
+  -- ---- 0
+  commit-done : commitNumber present n k (length base) (length table) (2 * (k * n)) (2 * length c) (32 * treeLength present n k 0) ≡ 0
+  unfolding commitNumber
+  commit-done =
+      yes-all (commitQuestions present n k (length base) (length table) (2 * (k * n)) (2 * length c) (32 * treeLength present n k 0)) (
+        le-leb n 20 (d .n-most),
+        (
+          le-leb k 4 (d .k-most),
+          (
+            eq-eqb _ _ (d .table-long),
+            (eq-eqb (2 * (k * n)) _ refl, (eq-eqb _ _ (ap (λ (x : ℕ). 2 * x) c-long), (eq-eqb (32 * treeLength present n k 0) _ refl, (le-leb _ 200 (d .base-short), tt)))),
+          ),
+        ),
+      )
+
+  commit-leaves : committedTree S (words table) ≡ flat (treeFor S 0 c)
+  unfolding committedTree
+  commit-leaves = refl
+
+  fold-done : (l : ℕ) → l < n → foldNumber (n - l) k 0 (2 * levelLength n k l) (2 * levelLength n k (suc l)) ≡ 0
+  unfolding foldNumber levelLength
+  fold-done l h =
+      let e : n + k - l ≡ n - l + k = omega arith in
+      let half : 2 ^ (n + k - suc l) ≡ 2 ^ (n - l + k) / 2 = sym (half-power (n + k - suc l) (n - l + k) (omega arith)) in
+      yes-all (sized (n - l) k (lent (2 * 2 ^ (n + k - l)) (2 ^ (n - l + k)) ∷ lent (2 * 2 ^ (n + k - suc l)) (2 ^ (n - l + k) / 2) ∷ (6 asks ltb 0 (n - l)) ∷ [])) (
+        le-leb (n - l) 20 (omega (arith, d .n-most)),
+        (
+          le-leb k 4 (d .k-most),
+          (
+            eq-eqb _ _ (ap (λ (x : ℕ). 2 * 2 ^ x) e),
+            (eq-eqb _ _ (ap (λ (x : ℕ). 2 * x) half), (lt-ltb 0 (n - l) (omega arith), tt)),
+          ),
+        ),
+      )
+
+  tree-done : (l : ℕ) → l ≤ n → buildNumber (length (levelDomain base l)) (levelLength n k l) (levelWidth present n k l) (2 * levelLength n k l) (32 * treeLength present n k l) ≡ 0
+  tree-done l h =
+      build-allowed n k l (length (levelDomain base l)) (2 * levelLength n k l) (32 * treeLength present n k l) (sizes-small n k sizes)
+      (omega (arith, levelDomain-fits base l (d .base-short) (omega (arith, d .n-most)))) refl refl
+
+  root-last : (l : ℕ) (values : List ℕ) → getD (treeFor S l values) (treeLength present n k l - 1) [] ≡ rootFor S l values
+  unfolding treeFor rootFor treeLength
+  root-last l values = treeOf-root hash (levelDomain base l) (levelLength n k l) (levelWidth present n k l) (level-shape present n k l present-powers .tree) values
+
+  query-done : (ls ts out : List ℕ) (position : ℕ) → length ls ≡ 2 * levelsLength n k → length ts ≡ 32 * treeStart present n k (suc n) → length out ≡ querySize present n k
+      → position < 2 ^ (n + k) → buildQueryNumber present n k ls ts position out ≡ 0
+  query-done ls ts out position l t o low =
+      build-query present n k ls ts position out (record { sizes = sizes; levels-long = l; trees-long = t; out-long = o; position-low = low })
+
+  tail-done : (last tree out : List ℕ) → length last ≡ 2 * levelLength n k n → length tree ≡ 32 * treeLength present n k n → length out ≡ tailSize present n k
+      → buildTailNumber present n k last tree out ≡ 0
+  tail-done last tree out l t o = build-tail present n k last tree out (record { sizes = sizes; level-long = l; tree-long = t; out-long = o })
+
+  -- ---- 2: after calls whose done ones are n folds at variable 0 by r
+  module _ (calls : List Call) (done : doneFolds c calls ≡ atFirst (words challenges)) where
+    abbrev levels : ℕ → List ℕ
+    levels = levelOf n k base table challenges calls
+
+    abbrev folded : ℕ → List ℕ
+    folded = level c (words challenges)
+
+    -- level l, after l done folds, is the codeword folded l times at variable 0
+    level-is : (l : ℕ) → l ≤ n → levels l ≡ folded l
+    level-is l h = after-level calls c (words challenges) done l (rw r-long h)
+
+    level-long : (l : ℕ) → l ≤ n → length (levels l) ≡ levelLength n k l
+    level-long l h = ap length (level-is l h) ∙ codeword-sized n k c (words challenges) c-long (sizes-small n k sizes) c-words .long l h
+
+    levels-lent : levelsLent n levels ≡ levelsLent n folded
+    levels-lent = endToEnd-ext (suc n) levels folded (λ l h. level-is l (omega arith))
+
+    trees-lent : treesLent S levels ≡ treesLent S folded
+    trees-lent = endToEnd-ext (suc n) _ _ (λ l h. ap (λ (x : List ℕ). flat (treeFor S l x)) (level-is l (omega arith)))
+
+    roots-lent : rootsLent S levels ≡ rootsLent S folded
+    roots-lent = endToEnd-ext (suc n) _ _ (λ l h. ap (rootFor S l) (level-is l (omega arith)))
+
+    last-left : leftBy c calls ≡ levels n
+    last-left = left-level calls c (words challenges) done ∙ ap folded r-long ∙ sym (level-is n (omega arith))
+
+    last-entry : (eps : ℕ) → eps < 2 ^ k → at (levels n) eps ≡ mle (at (words table)) (addPoint (words challenges) (shift n k (gammas hash base n k) eps))
+    unfolding committedCodeword
+    last-entry eps h = ap (λ (x : List ℕ). at x eps) (level-is n (omega arith)) ∙ last-level-at n k eps (gammas hash base n k) (words table) (words challenges) r-long h
+
+    query-record : (ls ts roots : List ℕ) → Lent n k base table challenges calls ls ts roots → (position : ℕ) → position < 2 ^ (n + k) → (out : List ℕ) → length out ≡ querySize present n k
+        → checkQuery S position challenges roots (buildQuery present n k ls ts position out) ≡ accepted
+    query-record ls ts roots z position low out long =
+        let e : ts ≡ treesLent S folded = z .trees-are ∙ trees-lent in
+        let sized = codeword-sized n k c (words challenges) c-long (sizes-small n k sizes) c-words in
+        let t : length (treesLent S folded) ≡ 32 * treeStart present n k (suc n) = length-treesLent S length-hash present-powers folded sized in
+        let b : QueryBuild present n k ls ts position out = record { sizes = sizes; levels-long = z .levels-long; trees-long = ap length e ∙ t; out-long = long; position-low = low } in
+        rw (build-query-done present n k ls ts position out b, z .levels-are, levels-lent, e, z .roots-are, roots-lent)
+        (committed-query S length-hash present-powers (d .base-short) sizes c c-long c-words challenges (d .challenges-long) position low)
+
+    tail-record : (last tree root : List ℕ) → LastLent n k base table challenges calls last tree root → (out : List ℕ) → length out ≡ tailSize present n k
+        → (claim : ℕ) → (checkTail S root claim (buildTail present n k last tree out) ≡ 0) ↔ (claim ≡ mle (at (words table)) (words challenges))
+    unfolding committedCodeword
+    tail-record last tree root z out long claim =
+        let same : levels n ≡ folded n = level-is n (omega arith) in
+        let t : length tree ≡ 32 * treeLength present n k n =
+        ap length (z .tree-is) ∙ length-flat 32 (treeFor S n (levels n)) (treeFor-long S length-hash n (levels n))
+        ∙ ap (λ (x : ℕ). 32 * x) (length-treeFor S n (levels n) present-powers) in
+        let b : TailBuild present n k last tree out = record { sizes = sizes; level-long = z .level-long; tree-long = t; out-long = long } in
+        rw (build-tail-done present n k last tree out b, z .level-is, z .tree-is, z .root-is, same, ← claim-is-P n k (gammas hash base n k) (words table) challenges (d .challenges-long))
+        (committed-tail S length-hash present-powers (d .base-short) sizes c c-long c-words challenges (d .challenges-long) claim)
+
+    after : After n k base table challenges calls
+    after = record { level-long = level-long; last-left = last-left; last-entry = last-entry; query-record = query-record; tail-record = tail-record }
+
+  -- ---- 4
+  two-records : (position : ℕ) (rs roots u v old old′ : List ℕ) → Bytes u → Bytes v → length old ≡ messageBuffer → length old′ ≡ messageBuffer
+      → checkQuery S position rs roots u ≡ accepted → checkQuery S position rs roots v ≡ accepted
+      → Outcome n k base table challenges position rs roots u v old old′
+  two-records position rs roots u v old old′ bu bv e e′ au av =
+      ⊎-elim
+      (λ (x : Equal S position rs roots u v old old′). inl (x .gives-33, x .are-same))
+      (λ (x : Different S position rs roots u v old old′). inr (collided x))
+      (compare-accepted S position rs roots u v old old′ length-hash present-powers (omega arith) bu bv e e′
+      (ap (λ (a : Answer). a .number) au) (ap (λ (a : Answer). a .number) av))
+    where
+      collided : Different S position rs roots u v old old′ → Collided n k base table challenges position rs roots u v old old′
+      collided x =
+          record {
+            gives-0 = x .gives-0;
+            unequal = x .are-not;
+            differ = x .differ;
+            one-digest = x .one-digest;
+            lengths = (x .first-long, x .second-long);
+            fit = (omega (arith, x .first-long, x .first-fits, e), omega (arith, x .second-long, x .second-fits, e′));
+            nearest = x .nearest;
+          }
+
+  few-groups : levelGroups present n k n < 2 ^ 32
+  few-groups = omega (arith, groups-some n k n (levelGroups present n k n) (sizes-small n k sizes) refl .1)
+
+  -- the whole
+  parts : Claim n k base table challenges
+  parts =
+      record {
+        commit-done = commit-done;
+        commit-leaves = commit-leaves;
+        fold-done = fold-done;
+        tree-done = tree-done;
+        root-last = λ l h values. root-last l values;
+        query-done = query-done;
+        tail-done = tail-done;
+        calls-exist = calls-exist k n (words challenges) c (d .n-most) (d .k-most) (omega (arith, r-long)) c-long;
+        refused-among = λ before behind x bad. refused-among before behind c x bad;
+        refused-exist = refused-exist;
+        after-calls = after;
+        query-exactly = λ position rs roots bytes b. query-exactly S position rs roots bytes b;
+        tail-exactly = λ root claim bytes b. tail-exactly S root claim bytes b few-groups;
+        two-records = two-records;
+      }
+
+pub claim : Theorem
+claim = parts

@@ -1,0 +1,13 @@
+pub mod Numbers
+pub mod Parity
+pub mod Xor
+pub mod Linear
+pub mod Sum
+pub mod Windows
+pub mod Table
+pub mod Places
+pub mod Lists
+pub mod Same
+pub mod Bytes
+pub mod Updates
+pub mod Questions

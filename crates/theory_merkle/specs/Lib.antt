@@ -1,0 +1,6 @@
+pub mod Message
+pub mod Tree
+pub mod Shape
+pub mod Binding
+pub mod Questions
+pub mod Numbers

@@ -1,0 +1,17 @@
+pub mod Equality
+pub mod Fold
+pub mod Folds
+pub mod Points
+pub mod Multilinear
+pub mod Extension
+pub mod Block
+pub mod Shift
+pub mod Codeword
+pub mod Levels
+pub mod Passes
+pub mod PassLoop
+pub mod FoldLoop
+pub mod Phi
+pub mod Partials
+pub mod Tensor
+pub mod Indicator

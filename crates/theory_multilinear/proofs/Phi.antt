@@ -1,0 +1,49 @@
+-- phi_c is additive, and of x^b it is c[b]; a product with a word goes by the word's bits.
+use mathlib.Core.Path.{_≡_, refl, ap, _∙_, fun-ext}
+use Prim.Native.Nat.{ℕ, zero, suc, _^_, _<_}
+use lib.Dec.{lit<}
+use Rattle.theory_laws.specs.Xor.{_⊕_, bit, sel}
+use Rattle.theory_laws.specs.Sum.{sum}
+use Rattle.theory_laws.proofs.Xor.{sel-bit, sel-lt}
+use Rattle.theory_laws.proofs.Sum.{sum-⊕, sum-map, sum-at, sum-lt, word-bits}
+use Rattle.theory_laws.proofs.Parity.{bit-same, bit-other}
+use Rattle.theory_laws.proofs.Linear.{at-zero}
+use Rattle.theory_field.specs.Field.{_⊗_}
+use Rattle.theory_field.proofs.Product.{⊕-⊗, ⊗-comm, ⊗-sel}
+use Rattle.theory_multilinear.specs.Phi.{phi}
+
+-- of a sum of two words it is the sum of both (SPECIFICATION 2.5)
+pub phi-add : (c : ℕ → ℕ) (a b : ℕ) → phi c (a ⊕ b) ≡ phi c a ⊕ phi c b
+unfolding phi
+phi-add c a b = ap (sum _) (fun-ext (λ i. sel-bit i a b (c i))) ∙ sum-⊕ _ (λ i. sel (bit i a) (c i)) (λ i. sel (bit i b) (c i))
+
+-- of the word x^b it is c[b] (SPECIFICATION 2.5)
+pub phi-power : (c : ℕ → ℕ) (b : ℕ) → b < 128 → phi c (2 ^ b) ≡ c b
+unfolding phi sel
+phi-power c b h =
+    sum-at _ b (λ i. sel (bit i (2 ^ b)) (c i)) h (λ i a. ap (λ x. sel x (c i)) (bit-other i b a)) ∙ ap (λ x. sel x (c b)) (bit-same b)
+
+pub phi-one : (c : ℕ → ℕ) → phi c 1 ≡ c 0
+phi-one c = phi-power c 0 (lit< tt)
+
+pub phi-zero : (c : ℕ → ℕ) → phi c 0 ≡ 0
+phi-zero c = at-zero (phi c) (phi-add c)
+
+pub phi-sum : (c : ℕ → ℕ) (m : ℕ) (f : ℕ → ℕ) → phi c (sum m f) ≡ sum m (λ v. phi c (f v))
+phi-sum c = sum-map (phi c) (phi-add c)
+
+pub phi-sel : (c : ℕ → ℕ) (b x : ℕ) → phi c (sel b x) ≡ sel b (phi c x)
+unfolding sel
+phi-sel c zero x = phi-zero c
+phi-sel c (suc b) x = refl
+
+pub phi-lt : (c : ℕ → ℕ) → ((i : ℕ) → c i < 2 ^ 128) → (w : ℕ) → phi c w < 2 ^ 128
+unfolding phi
+phi-lt c h w = sum-lt 128 128 (λ i. sel (bit i w) (c i)) (λ i. sel-lt (bit i w) 128 (c i) (h i))
+
+-- a product with a word, bit by bit
+pub word-times : (w x : ℕ) → w < 2 ^ 128 → w ⊗ x ≡ sum 128 (λ j. sel (bit j w) (2 ^ j ⊗ x))
+word-times w x h =
+    ap (λ y. y ⊗ x) (word-bits 128 w h)
+    ∙ sum-map (λ y. y ⊗ x) (λ a b. ⊕-⊗ a b x) 128 (λ j. sel (bit j w) (2 ^ j))
+    ∙ ap (sum 128) (fun-ext (λ j. ⊗-comm (sel (bit j w) (2 ^ j)) x ∙ ⊗-sel (bit j w) x (2 ^ j) ∙ ap (sel (bit j w)) (⊗-comm x (2 ^ j))))

@@ -1,0 +1,10 @@
+pub mod Equality
+pub mod Points
+pub mod Multilinear
+pub mod Fold
+pub mod Extension
+pub mod Folds
+pub mod Codeword
+pub mod Levels
+pub mod Phi
+pub mod Partials

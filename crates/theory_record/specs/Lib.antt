@@ -1,0 +1,11 @@
+pub mod Widths
+pub mod Domain
+pub mod Scheme
+pub mod Trees
+pub mod Profiles
+pub mod Format
+pub mod Sizes
+pub mod Query
+pub mod Tail
+pub mod Build
+pub mod Accepted

@@ -1,0 +1,54 @@
+-- The small values of SPECIFICATION 12.1: what the definitions give, and what is expected. Rests on every crate that
+-- has one of these definitions.
+use Prim.Native.Nat.{ℕ, _^_}
+use mathlib.Core.Path.{_≡_}
+use mathlib.Core.List.{List, [], _∷_}
+use lib.ListN.{replicate}
+use Rattle.theory_laws.specs.Table.{at}
+use Rattle.theory_field.specs.Field.{_⊗_, sq, inverse}
+use Rattle.theory_multilinear.specs.Equality.{eqTable}
+use Rattle.theory_multilinear.specs.Fold.{foldList}
+use Rattle.theory_multilinear.specs.Codeword.{encode}
+use Rattle.theory_multilinear.specs.Partials.{partialEvals, indicator}
+use Rattle.theory_record.specs.Widths.{present, widthFor}
+
+-- a case: the values that a definition gives, and those of the specification
+pub record Case : Type 0 where
+  pub given : List ℕ
+  pub expected : List ℕ
+
+infix 40 _gives_
+abbrev pub _gives_ : List ℕ → List ℕ → Case
+a gives b = record { given = a; expected = b }
+
+-- one value
+abbrev pub one : ℕ → List ℕ
+one x = x ∷ []
+
+-- n = k = 1, table 5, 9, gamma 7
+unfoldable pub codeword : List ℕ
+codeword = encode 1 1 (one 7) (5 ∷ 9 ∷ [])
+
+abbrev pub cases : List Case
+cases =
+    (one (2 ^ 127 ⊗ 2) gives one 0x87)
+    ∷ (one (3 ⊗ 3) gives one 5)
+    ∷ (one (sq (2 ^ 127)) gives one 0xC0000000000000000000000000001067)
+    ∷ (one (inverse 2) gives one 0x80000000000000000000000000000043)
+    ∷ (eqTable (2 ∷ []) gives (3 ∷ 2 ∷ []))
+    ∷ (eqTable (2 ∷ 4 ∷ []) gives (15 ∷ 10 ∷ 12 ∷ 8 ∷ []))
+    -- z = (2), point (2), rb[0] = 1, rb[1] = 4, others 0
+    ∷ (one (indicator (at (1 ∷ 4 ∷ [])) (2 ∷ []) (2 ∷ [])) gives one 7)
+    -- words (5), empty point: s_0 = s_2 = 1, others 0
+    ∷ (partialEvals 0 (5 ∷ []) (eqTable []) gives (1 ∷ 0 ∷ 1 ∷ replicate 125 0))
+    ∷ (codeword gives (5 ∷ 9 ∷ 33 ∷ 45 ∷ []))
+    -- folded by 2
+    ∷ (foldList 0 2 codeword gives (29 ∷ 57 ∷ []))
+    -- the widths of lengths 1, 2, 8, 16
+    ∷ ((widthFor present 1 ∷ widthFor present 2 ∷ widthFor present 8 ∷ widthFor present 16 ∷ []) gives (1 ∷ 2 ∷ 2 ∷ 8 ∷ []))
+    ∷ []
+
+-- every case of a list gives what is expected
+abbrev pub AllHold : List Case → Type 0
+AllHold [] = Unit
+AllHold (c ∷ cs) = (c .given ≡ c .expected) × AllHold cs

@@ -1,0 +1,154 @@
+-- `tree_build::put_leaves_from` meets its contract.
+-- The loop's invariant: storing the leaves of the groups that are left gives the final buffer, and the message's prefix is kept.
+use denote.Ref.{now}
+use Prim.Native.Nat.{_≤_, _-_, _*_}
+use mathlib.Core.Path.{_≡_, refl, _∙_}
+use lib.ListN.{length, take, drop}
+use Rattle.theory_laws.specs.Lists.{runs, flat, stored}
+use Rattle.theory_field.specs.Words.{words}
+use Rattle.theory_blake3.specs.Digest.{hash}
+use Rattle.theory_merkle.specs.Message.{leafPrefix}
+use Rattle.theory_merkle.specs.Tree.{leavesFrom}
+use Rattle.theory_merkle.proofs.Sizes.{group-room}
+use Rattle.tree_digest.proofs.Messages.{prefix-is}
+use Rattle.tree_four_messages.proofs.Values.{group-length, next-group}
+use Rattle.tree_by_fours.proofs.Leaves.{groups-room, leaves-end}
+use Rattle.tree_build.proofs.Leaves.{leaves-step}
+use borrow.Author.Needs.{needs}
+use native.Mathlib.Omega.{arith}
+use Rattle.tree_build.proofs.put_leaves_from.Statement.{statement}
+use Rattle.tree_build.proofs.put_leaves_from.Tie as tie
+
+abbrev Inv-loop : tie.InvT-loop
+Inv-loop tree₀ message₀ domain count width first values groups prefix from₀ to₀ g₀ tree message from to g =
+    (g ≤ groups) × (from ≡ 2 * (width * g)) × (to ≡ 32 * g) × (length tree ≡ length tree₀) × (length message ≡ length message₀)
+    × (take prefix message ≡ leafPrefix domain count width)
+    × (stored tree to (flat (leavesFrom hash domain count width g (runs width (groups - g) (drop (width * g) (words values)))))
+    ≡ stored tree₀ to₀ (flat (leavesFrom hash domain count width first (runs width (groups - first) (drop (width * first) (words values))))))
+
+abbrev μ-loop : tie.MeasureT-loop
+μ-loop tree₀ message₀ domain count width first values groups prefix from₀ to₀ g₀ tree message from to g = groups - g
+
+div-groups : tie.Need-div-groups Inv-loop μ-loop
+div-groups c = search needs
+
+leaf-prefix-requires : tie.Need-leaf-prefix-requires Inv-loop μ-loop
+leaf-prefix-requires c κs = search needs
+
+mul-from : tie.Need-mul-from Inv-loop μ-loop
+mul-from c =
+    let start : tie.Start Inv-loop μ-loop = search in
+    omega (arith, groups-room _ _ _ (start .pre .yes .shaped .shape) (start .pre .begun))
+
+mul-from-2 : tie.Need-mul-from-2 Inv-loop μ-loop
+mul-from-2 c =
+    let start : tie.Start Inv-loop μ-loop = search in
+    omega (arith, groups-room _ _ _ (start .pre .yes .shaped .shape) (start .pre .begun))
+
+mul-to : tie.Need-mul-to Inv-loop μ-loop
+mul-to c = search needs
+
+loop-holds : tie.Need-loop-holds Inv-loop μ-loop
+loop-holds c = (search needs, refl, refl, refl, refl, prefix-is _ _ _ _ _ (c .before .before .leaf-prefix .ensures) (omega arith), refl)
+
+mul-end : tie.Need-mul-end Inv-loop μ-loop
+mul-end c = search needs
+
+add-end : tie.Need-add-end Inv-loop μ-loop
+add-end c =
+    let start : tie.Start Inv-loop μ-loop = search in
+    omega (arith, group-room _ _ _ (start .pre .yes .shaped .shape) (c .loop-test .taken))
+
+mul-hash-group : tie.Need-mul-hash-group Inv-loop μ-loop
+mul-hash-group c =
+    let start : tie.Start Inv-loop μ-loop = search in
+    omega (arith, group-room _ _ _ (start .pre .yes .shaped .shape) (c .before .loop-test .taken))
+
+sub-hash-group : tie.Need-sub-hash-group Inv-loop μ-loop
+sub-hash-group c = search needs
+
+part-hash-group-start : tie.Need-part-hash-group-start Inv-loop μ-loop
+part-hash-group-start c = search needs
+
+part-hash-group-end : tie.Need-part-hash-group-end Inv-loop μ-loop
+part-hash-group-end c =
+    let start : tie.Start Inv-loop μ-loop = search in
+    omega (arith, group-room _ _ _ (start .pre .yes .shaped .shape) (c .before .loop-test .taken))
+
+hash-group-requires : tie.Need-hash-group-requires Inv-loop μ-loop
+hash-group-requires c κs =
+    let start : tie.Start Inv-loop μ-loop = search in
+    let a = start .args in (
+      group-length (now (a .values)) (c .before .before .before .loop .from) (2 * a .width)
+          (omega (arith, group-room _ _ _ (start .pre .yes .shaped .shape) (c .before .before .loop-test .taken))),
+      omega arith,
+      omega arith,
+    )
+
+slice-aggregate-put : tie.Need-slice-aggregate-put Inv-loop μ-loop
+slice-aggregate-put c = search needs
+
+put-requires : tie.Need-put-requires Inv-loop μ-loop
+put-requires c κs =
+    let start : tie.Start Inv-loop μ-loop = search in
+    omega (arith, start .pre .yes .tree-is)
+
+add-g : tie.Need-add-g Inv-loop μ-loop
+add-g c = search needs
+
+loop-less : tie.Need-loop-less Inv-loop μ-loop
+loop-less c = search needs
+
+loop-again : tie.Need-loop-again Inv-loop μ-loop
+loop-again c =
+    let after-hash-group : tie.After-hash-group Inv-loop μ-loop = search in
+    let in-loop = after-hash-group .before .before .before in
+    let at-loop = in-loop .before in
+    let q = at-loop .loop in
+    let h = after-hash-group .hash-group .ensures in
+    let p = c .before .before .put .ensures in (
+      search needs,
+      next-group _ _ _ (q .inv .1),
+      omega arith,
+      search needs,
+      search needs,
+      (h .kept) ∙ (q .inv .5),
+      leaves-step _ _ _ _ _ _ (in-loop .loop-test .taken) (q .inv .1) (q .inv .5) h p (q .inv .6),
+    )
+
+same-length : tie.Need-same-length Inv-loop μ-loop
+same-length c = search needs
+
+same-length-2 : tie.Need-same-length-2 Inv-loop μ-loop
+same-length-2 c = search needs
+
+returns : tie.Need-returns Inv-loop μ-loop
+returns c = leaves-end _ _ _ _ _ _ _ _ _ (c .loop-test .left) (c .before .loop .inv .6)
+
+pub put-leaves-from-spec : {M : Type 1} → statement M
+put-leaves-from-spec =
+    tie.close
+    (tie.spec
+    Inv-loop
+    μ-loop
+    div-groups
+    leaf-prefix-requires
+    mul-from
+    mul-from-2
+    mul-to
+    loop-holds
+    mul-end
+    add-end
+    mul-hash-group
+    sub-hash-group
+    part-hash-group-start
+    part-hash-group-end
+    hash-group-requires
+    slice-aggregate-put
+    put-requires
+    add-g
+    loop-less
+    loop-again
+    same-length
+    same-length-2
+    returns)

@@ -1,0 +1,127 @@
+// A tree over groups of words, built in a lent buffer, after magnetar-hash. The entry is `build`; the other functions require.
+use bytes_numbers::load;
+use tree_digest::hash_group;
+use tree_digest::hash_node;
+use tree_place::Group;
+ghost use mathlib.Core.Path.{_≡_};
+ghost use Prim.Native.Nat.{_+_, _*_, _^_, _≤_};
+ghost use lib.ListN.{length};
+ghost use Rattle.theory_laws.specs.Lists.{runs, flat, stored};
+ghost use Rattle.theory_field.specs.Words.{words};
+ghost use Rattle.theory_blake3.specs.Digest.{hash};
+ghost use Rattle.theory_merkle.specs.Tree.{leaves, levelsFrom, endToEnd};
+ghost use Rattle.theory_merkle.specs.Numbers.{buildNumber};
+ghost use Rattle.tree_place.specs.helpers.Yes.{BuildYes};
+ghost use Rattle.tree_by_fours.specs.helpers.Fours.{firstParents};
+ghost use Rattle.tree_build.specs.Built.{builtInto};
+ghost use Rattle.tree_build.specs.helpers.Put.{LeavesFit, ParentsFit, laterLeaves, laterParents};
+
+// The leaves of a tree from group `first` on, one group after the other, each at its place in the buffer.
+fn put_leaves_from(
+    tree: &mut [u8],
+    message: &mut [u8],
+    domain: &[u8],
+    count: usize,
+    width: usize,
+    first: usize,
+    values: &[u64],
+)
+    requires { ⌜ LeavesFit (length (now domain)) count width (length (now values)) (length (now tree)) first (length (now message)) ⌝ }
+    ensures { λ _. ⌜ now (tree .exit) ≡ laterLeaves (now (tree .entry)) (now (domain .entry)) count width first (now (values .entry)) ⌝ }
+{
+    let groups = count / width;
+    let prefix = tree_message::leaf_prefix(message, domain, count, width);
+    let mut from: usize = 2 * (width * first);
+    let mut to: usize = 32 * first;
+    let mut g: usize = first;
+    while g < groups {
+        let end = from + 2 * width;
+        let d = hash_group(message, prefix, width, Group(g), &values[from..end]);
+        to = bytes_numbers::put(tree, to, &d);
+        from = end;
+        g += 1;
+    }
+}
+
+// The leaves of a tree, from the front of its buffer: by fours where that can be, and what is left one by one.
+fn put_leaves(tree: &mut [u8], domain: &[u8], count: usize, width: usize, values: &[u64])
+    requires { ⌜ BuildYes (length (now domain)) count width (length (now values)) (length (now tree)) ⌝ }
+    ensures { λ _. ⌜ now (tree .exit) ≡ stored (now (tree .entry)) 0 (flat (leaves hash (now (domain .entry)) count width (words (now (values .entry))))) ⌝ }
+{
+    let mut message = [0u8; tree_message::LEAF_MESSAGE];
+    let done = tree_by_fours::put_leaves(tree, &mut message, domain, count, width, values);
+    put_leaves_from(tree, &mut message, domain, count, width, done, values);
+}
+
+// The parents of a level's 2 × half digests, which start at byte from, written right after them: from parent `first` on, one by one.
+fn put_parents_from(
+    tree: &mut [u8],
+    message: &mut [u8],
+    domain: &[u8],
+    level: usize,
+    from: usize,
+    half: usize,
+    first: usize,
+)
+    requires { ⌜ ParentsFit (length (now domain)) (length (now tree)) from half first (length (now message)) ⌝ }
+    ensures { λ _. ⌜ now (tree .exit) ≡ laterParents (now (tree .entry)) (now (domain .entry)) level from half first ⌝ }
+{
+    let prefix = tree_message::node_prefix(message, domain, level);
+    let mut src = from + 64 * first;
+    let mut dst = from + 64 * half + 32 * first;
+    let mut j: usize = first;
+    while j < half {
+        let l = load(tree, src);
+        let r = load(tree, src + 32);
+        let d = hash_node(message, prefix, l, r);
+        dst = bytes_numbers::put(tree, dst, &d);
+        src += 64;
+        j += 1;
+    }
+}
+
+// The parents of a level's 2 × half digests, which start at byte from, written right after them: by fours, and what is left one by one.
+fn put_parents(tree: &mut [u8], domain: &[u8], level: usize, from: usize, half: usize)
+    requires { ⌜ (length (now domain) ≤ 255) × (from + 96 * half ≤ length (now tree)) ⌝ }
+    ensures { λ _. ⌜ now (tree .exit) ≡ firstParents (now (tree .entry)) (now (domain .entry)) level from half half ⌝ }
+{
+    let mut message = [0u8; 4096];
+    let done = tree_by_fours::put_parents(tree, &mut message, domain, level, from, half);
+    put_parents_from(tree, &mut message, domain, level, from, half, done);
+}
+
+// The levels above the leaves, which stand at the buffer's front: each right after the one below, up to the root.
+fn put_levels(tree: &mut [u8], domain: &[u8], depth: usize, groups: usize)
+    requires { ⌜ (length (now domain) ≤ 255) × (groups ≡ 2 ^ depth) × (length (now tree) + 32 ≡ 64 * groups) ⌝ }
+    ensures { λ _. ⌜ now (tree .exit) ≡ flat (endToEnd (levelsFrom hash (now (domain .entry)) depth 0 (runs 32 groups (now (tree .entry))))) ⌝ }
+{
+    let mut from: usize = 0;
+    let mut m = groups;
+    let mut level: usize = 0;
+    while level < depth {
+        let half = m / 2;
+        put_parents(tree, domain, level, from, half);
+        from += 64 * half;
+        m = half;
+        level += 1;
+    }
+}
+
+// The tree over count values in groups of width, leaves first, into a buffer of 2 × groups − 1 digests.
+pub fn build(domain: &[u8], count: usize, width: usize, values: &[u64], tree: &mut [u8]) -> u32
+    ensures { λ r. ⌜ r ≡ buildNumber (length (now (domain .entry))) count width (length (now (values .entry))) (length (now (tree .entry))) ⌝ }
+    ensures { λ _. ⌜ now (tree .exit) ≡ builtInto (now (domain .entry)) count width (now (values .entry)) (now (tree .entry)) ⌝ }
+{
+    let q = tree_place::build_number(domain.len(), count, width, values.len(), tree.len());
+    if q != 0 {
+        return q;
+    }
+    put_leaves(tree, domain, count, width, values);
+    put_levels(
+        tree,
+        domain,
+        tree_place::depth_of(count, width),
+        count / width,
+    );
+    0
+}

@@ -1,0 +1,233 @@
+-- `tree_by_fours::put_leaves` meets its contract.
+-- The loop's invariant: storing the leaves of the groups that are left gives the final buffer, and the messages' prefixes are kept.
+use denote.Ref.{now}
+use Prim.Native.Nat.{_≤_, _-_, _+_, _*_, _/_, _%_}
+use mathlib.Core.Path.{_≡_, refl, sym, _∙_, ap}
+use native.Mathlib.Omega.{arith}
+use lib.ListN.{length, drop}
+use borrow.Author.Needs.{needs}
+use Rattle.theory_laws.specs.Lists.{runs, flat, stored}
+use Rattle.theory_field.specs.Words.{words}
+use Rattle.theory_blake3.specs.Digest.{hash}
+use Rattle.theory_merkle.specs.Message.{leafPrefix}
+use Rattle.theory_merkle.specs.Tree.{leavesFrom}
+use Rattle.tree_digest.proofs.Messages.{message-length, prefix-is}
+use Rattle.tree_four_messages.specs.helpers.Strides.{Each}
+use Rattle.tree_four_messages.proofs.Values.{group-length}
+use Rattle.tree_four_messages.proofs.Whole.{prefixes-stand, kept-whole, common}
+use Rattle.tree_by_fours.specs.helpers.Fours.{byFours}
+use Rattle.tree_by_fours.proofs.Walk.{Begun, begun, front-sized}
+use Rattle.tree_by_fours.proofs.Leaves.{four-room, leaves-none, leaves-begin, leaves-turn, leaves-end}
+use Rattle.tree_by_fours.proofs.put_leaves.Statement.{statement}
+use Rattle.tree_by_fours.proofs.put_leaves.Tie as tie
+
+abbrev Inv-loop : tie.InvT-loop
+Inv-loop tree₀ messages₀ domain count width values all prefix h blocks size from₀ to₀ g₀ tree messages from to g =
+    (g ≤ all) × (g % 4 ≡ 0) × (from ≡ 2 * (width * g)) × (to ≡ 32 * g) × (length tree ≡ length tree₀) × (length messages ≡ length messages₀)
+    × Begun (leafPrefix domain count width) h prefix (24 + 16 * width) all (count / width) × Each prefix messages (λ k. leafPrefix domain count width)
+    × (stored tree to (flat (leavesFrom hash domain count width g (runs width (all - g) (drop (width * g) (words values)))))
+    ≡ stored tree₀ 0 (flat (leavesFrom hash domain count width 0 (runs width all (words values)))))
+
+abbrev μ-loop : tie.MeasureT-loop
+μ-loop tree₀ messages₀ domain count width values all prefix h blocks size from₀ to₀ g₀ tree messages from to g = all - g
+
+add-by-fours : tie.Need-add-by-fours Inv-loop μ-loop
+add-by-fours c = search needs
+
+mul-by-fours : tie.Need-mul-by-fours Inv-loop μ-loop
+mul-by-fours c = search needs
+
+add-by-fours-2 : tie.Need-add-by-fours-2 Inv-loop μ-loop
+add-by-fours-2 c = search needs
+
+div-by-fours : tie.Need-div-by-fours Inv-loop μ-loop
+div-by-fours c = search needs
+
+by-fours-requires : tie.Need-by-fours-requires Inv-loop μ-loop
+by-fours-requires c κs = search needs
+
+returns : tie.Need-returns Inv-loop μ-loop
+returns c = (sym (c .if1 .taken) ∙ c .before .by-fours .ensures, leaves-none _ _ _ _ _)
+
+slice-aggregate-leaf-prefix : tie.Need-slice-aggregate-leaf-prefix Inv-loop μ-loop
+slice-aggregate-leaf-prefix c = search needs
+
+leaf-prefix-requires : tie.Need-leaf-prefix-requires Inv-loop μ-loop
+leaf-prefix-requires c κs = search needs
+
+array-share-prefix-front : tie.Need-array-share-prefix-front Inv-loop μ-loop
+array-share-prefix-front c = search needs
+
+slice-aggregate-begin : tie.Need-slice-aggregate-begin Inv-loop μ-loop
+slice-aggregate-begin c = message-length _ _ _ _ _ _ (c .before .before .before .leaf-prefix .ensures) (omega arith)
+
+begin-requires : tie.Need-begin-requires Inv-loop μ-loop
+begin-requires c κs = (omega (arith, message-length _ _ _ _ _ _ (c .before .before .before .leaf-prefix .ensures) (omega arith)), omega arith)
+
+mul-size : tie.Need-mul-size Inv-loop μ-loop
+mul-size c = search needs
+
+add-size : tie.Need-add-size Inv-loop μ-loop
+add-size c = search needs
+
+add-size-2 : tie.Need-add-size-2 Inv-loop μ-loop
+add-size-2 c = search needs
+
+loop-holds : tie.Need-loop-holds Inv-loop μ-loop
+loop-holds c =
+    let start : tie.Start Inv-loop μ-loop = search in
+    let after-leaf-prefix : tie.After-leaf-prefix Inv-loop μ-loop = search in
+    let after-by-fours = after-leaf-prefix .before .before .before in
+    let p = after-leaf-prefix .leaf-prefix .ensures in
+    let a = start .args in
+    let e = prefix-is _ _ _ _ _ p (omega arith) in
+    let s = front-sized _ _ _ _ _ p in (
+      search needs,
+      refl,
+      search needs,
+      search needs,
+      refl,
+      refl,
+      begun _ _ _ _ _ _ _ e s (c .before .before .begin .ensures .1)
+          (after-by-fours .by-fours .ensures ∙ ap (λ i. byFours i (a .count / a .width)) (omega (arith, p .end))),
+      prefixes-stand _ _ _ _ e s (c .before .before .begin .ensures .0),
+      leaves-begin _ _ _ _ _ _,
+    )
+
+mul-end : tie.Need-mul-end Inv-loop μ-loop
+mul-end c = search needs
+
+add-end : tie.Need-add-end Inv-loop μ-loop
+add-end c =
+    let start : tie.Start Inv-loop μ-loop = search in
+    omega (
+      arith,
+      four-room _ _ (c .before .loop .g) (start .pre .0 .shaped .shape)
+          (omega (arith, c .before .loop .inv .6 .whole, c .before .loop .inv .6 .within)),
+    )
+
+mul-put-leaf-rests : tie.Need-mul-put-leaf-rests Inv-loop μ-loop
+mul-put-leaf-rests c =
+    let start : tie.Start Inv-loop μ-loop = search in
+    omega (
+      arith,
+      four-room _ _ (c .before .before .loop .g) (start .pre .0 .shaped .shape)
+          (omega (arith, c .before .before .loop .inv .6 .whole, c .before .before .loop .inv .6 .within)),
+    )
+
+sub-put-leaf-rests : tie.Need-sub-put-leaf-rests Inv-loop μ-loop
+sub-put-leaf-rests c = search needs
+
+part-put-leaf-rests-start : tie.Need-part-put-leaf-rests-start Inv-loop μ-loop
+part-put-leaf-rests-start c = search needs
+
+part-put-leaf-rests-end : tie.Need-part-put-leaf-rests-end Inv-loop μ-loop
+part-put-leaf-rests-end c =
+    let start : tie.Start Inv-loop μ-loop = search in
+    omega (
+      arith,
+      four-room _ _ (c .before .before .loop .g) (start .pre .0 .shaped .shape)
+          (omega (arith, c .before .before .loop .inv .6 .whole, c .before .before .loop .inv .6 .within)),
+    )
+
+put-leaf-rests-requires : tie.Need-put-leaf-rests-requires Inv-loop μ-loop
+put-leaf-rests-requires c κs =
+    let start : tie.Start Inv-loop μ-loop = search in
+    let q = c .before .before .before .loop in
+    let a = start .args in
+    let y = start .pre .0 in
+    let r = four-room _ _ (q .g) (y .shaped .shape) (omega (arith, q .inv .6 .whole, q .inv .6 .within)) in
+    record {
+      halves = group-length (now (a .values)) (q .from) (8 * a .width) (omega (arith, y .values-is));
+      chunk = q .inv .6 .fits (omega arith);
+      strides = omega arith;
+      numbers = omega (arith, q .inv .6 .within, y .shaped .groups-le);
+    }
+
+put-digests-requires : tie.Need-put-digests-requires Inv-loop μ-loop
+put-digests-requires c κs =
+    let start : tie.Start Inv-loop μ-loop = search in
+    let at-loop : tie.At-loop Inv-loop μ-loop = search in
+    let q = at-loop .loop in
+    let y = start .pre .0 in (
+      common _ _ _ _ _ _ (q .inv .6 .sized) (q .inv .7) (c .before .before .before .before .put-leaf-rests .ensures) _ (q .inv .6 .value) (omega arith)
+          (q .inv .6 .fits (omega arith)) (omega arith),
+      omega (arith, q .inv .6 .whole, q .inv .6 .within, y .tree-is),
+    )
+
+add-g : tie.Need-add-g Inv-loop μ-loop
+add-g c =
+    let start : tie.Start Inv-loop μ-loop = search in
+    let at-loop : tie.At-loop Inv-loop μ-loop = search in
+    omega (arith, at-loop .loop .inv .6 .within, start .pre .0 .shaped .groups-le)
+
+loop-less : tie.Need-loop-less Inv-loop μ-loop
+loop-less c = search needs
+
+loop-again : tie.Need-loop-again Inv-loop μ-loop
+loop-again c =
+    let after-by-fours : tie.After-by-fours Inv-loop μ-loop = search in
+    let after-put-leaf-rests : tie.After-put-leaf-rests Inv-loop μ-loop = search in
+    let at-loop = after-put-leaf-rests .before .before .before .before in
+    let q = at-loop .loop in
+    let z = q .inv .6 .sized in
+    let f = after-put-leaf-rests .put-leaf-rests .ensures in
+    let p = c .before .before .put-digests .ensures in
+    let in-all : q .g + 4 ≤ after-by-fours .by-fours .result = omega (arith, q .inv .6 .whole) in (
+      in-all,
+      omega arith,
+      omega arith,
+      omega (arith, p .end),
+      search needs,
+      search needs,
+      q .inv .6,
+      kept-whole _ _ _ _ _ _ z (q .inv .7) f,
+      leaves-turn _ _ _ _ _ _ (q .inv .2) _ _ _ z (q .inv .7) f _ _ _ _ _ _ in-all p (q .inv .8),
+    )
+
+same-length : tie.Need-same-length Inv-loop μ-loop
+same-length c = search needs
+
+same-length-2 : tie.Need-same-length-2 Inv-loop μ-loop
+same-length-2 c = search needs
+
+returns-2 : tie.Need-returns-2 Inv-loop μ-loop
+returns-2 c =
+    let after-by-fours : tie.After-by-fours Inv-loop μ-loop = search in
+    (after-by-fours .by-fours .ensures, leaves-end _ _ _ _ _ _ _ _ _ (c .loop-test .left) (c .before .loop .inv .8))
+
+pub put-leaves-spec : {M : Type 1} → statement M
+put-leaves-spec =
+    tie.close
+    (tie.spec
+    Inv-loop
+    μ-loop
+    add-by-fours
+    mul-by-fours
+    add-by-fours-2
+    div-by-fours
+    by-fours-requires
+    returns
+    slice-aggregate-leaf-prefix
+    leaf-prefix-requires
+    array-share-prefix-front
+    slice-aggregate-begin
+    begin-requires
+    mul-size
+    add-size
+    add-size-2
+    loop-holds
+    mul-end
+    add-end
+    mul-put-leaf-rests
+    sub-put-leaf-rests
+    part-put-leaf-rests-start
+    part-put-leaf-rests-end
+    put-leaf-rests-requires
+    put-digests-requires
+    add-g
+    loop-less
+    loop-again
+    same-length
+    same-length-2
+    returns-2)

@@ -1,0 +1,114 @@
+// The digests of groups and of nodes, after magnetar-hash. The entries are `leaf_digest` and `node_digest`; the other functions serve the
+// crates above and require.
+use bytes_numbers::load;
+use hash_compress::iv;
+use hash_hasher::whole::Digested;
+use hash_hasher::whole::digest_of;
+use tree_place::Group;
+use tree_place::Place;
+use tree_place::group_of;
+ghost use mathlib.Core.Path.{_≡_};
+ghost use mathlib.Core.List.{_++_};
+ghost use Prim.Native.Nat.{_+_, _*_, _^_, _≤_};
+ghost use lib.ListN.{length};
+ghost use Rattle.theory_field.specs.Words.{words};
+ghost use Rattle.theory_merkle.specs.Message.{prefixed, leafRest};
+ghost use Rattle.theory_merkle.specs.Tree.{leafDigest, nodeDigest};
+ghost use Rattle.theory_blake3.specs.Digest.{hash};
+ghost use Rattle.tree_digest.specs.Answers.{leafAnswer, nodeAnswer};
+ghost use Rattle.tree_digest.specs.helpers.Hashed.{Hashed};
+
+// The digest of a message, in hash mode.
+pub fn digest(message: &[u8]) -> [u8; 32]
+    requires { ⌜ length (now message) ≤ 2 ^ 24 ⌝ }
+    ensures { λ r. ⌜ r ≡ hash (now (message .entry)) ⌝ }
+{
+    let key = iv();
+    digest_of(key, 0, message)
+}
+
+// The digest of a group's leaf message, whose prefix stands in the buffer's first bytes and is kept.
+pub fn hash_group(
+    message: &mut [u8],
+    prefix: usize,
+    width: usize,
+    group: Group,
+    values: &[u64],
+) -> [u8; 32]
+    requires { ⌜ (length (now values) ≡ 2 * width) × (prefix + 24 + 16 * width ≤ length (now message)) × (length (now message) ≤ 2 ^ 24) ⌝ }
+    ensures { λ r. ⌜ Hashed (now (message .entry)) prefix (leafRest width (group .0) (words (now (values .entry)))) (now (message .exit)) r ⌝ }
+{
+    let n = tree_message::leaf_rest(message, prefix, width, group.0, values);
+    digest(&message[..n])
+}
+
+// The digest of a node message, whose prefix stands in the buffer's first bytes and is kept.
+pub fn hash_node(message: &mut [u8], prefix: usize, left: [u8; 32], right: [u8; 32]) -> [u8; 32]
+    requires { ⌜ (prefix + 80 ≤ length (now message)) × (length (now message) ≤ 2 ^ 24) ⌝ }
+    ensures { λ r. ⌜ Hashed (now (message .entry)) prefix (prefixed left ++ prefixed right) (now (message .exit)) r ⌝ }
+{
+    let n = tree_message::node_rest(message, prefix, left, right);
+    digest(&message[..n])
+}
+
+// The digest of a group, by its number.
+pub fn leaf_of(domain: &[u8], count: usize, width: usize, group: Group, values: &[u64]) -> [u8; 32]
+    requires { ⌜ (length (now domain) ≤ 255) × (width ≤ 512) × (length (now values) ≡ 2 * width) ⌝ }
+    ensures { λ r. ⌜ r ≡ leafDigest hash (now (domain .entry)) count width (group .0) (words (now (values .entry))) ⌝ }
+{
+    let mut message = [0u8; tree_message::LEAF_MESSAGE];
+    let prefix = tree_message::leaf_prefix(&mut message, domain, count, width);
+    hash_group(&mut message, prefix, width, group, values)
+}
+
+// The digest of a node.
+pub fn node_of(domain: &[u8], level: usize, left: [u8; 32], right: [u8; 32]) -> [u8; 32]
+    requires { ⌜ length (now domain) ≤ 255 ⌝ }
+    ensures { λ r. ⌜ r ≡ nodeDigest hash (now (domain .entry)) level left right ⌝ }
+{
+    let mut message = [0u8; tree_message::NODE_MESSAGE];
+    let prefix = tree_message::node_prefix(&mut message, domain, level);
+    hash_node(&mut message, prefix, left, right)
+}
+
+// The leaf digest of the group of a place.
+pub fn leaf_digest(
+    domain: &[u8],
+    count: usize,
+    width: usize,
+    place: Place,
+    values: &[u64],
+) -> Digested
+    ensures { λ r. ⌜ r ≡ leafAnswer (now (domain .entry)) count width (place .0) (now (values .entry)) ⌝ }
+{
+    let q = tree_place::leaf_number(domain.len(), count, width, place, values.len());
+    if q != 0 {
+        return Digested {
+            number: q,
+            bytes: [0u8; 32],
+        };
+    }
+    let d = leaf_of(domain, count, width, group_of(place, width), values);
+    Digested {
+        number: 0,
+        bytes: d,
+    }
+}
+
+// The node digest of two digests.
+pub fn node_digest(domain: &[u8], level: usize, left: &[u8], right: &[u8]) -> Digested
+    ensures { λ r. ⌜ r ≡ nodeAnswer (now (domain .entry)) level (now (left .entry)) (now (right .entry)) ⌝ }
+{
+    let q = tree_place::node_number(domain.len(), left.len(), right.len());
+    if q != 0 {
+        return Digested {
+            number: q,
+            bytes: [0u8; 32],
+        };
+    }
+    let d = node_of(domain, level, load(left, 0), load(right, 0));
+    Digested {
+        number: 0,
+        bytes: d,
+    }
+}

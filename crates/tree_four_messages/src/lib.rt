@@ -1,0 +1,153 @@
+// Four messages of one length at once. They stand at the fronts of the four strides of a lent buffer, a chunk each, and the whole blocks of
+// what they have in common are hashed once. These are helpers for the crates above: each requires that its bytes fit, and nothing is said
+// of the buffer's other bytes.
+use bytes_numbers::load;
+use hash_compress::compress;
+use hash_compress::iv;
+use hash_node::first_eight;
+use hash_node::start_flag;
+use hash_node::words_at;
+use tree_place::Group;
+ghost use mathlib.Core.Path.{_≡_};
+ghost use Prim.Native.Nat.{ℕ, _+_, _*_, _/_, _<_, _≤_};
+ghost use lib.ListN.{length};
+ghost use Rattle.theory_laws.specs.Lists.{part, flat};
+ghost use Rattle.theory_blake3.specs.Compression as C;
+ghost use Rattle.theory_blake3.specs.Digest.{bytesOfWords32, hash};
+ghost use Rattle.hash_four_lanes.specs.helpers.Lane.{lane};
+ghost use Rattle.bytes_numbers.specs.helpers.Put.{Put};
+ghost use Rattle.tree_four_messages.specs.helpers.Strides.{stride, firstBlocks, four, Each, Common, LeafRoom, LeafRests, NodeRoom, NodeRests};
+
+// How many bytes a stride has: those of a chunk.
+pub const STRIDE: usize = 1024;
+
+// Where the third and the fourth message stand.
+const THIRD: usize = 2 * STRIDE;
+
+const FOURTH: usize = 3 * STRIDE;
+
+// The chaining value of the first blocks of a message of at most a chunk, for key words and flags.
+fn first_blocks(key: [u32; 8], flags: u32, message: &[u8], blocks: usize) -> [u32; 8]
+    requires { ⌜ 64 * blocks ≤ length (now message) ⌝ }
+    ensures { λ r. ⌜ r ≡ firstBlocks key flags blocks (now (message .entry)) ⌝ }
+{
+    let mut h = key;
+    let mut from: usize = 0;
+    let mut i: usize = 0;
+    while i < blocks {
+        let m = words_at(message, from);
+        let f = start_flag(i);
+        let w = compress(h, m, 0, 64, flags | f);
+        let v = first_eight(w);
+        h = v;
+        from += 64;
+        i += 1;
+    }
+    h
+}
+
+// The digests of the four messages of n bytes, whose first blocks are the same and have the chaining value h: message k's in lane k.
+fn digests_of(h: [u32; 8], blocks: usize, messages: &[u8], n: usize) -> [u32; 32]
+    requires { ⌜ Common h blocks n (now messages) ⌝ }
+    ensures { λ r. ⌜ ((k : ℕ) → k < 4 → bytesOfWords32 (lane 8 r k) ≡ hash (part n (stride * k) (now (messages .entry)))) ⌝ }
+{
+    let counters = [0u64, 0, 0, 0];
+    let from = 64 * blocks;
+    hash_four_chunks::chunks(
+        h,
+        blocks,
+        0,
+        &counters,
+        &messages[from..n],
+        &messages[STRIDE + from..STRIDE + n],
+        &messages[THIRD + from..THIRD + n],
+        &messages[FOURTH + from..FOURTH + n],
+        8,
+    )
+}
+
+// The same digests, one after the other in a buffer.
+pub fn put_digests(
+    out: &mut [u8],
+    to: usize,
+    h: [u32; 8],
+    blocks: usize,
+    messages: &[u8],
+    n: usize,
+) -> usize
+    requires { ⌜ (Common h blocks n (now messages)) × (to + 128 ≤ length (now out)) ⌝ }
+    ensures { λ r. ⌜ Put (now (out .entry)) to 128 (flat (four (λ k. hash (part n (stride * k) (now (messages .entry)))))) (now (out .exit)) r ⌝ }
+{
+    let v = digests_of(h, blocks, messages, n);
+    let a = bytes_numbers::put(out, to, &hash_four_chunks::lane_bytes(&v, 0));
+    let b = bytes_numbers::put(out, a, &hash_four_chunks::lane_bytes(&v, 1));
+    let c = bytes_numbers::put(out, b, &hash_four_chunks::lane_bytes(&v, 2));
+    bytes_numbers::put(out, c, &hash_four_chunks::lane_bytes(&v, 3))
+}
+
+// What four messages have in common, at the front of each stride.
+fn put_prefixes(messages: &mut [u8], prefix: &[u8])
+    requires { ⌜ (length (now prefix) ≤ stride) × (4 * stride ≤ length (now messages)) ⌝ }
+    ensures { λ _. ⌜ Each (length (now (prefix .entry))) (now (messages .exit)) (λ k. now (prefix .entry)) ⌝ }
+{
+    let mut at: usize = 0;
+    let mut k: usize = 0;
+    while k < 4 {
+        bytes_numbers::put(messages, at, prefix);
+        at += STRIDE;
+        k += 1;
+    }
+}
+
+// Four messages begun: what they have in common at the front of each stride, and the chaining value of its whole blocks.
+pub fn begin(messages: &mut [u8], prefix: &[u8]) -> [u32; 8]
+    requires { ⌜ (length (now prefix) ≤ stride) × (4 * stride ≤ length (now messages)) ⌝ }
+    ensures { λ _. ⌜ Each (length (now (prefix .entry))) (now (messages .exit)) (λ k. now (prefix .entry)) ⌝ }
+    ensures { λ r. ⌜ r ≡ firstBlocks C.iv 0 (length (now (prefix .entry)) / 64) (now (prefix .entry)) ⌝ }
+{
+    put_prefixes(messages, prefix);
+    let key = iv();
+    first_blocks(key, 0, prefix, prefix.len() / 64)
+}
+
+// What the leaf messages of four groups, of which the first is given, have after the prefix.
+pub fn put_leaf_rests(
+    messages: &mut [u8],
+    prefix: usize,
+    width: usize,
+    group: Group,
+    values: &[u64],
+)
+    requires { ⌜ LeafRoom prefix width (group .0) (length (now values)) (length (now messages)) ⌝ }
+    ensures { λ _. ⌜ LeafRests prefix (now (messages .entry)) width (group .0) (now (values .entry)) (now (messages .exit)) ⌝ }
+{
+    let first = group.0;
+    let mut from: usize = 0;
+    let mut at: usize = prefix;
+    let mut k: usize = 0;
+    while k < 4 {
+        let end = from + 2 * width;
+        tree_message::leaf_rest(messages, at, width, first + k, &values[from..end]);
+        from = end;
+        at += STRIDE;
+        k += 1;
+    }
+}
+
+// What four node messages have after the prefix: the eight digests from a place on, two by two.
+pub fn put_node_rests(messages: &mut [u8], prefix: usize, tree: &[u8], src: usize)
+    requires { ⌜ NodeRoom prefix src (length (now tree)) (length (now messages)) ⌝ }
+    ensures { λ _. ⌜ NodeRests prefix (now (messages .entry)) (now (tree .entry)) src (now (messages .exit)) ⌝ }
+{
+    let mut from: usize = src;
+    let mut at: usize = prefix;
+    let mut k: usize = 0;
+    while k < 4 {
+        let l = load(tree, from);
+        let r = load(tree, from + 32);
+        tree_message::node_rest(messages, at, l, r);
+        from += 64;
+        at += STRIDE;
+        k += 1;
+    }
+}

@@ -1,0 +1,62 @@
+-- Questions in the order in which the functions ask them, the shape's first.
+use Prim.Native.Nat.{ℕ, _*_, _<_}
+use mathlib.Core.Path.{_≡_, sym, _∙_}
+use mathlib.Core.Bool.{Bool, false, not}
+use mathlib.Core.List.{[], _∷_}
+use borrow.Author.Tests.{not-false, eq-eqb, ne-eqb}
+use lib.Dec.{ltb, eqb}
+use Rattle.theory_laws.specs.Questions.{pick, _asks_, firstNo}
+use Rattle.theory_laws.proofs.Questions.{all-yes, firstNo-append}
+use Rattle.theory_merkle.specs.Tree.{depthOf, treeSize}
+use Rattle.theory_merkle.specs.Shape.{Bounded}
+use Rattle.theory_merkle.specs.Questions.{isPow, domainFits, shape}
+use Rattle.theory_merkle.proofs.Sizes.{isPow-yes, power-pos}
+use Rattle.theory_merkle.proofs.Questions.{bounded}
+use Rattle.theory_merkle.specs.Numbers.{shapeNumber, treeNumber, leafNumber, buildNumber, openNumber, rootNumber}
+
+-- a power of two is no zero
+pub power-some : (m x : ℕ) (q : Bool) → q ≡ isPow m x → not q ≡ false → 0 < x
+power-some m x q e n = power-pos m x (isPow-yes m x (sym e ∙ not-false q n))
+
+-- where the shape's questions say no 'no'
+pub shape-bounded : (q count width : ℕ) → q ≡ shapeNumber count width → q ≡ 0 → Bounded count width
+unfolding shapeNumber
+shape-bounded q count width e z = bounded count width (all-yes (shape count width) tt (sym e ∙ z))
+
+pub tree-bounded : (q domain count width : ℕ) → q ≡ treeNumber domain count width → q ≡ 0 → Bounded count width
+unfolding treeNumber
+tree-bounded q domain count width e z = bounded count width (all-yes (domainFits domain ∷ shape count width) tt (sym e ∙ z) .1)
+
+-- the shape's questions first, then the rest
+module _ (r domain count width place values : ℕ) where
+  pub leaf-asked : r ≡ pick (eqb (treeNumber domain count width) 0) (firstNo ((11 asks ltb place count) ∷ (5 asks eqb values (2 * width)) ∷ [])) (treeNumber domain count width)
+      → r ≡ leafNumber domain count width place values
+  unfolding treeNumber leafNumber
+  leaf-asked e = e ∙ sym (firstNo-append (domainFits domain ∷ shape count width) ((11 asks ltb place count) ∷ (5 asks eqb values (2 * width)) ∷ []) tt)
+
+  pub root-asked : (path : ℕ)
+      → r ≡ pick (eqb (treeNumber domain count width) 0) (firstNo ((11 asks ltb place count) ∷ (12 asks eqb path (32 * depthOf count width)) ∷ (5 asks eqb values (2 * width)) ∷ [])) (treeNumber domain count width)
+      → r ≡ rootNumber domain count width place values path
+  unfolding treeNumber rootNumber
+  root-asked path e = e ∙ sym (firstNo-append (domainFits domain ∷ shape count width) ((11 asks ltb place count) ∷ (12 asks eqb path (32 * depthOf count width)) ∷ (5 asks eqb values (2 * width)) ∷ []) tt)
+
+pub build-asked : (r domain count width values tree : ℕ)
+    → r ≡ pick (eqb (treeNumber domain count width) 0) (firstNo ((5 asks eqb values (2 * count)) ∷ (5 asks eqb tree (32 * treeSize count width)) ∷ [])) (treeNumber domain count width)
+    → r ≡ buildNumber domain count width values tree
+unfolding treeNumber buildNumber
+build-asked r domain count width values tree e = e ∙ sym (firstNo-append (domainFits domain ∷ shape count width) ((5 asks eqb values (2 * count)) ∷ (5 asks eqb tree (32 * treeSize count width)) ∷ []) tt)
+
+pub open-asked : (r count width place tree path : ℕ)
+    → r ≡ pick (eqb (shapeNumber count width) 0) (firstNo ((11 asks ltb place count) ∷ (5 asks eqb tree (32 * treeSize count width)) ∷ (5 asks eqb path (32 * depthOf count width)) ∷ [])) (shapeNumber count width)
+    → r ≡ openNumber count width place tree path
+unfolding shapeNumber openNumber
+open-asked r count width place tree path e =
+    e ∙ sym (firstNo-append (shape count width) ((11 asks ltb place count) ∷ (5 asks eqb tree (32 * treeSize count width)) ∷ (5 asks eqb path (32 * depthOf count width)) ∷ []) tt)
+
+-- a question on a number that a function worked out, by what it ensures of it
+module _ {A : Type 0} (r x y : A) where
+  pub yes-worked : (a q b : ℕ) → q ≡ b → a ≡ q → r ≡ x → r ≡ pick (eqb a b) x y
+  yes-worked a q b f h e = rw (eq-eqb a b (h ∙ f)) e
+
+  pub no-worked : (a q b : ℕ) → q ≡ b → (a ≡ q → ⊥) → r ≡ y → r ≡ pick (eqb a b) x y
+  no-worked a q b f h e = rw (ne-eqb a b (λ z. h (z ∙ sym f))) e

@@ -1,0 +1,10 @@
+-- The path of a group, read off a tree that stands from a byte of the lent trees on.
+use Prim.Native.Nat.{ℕ, _*_, _-_}
+use mathlib.Core.List.{List}
+use lib.ListN.{drop}
+use Rattle.theory_laws.specs.Lists.{runs}
+use Rattle.theory_merkle.specs.Tree.{path, levelsOf}
+
+-- of digest g, of m = 2^depth whose tree starts at this byte
+unfoldable pub pathFrom : ℕ → List ℕ → ℕ → ℕ → ℕ → List (List ℕ)
+pathFrom depth trees from m g = path depth (levelsOf depth (runs 32 (2 * m - 1) (drop from trees))) g
