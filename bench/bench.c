@@ -1,4 +1,4 @@
-/* Times the exported functions of the archive dequmlo_test beside plain C, and checks that both answer the same.
+/* Times the exported functions of the archive test_archive beside plain C, and checks that both answer the same.
    Prints `what<TAB>the Rust's name for it<TAB>ours<TAB>plain C`, nanoseconds an operation, best of several. */
 #include "bench.h"
 

@@ -6,7 +6,7 @@ fn main() {
     println!("cargo:rustc-check-cfg=cfg(archive)");
     println!("cargo:rerun-if-env-changed=DEQUMLO_ARCHIVE_DIR");
     let folder = std::env::var("DEQUMLO_ARCHIVE_DIR").unwrap_or("../target/staticlib".into());
-    let archive = Path::new(&folder).join("libdequmlo_test.a");
+    let archive = Path::new(&folder).join("libtest_archive.a");
     println!("cargo:rerun-if-changed={}", archive.display());
     if archive.exists() {
         let folder = Path::new(&folder)
@@ -14,6 +14,6 @@ fn main() {
             .expect("the archive's folder");
         println!("cargo:rustc-cfg=archive");
         println!("cargo:rustc-link-search=native={}", folder.display());
-        println!("cargo:rustc-link-lib=static=dequmlo_test");
+        println!("cargo:rustc-link-lib=static=test_archive");
     }
 }

@@ -1,4 +1,4 @@
-"""Damages to what the entries on records are given, for query_vectors.py: each has a name, the number and the level that it gives by the
+"""Damages to what the entries on records are given, for cases_record.py: each has a name, the number and the level that it gives by the
 way it is made, and what is done. Rests on records.py."""
 import dataclasses
 import typing

@@ -1,7 +1,7 @@
-"""Document 01 in schoolbook form, for the tools that make expected results: words, BLAKE3, the code, trees and levels.
+"""docs/SPECIFICATION.md in schoolbook form, for the tools that make expected results: words, BLAKE3, the code, trees and levels.
 
 Independent of the code and of the Rust: the product by shifts, P(z) as the sum over v of word v times entry v of z's equality table,
-BLAKE3 after its specification, messages put together as paragraphs 001 and 006 have them."""
+BLAKE3 after its specification, messages put together as SPECIFICATION 5.2, 5.3 and 6.1 have them."""
 import functools
 import hashlib
 import struct
@@ -10,22 +10,29 @@ import struct
 
 
 def mul(a, b):
+    """The polynomials' product, and x^128 replaced by x^7 + x^2 + x + 1 until none is left."""
     p = 0
-    for i in range(128):
-        if b >> i & 1:
-            p ^= a << i
-    for i in range(255, 127, -1):
-        if p >> i & 1:
-            p ^= (1 << 128 | 0x87) << (i - 128)
+    while b:
+        bit = b & -b
+        p ^= a * bit
+        b ^= bit
+    while p >> 128:
+        high = p >> 128
+        p = p & (1 << 128) - 1 ^ high ^ high << 1 ^ high << 2 ^ high << 7
     return p
+
+
+def equality_table(z):
+    """Entry v is the product over j of coordinate j of z where bit j of v is 1, else of 1 plus it."""
+    entries = [1]
+    for c in z:
+        entries = [mul(entry, 1 ^ c) for entry in entries] + [mul(entry, c) for entry in entries]
+    return entries
 
 
 def extension(table, z):
     total = 0
-    for v, word in enumerate(table):
-        entry = 1
-        for j, c in enumerate(z):
-            entry = mul(entry, c if v >> j & 1 else 1 ^ c)
+    for word, entry in zip(table, equality_table(z)):
         total ^= mul(word, entry)
     return total
 

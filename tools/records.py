@@ -1,5 +1,5 @@
-"""Query and tail records in document 01's terms, for the tools that make expected results: their bytes ("Record bytes"), the checks and
-builds ("Questions put to an input"), and deposits to make them of. Rests on model.py, and on nothing of the code or of the Rust."""
+"""Query and tail records, for the tools that make expected results: their bytes (SPECIFICATION 7), the checks and
+builds (SPECIFICATION 8.6 to 8.8), and deposits to make them of. Rests on model.py, and on nothing of the code or of the Rust."""
 import dataclasses
 
 from model import derive, encode, fold, fold_tree_width, level_domain, mul, path, root_of_path, some_words, tree, word_bytes

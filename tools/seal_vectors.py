@@ -1,14 +1,14 @@
 #!/usr/bin/env python3
-"""seal_vectors.py [--check]: what the program `seal` must make of some files, as document 01 and cli/README.md have it.
+"""seal_vectors.py [--check]: what the program `seal` must make of some files, as docs/SPECIFICATION.md and cli/README.md have it.
 
-Files become tables and seeds become challenges here, and the rest is model.py's and query_vectors.py's, independent of the library. A line of
+Files become tables and seeds become challenges here, and the rest is model.py's and records.py's, independent of the library. A line of
 cli/tests/model.txt: the file's size, the profile, the root, the terminal claim, the BLAKE3 digests of the tail record and of the query
 record at each position. With --check the file is compared and not written."""
 import pathlib
 import sys
 
 from model import blake3, derive, encode, fold, fold_tree_width, level_domain, tree
-from query_vectors import Deposit, query, query_bytes, tail_bytes
+from records import Deposit, query, query_bytes, tail_bytes
 
 STORED = pathlib.Path(__file__).resolve().parent.parent / "cli" / "tests" / "model.txt"
 PROFILES = {"default": 1, "fastchunk": 1, "balanced": 2, "compactwrap": 3, "deepwrap": 4}

@@ -1,5 +1,5 @@
 //! The field layer: gf128.rs, pack.rs, eq.rs, and runs of words by one word.
-//! Inputs are those that pass document 01's questions.
+//! Inputs are those that pass the questions of SPECIFICATION 8.4.
 
 use crate::harness::{digits, done, hex, hexes, same_word, same_words, Comparison, Verdict};
 use crate::random::Random;

@@ -176,7 +176,7 @@ fn cut(text: &str) -> String {
     }
 }
 
-/// How often the Rust's answer was each of document 01's numbers.
+/// How often the Rust's answer was each number of SPECIFICATION 8.2.
 static ANSWERED: [AtomicU64; 34] = [const { AtomicU64::new(0) }; 34];
 
 /// One answer more that is this number.

@@ -76,8 +76,8 @@ fn comparisons() -> Vec<Bound> {
 fn compare_all(plan: &Plan) -> ExitCode {
     let comparisons = comparisons();
     if comparisons.is_empty() {
-        eprintln!("differential: no target/staticlib/libdequmlo_test.a: make it by");
-        eprintln!("differential: `rt staticlib dequmlo_test`");
+        eprintln!("differential: no target/staticlib/libtest_archive.a: make it by");
+        eprintln!("differential: `rt staticlib test_archive`");
         return ExitCode::from(2);
     }
     let rows = harness::run(&comparisons, plan);

@@ -1,5 +1,5 @@
 //! The published Rust, unchanged, behind one typed function for each reference
-//! function that document 01 names.
+//! function that docs/SPECIFICATION.md carries over.
 //!
 //! Call `machine::start` first: it fixes the vector kind, so that every run on
 //! one machine takes the same path, and refuses a machine on which the Rust

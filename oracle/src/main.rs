@@ -1,22 +1,22 @@
-//! The oracle's program: answers requests line by line, writes the fixed list
-//! of answers, prints the Rust's times, or shows its findings.
+//! The oracle's program: answers requests line by line, writes the requests on
+//! records that it builds, prints the Rust's times, or shows its findings.
 
-mod answers;
 mod bench;
 mod findings;
 mod protocol;
+mod records;
 mod requests;
+mod stream;
 
 use std::io::{self, BufRead, Write};
-use std::path::Path;
 use std::process::ExitCode;
 
 const USAGE: &str = "\
 oracle              answer requests, one a line on standard input, one answer line each
 oracle help         list the requests
 oracle kind         print the vector kind that the Rust runs by
-oracle findings     show, by running it, where the Rust differs from document 01
-oracle answers DIR  write the fixed list of answers for the replay programs in DIR (crates)
+oracle findings     show, by running it, where the Rust differs (docs/DIFFERENCES.md)
+oracle records      print requests on records that the Rust built, intact and damaged
 oracle bench [--large]
                     print the Rust's times on one thread, `name<TAB>ns`;
                     --large adds n = 20, k = 4";
@@ -48,7 +48,7 @@ fn main() -> ExitCode {
         [] => answer_all(),
         ["kind"] => println!("{kind}"),
         ["findings"] => return findings::show(kind),
-        ["answers", folder] => return write_answers(folder),
+        ["records"] => print!("{}", records::lines()),
         ["bench"] => bench::run(kind, false),
         ["bench", "--large"] => bench::run(kind, true),
         _ => {
@@ -59,28 +59,25 @@ fn main() -> ExitCode {
     ExitCode::SUCCESS
 }
 
-/// Answers until standard input ends; an empty line or one that starts with # is skipped.
+/// Answers until standard input ends. An empty line or one that starts with # is
+/// skipped; one that starts with = keeps bytes for later lines, and gets no answer.
 fn answer_all() {
     let mut out = io::stdout().lock();
+    let mut store = Vec::new();
     for line in io::stdin().lock().lines() {
         let line = line.expect("standard input is text");
         let line = line.trim();
         if line.is_empty() || line.starts_with('#') {
             continue;
         }
-        writeln!(out, "{}", requests::answer(line)).expect("standard output is open");
+        let answer = match line.strip_prefix('=') {
+            Some(bytes) => match protocol::keep(bytes, &mut store) {
+                Ok(()) => continue,
+                Err(reason) => format!("bad {reason}"),
+            },
+            None => requests::answer(line, &store),
+        };
+        writeln!(out, "{answer}").expect("standard output is open");
         out.flush().expect("standard output is open");
     }
-}
-
-/// Writes the fixed list, and says how long it is.
-fn write_answers(folder: &str) -> ExitCode {
-    match answers::write(Path::new(folder)) {
-        Ok(count) => println!("oracle: {count} answers written under {folder}"),
-        Err(reason) => {
-            eprintln!("oracle: {folder}: {reason}");
-            return ExitCode::FAILURE;
-        }
-    }
-    ExitCode::SUCCESS
 }

@@ -1,4 +1,4 @@
-//! Query and tail records, and document 01's bytes for them.
+//! Query and tail records, and the bytes of SPECIFICATION 7 for them.
 //!
 //! The Rust has no record bytes: the format, and with it question 14, is ours.
 

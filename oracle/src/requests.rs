@@ -14,20 +14,20 @@ struct Request {
 
 /// The answer line: the result, `panic` where the Rust panics, `error` and the
 /// Rust's message where it returns one, `bad` and the reason for a bad request.
-pub fn answer(line: &str) -> String {
+pub fn answer(line: &str, store: &[u8]) -> String {
     let (name, arguments) = line.split_once(char::is_whitespace).unwrap_or((line, ""));
     let Some(request) = REQUESTS.iter().find(|request| request.name == name) else {
         return format!("bad no request {name}: try `oracle help`");
     };
-    match quietly(|| respond(request, arguments)) {
+    match quietly(|| respond(request, arguments, store)) {
         Some(Ok(answer)) => answer,
         Some(Err(reason)) => format!("bad {reason}"),
         None => "panic".into(),
     }
 }
 
-fn respond(request: &Request, arguments: &str) -> Result<String, Bad> {
-    let mut args = Args::new(arguments);
+fn respond(request: &Request, arguments: &str, store: &[u8]) -> Result<String, Bad> {
+    let mut args = Args::new(arguments, store);
     let answer = (request.call)(&mut args)?;
     args.end()?;
     Ok(answer)
@@ -47,40 +47,228 @@ pub fn help() -> String {
 
 const FORMS: &str = "\
 A request is a line: its name, then its arguments, apart by blanks.
-  word     32 hexadecimal digits, highest first
+  word     1 to 32 hexadecimal digits, highest first
   words    words joined by commas
   bytes    hexadecimal, two digits a byte; a domain is bytes in UTF-8
   digests  32 bytes each, end to end
   number   decimal
-A lone - is no words, bytes or digests. Answers are written alike; `panic` is
-where the Rust panics, `error ..` what it returns, `bad ..` a bad request.
+  room     decimal: how long an output is, in halves of words or in bytes; the Rust makes its own
+A lone - is no words, bytes or digests. README.md has the shorter forms of long arguments.
+An answer is numbers, then outputs: words and bytes as above, past 64 bytes # and the first 16
+bytes of their digest. `panic` is where the Rust panics, `error ..` what it returns, `bad ..` a bad request.
 
 ";
 
+/// Requests that the programs of crates/ answer too, then those that only the Rust has.
 const REQUESTS: &[Request] = &[
     Request {
         name: "add",
         arguments: "a:word b:word",
-        answer: "word",
-        call: |args| Ok(protocol::word(field::add(args.word("a")?, args.word("b")?))),
+        answer: "0, word",
+        call: |args| Ok(one(field::add(args.word("a")?, args.word("b")?))),
     },
     Request {
         name: "mul",
         arguments: "a:word b:word",
-        answer: "word",
-        call: |args| Ok(protocol::word(field::mul(args.word("a")?, args.word("b")?))),
+        answer: "0, word",
+        call: |args| Ok(one(field::mul(args.word("a")?, args.word("b")?))),
     },
     Request {
         name: "square",
         arguments: "a:word",
-        answer: "word",
-        call: |args| Ok(protocol::word(field::square(args.word("a")?))),
+        answer: "0, word",
+        call: |args| Ok(one(field::square(args.word("a")?))),
     },
     Request {
         name: "inv",
         arguments: "a:word",
-        answer: "word",
-        call: |args| Ok(protocol::word(field::inv(args.word("a")?))),
+        answer: "0, word",
+        call: |args| Ok(one(field::inv(args.word("a")?))),
+    },
+    Request {
+        name: "phi_c",
+        arguments: "p:word c:128 words",
+        answer: "0, word",
+        call: |args| Ok(one(field::phi_c(args.word("p")?, &args.array("c")?))),
+    },
+    Request {
+        name: "phi_tab",
+        arguments: "p:word c:128 words",
+        answer: "0, word: PhiTab::apply",
+        call: |args| Ok(one(field::phi_tab(args.word("p")?, &args.array("c")?))),
+    },
+    Request {
+        name: "eq_coefficients",
+        arguments: "r:7 words",
+        answer: "0, 128 words",
+        call: |args| Ok(many(&field::eq_coefficients(&args.array("r")?))),
+    },
+    Request {
+        name: "pack_table",
+        arguments: "bits:bytes room",
+        answer: "0, words",
+        call: pack_table,
+    },
+    Request {
+        name: "eq_table",
+        arguments: "n:number point:words room",
+        answer: "0, words: the equality table by EqBits::build",
+        call: eq_table,
+    },
+    Request {
+        name: "mul_run",
+        arguments: "src:words r:word room",
+        answer: "0, words: r × src",
+        call: mul_run,
+    },
+    Request {
+        name: "axpy_run",
+        arguments: "dst:words src:words r:word room",
+        answer: "0, words: dst + r × src; the lists are of one length",
+        call: axpy_run,
+    },
+    Request {
+        name: "partial_evals",
+        arguments: "n:number packed:words eq:words room",
+        answer: "0, 128 words",
+        call: partial_evals,
+    },
+    Request {
+        name: "fold_partials",
+        arguments: "s:words rb:128 words",
+        answer: "0, word",
+        call: |args| Ok(one(ring::fold_partials(&args.words("s")?, &args.array("rb")?))),
+    },
+    Request {
+        name: "materialize",
+        arguments: "n:number z:words rb:128 words room",
+        answer: "0, words",
+        call: materialize,
+    },
+    Request {
+        name: "eval_at",
+        arguments: "n:number z:words rb:128 words point:words",
+        answer: "0, word",
+        call: eval_at,
+    },
+    Request {
+        name: "derive",
+        arguments: "n:number k:number domain room",
+        answer: "0, words: the gammas, j outer",
+        call: derive,
+    },
+    Request {
+        name: "l_of",
+        arguments: "n:number k:number eps:number gammas:words room",
+        answer: "0, words: L(eps)",
+        call: l_of,
+    },
+    Request {
+        name: "encode",
+        arguments: "n:number k:number table:words gammas:words room",
+        answer: "0, words: the codeword",
+        call: encode,
+    },
+    Request {
+        name: "fold",
+        arguments: "n:number k:number var:number r:word values:words room",
+        answer: "0, the new n, the folded words",
+        call: fold,
+    },
+    Request {
+        name: "blake3",
+        arguments: "message:bytes",
+        answer: "0, digest",
+        call: |args| Ok(some(&hash::blake3(&args.bytes("message")?))),
+    },
+    Request {
+        name: "fed",
+        arguments: "message:bytes times:number last:bytes",
+        answer: "0, digest of the message so many times and the last bytes",
+        call: fed,
+    },
+    Request {
+        name: "serialize_parts",
+        arguments: "parts:bytes, end to end lengths:numbers joined by commas room",
+        answer: "0, bytes",
+        call: serialize_parts,
+    },
+    Request {
+        name: "leaf_digest",
+        arguments: "domain count:number width:number place:number values:words",
+        answer: "0, digest of the group of this place (leaf_digest_of_batched)",
+        call: |args| {
+            with_group(args, "place", |domain, count, width, place, values| {
+                some(&tree::leaf_of_place(domain, count, width, place, values))
+            })
+        },
+    },
+    Request {
+        name: "node_digest",
+        arguments: "domain level:number left:digest right:digest",
+        answer: "0, digest",
+        call: node,
+    },
+    Request {
+        name: "build",
+        arguments: "domain count:number width:number values:words room",
+        answer: "0, digests: 2 × groups − 1, leaves first (build_batched)",
+        call: build_tree,
+    },
+    Request {
+        name: "open",
+        arguments: "count:number width:number place:number tree:digests room",
+        answer: "0, the path off a lent tree",
+        call: open,
+    },
+    Request {
+        name: "root_of_path",
+        arguments: "domain count:number width:number place:number values:words path:digests",
+        answer: "0, digest (leaf_digest_of_batched, verify_batched)",
+        call: root_of_path,
+    },
+    Request {
+        name: "fold_tree_width",
+        arguments: "length:number",
+        answer: "number",
+        call: |args| Ok(query::fold_tree_width(args.number("length")?).to_string()),
+    },
+    Request {
+        name: "level_domain",
+        arguments: "base:domain level:number room",
+        answer: "its length, bytes",
+        call: level_domain,
+    },
+    Request {
+        name: "profile",
+        arguments: "which:number room",
+        answer: "k, query count, the domain's length, the domain with zeros after it; 0 is the default",
+        call: profile,
+    },
+    Request {
+        name: "commit",
+        arguments: "n:number k:number domain table:words three rooms",
+        answer: "0, gammas, codeword, digests of the level 0 tree (commit_table)",
+        call: commit,
+    },
+    Request {
+        name: "build_query",
+        arguments: "n:number k:number position:number levels:words trees:digests room",
+        answer: "0, bytes: build_query over lent levels and trees",
+        call: build_query,
+    },
+    Request {
+        name: "check_query",
+        arguments:
+            "domain n:number k:number position:number challenges:words roots:digests record:bytes",
+        answer: "number, level (step 5; 14 is ours)",
+        call: check_query,
+    },
+    Request {
+        name: "check_tail",
+        arguments: "domain n:number k:number root:digest claim:word record:bytes",
+        answer: "number (step 6; 14 is ours)",
+        call: check_tail,
     },
     Request {
         name: "mul_portable",
@@ -92,63 +280,6 @@ const REQUESTS: &[Request] = &[
                 args.word("b")?,
             )))
         },
-    },
-    Request {
-        name: "mul_run",
-        arguments: "src:words r:word",
-        answer: "words: r × src",
-        call: |args| {
-            Ok(protocol::words(&field::mul_run(
-                &args.words("src")?,
-                args.word("r")?,
-            )))
-        },
-    },
-    Request {
-        name: "axpy_run",
-        arguments: "dst:words src:words r:word",
-        answer: "words: dst + r × src; the lists are of one length",
-        call: axpy_run,
-    },
-    Request {
-        name: "pack_table",
-        arguments: "bits:bytes",
-        answer: "words",
-        call: |args| Ok(protocol::words(&field::pack_table(&args.bytes("bits")?))),
-    },
-    Request {
-        name: "phi_c",
-        arguments: "p:word c:128 words",
-        answer: "word",
-        call: |args| {
-            Ok(protocol::word(field::phi_c(
-                args.word("p")?,
-                &args.array("c")?,
-            )))
-        },
-    },
-    Request {
-        name: "phi_tab",
-        arguments: "p:word c:128 words",
-        answer: "word: PhiTab::apply",
-        call: |args| {
-            Ok(protocol::word(field::phi_tab(
-                args.word("p")?,
-                &args.array("c")?,
-            )))
-        },
-    },
-    Request {
-        name: "eq_coefficients",
-        arguments: "r:7 words",
-        answer: "128 words",
-        call: |args| Ok(protocol::words(&field::eq_coefficients(&args.array("r")?))),
-    },
-    Request {
-        name: "eq_build",
-        arguments: "point:words",
-        answer: "words: the equality table by EqBits::build",
-        call: |args| Ok(protocol::words(&field::eq_build(&args.words("point")?))),
     },
     Request {
         name: "eq_build_fused",
@@ -167,28 +298,6 @@ const REQUESTS: &[Request] = &[
         call: eq_build_fused_into,
     },
     Request {
-        name: "blake3",
-        arguments: "message:bytes",
-        answer: "digest",
-        call: |args| Ok(protocol::bytes(&hash::blake3(&args.bytes("message")?))),
-    },
-    Request {
-        name: "blake3_pattern",
-        arguments: "length:number",
-        answer: "digest of that many bytes, byte i being i mod 251",
-        call: |args| {
-            Ok(protocol::bytes(&hash::blake3(&pattern(
-                args.number("length")?,
-            ))))
-        },
-    },
-    Request {
-        name: "serialize_parts",
-        arguments: "part:bytes ..",
-        answer: "bytes",
-        call: |args| with_parts(args, |parts| protocol::bytes(&hash::serialize_parts(parts))),
-    },
-    Request {
         name: "blake3_domain",
         arguments: "part:bytes ..",
         answer: "digest of the parts' serialization",
@@ -205,122 +314,6 @@ const REQUESTS: &[Request] = &[
         },
     },
     Request {
-        name: "leaf_of_place",
-        arguments: "domain count:number width:number place:number values:words",
-        answer: "digest of the group of this place (leaf_digest_of_batched)",
-        call: |args| {
-            with_group(args, "place", |domain, count, width, place, values| {
-                protocol::bytes(&tree::leaf_of_place(domain, count, width, place, values))
-            })
-        },
-    },
-    Request {
-        name: "node",
-        arguments: "domain level:number left:digest right:digest",
-        answer: "digest",
-        call: node,
-    },
-    Request {
-        name: "tree",
-        arguments: "domain width:number values:words",
-        answer: "digests: 2 × groups − 1, leaves first (build_batched)",
-        call: build_tree,
-    },
-    Request {
-        name: "open",
-        arguments: "count:number width:number place:number tree:digests",
-        answer: "the leaf's digest, then the path, off a lent tree",
-        call: open,
-    },
-    Request {
-        name: "root_of_path",
-        arguments: "domain count:number width:number place:number values:words path:digests",
-        answer: "digest (leaf_digest_of_batched, verify_batched)",
-        call: root_of_path,
-    },
-    Request {
-        name: "derive",
-        arguments: "n:number k:number domain",
-        answer: "words: the gammas, j outer",
-        call: derive,
-    },
-    Request {
-        name: "l_of",
-        arguments: "n:number k:number gammas:words eps:number",
-        answer: "words: L(eps)",
-        call: l_of,
-    },
-    Request {
-        name: "encode",
-        arguments: "n:number k:number gammas:words table:words",
-        answer: "words: the codeword",
-        call: encode,
-    },
-    Request {
-        name: "fold",
-        arguments: "n:number k:number var:number r:word values:words",
-        answer: "the new n, then the folded words",
-        call: fold,
-    },
-    Request {
-        name: "partial_evals",
-        arguments: "eq:words packed:words",
-        answer: "128 words",
-        call: partial_evals,
-    },
-    Request {
-        name: "fold_partials",
-        arguments: "s:words rb:128 words",
-        answer: "word",
-        call: |args| {
-            Ok(protocol::word(ring::fold_partials(
-                &args.words("s")?,
-                &args.array("rb")?,
-            )))
-        },
-    },
-    Request {
-        name: "materialize",
-        arguments: "z:words rb:128 words",
-        answer: "words",
-        call: |args| {
-            Ok(protocol::words(&ring::materialize(
-                &args.words("z")?,
-                &args.array("rb")?,
-            )))
-        },
-    },
-    Request {
-        name: "eval_at",
-        arguments: "z:words rb:128 words point:words",
-        answer: "word",
-        call: eval_at,
-    },
-    Request {
-        name: "fold_tree_width",
-        arguments: "length:number",
-        answer: "number",
-        call: |args| Ok(query::fold_tree_width(args.number("length")?).to_string()),
-    },
-    Request {
-        name: "level_domain",
-        arguments: "base:domain level:number",
-        answer: "bytes",
-        call: level_domain,
-    },
-    Request {
-        name: "params",
-        arguments: "",
-        answer: "domain, k and query count of the default, then of the four profiles, as text",
-        call: |_| Ok(params()),
-    },
-    Request {
-        name: "commit",
-        arguments: "k:number domain table:words",
-        answer: "gammas, codeword, digests of the level 0 tree (commit_table)",
-        call: commit,
-    },
-    Request {
         name: "levels",
         arguments: "k:number domain table:words challenges:words",
         answer: "words of every level end to end, digests of every tree, every root",
@@ -333,46 +326,75 @@ const REQUESTS: &[Request] = &[
         call: query_record,
     },
     Request {
-        name: "build_query",
-        arguments: "n:number k:number position:number levels:words trees:digests",
-        answer: "bytes: build_query over lent levels and trees",
-        call: build_query,
-    },
-    Request {
         name: "tail_record",
         arguments: "k:number domain table:words challenges:words",
         answer: "bytes, then the terminal claim (prove_ring_switch)",
         call: tail_record,
     },
     Request {
-        name: "check_query",
-        arguments:
-            "n:number k:number domain challenges:words roots:digests position:number record:bytes",
-        answer: "number, level (step 5; 14 is ours)",
-        call: check_query,
-    },
-    Request {
         name: "check_query_sha3",
         arguments:
-            "n:number k:number domain challenges:words roots:digests nonce:number record:bytes",
+            "domain n:number k:number nonce:number challenges:words roots:digests record:bytes",
         answer: "the position drawn by the published Transcript, number",
         call: check_query_sha3,
     },
-    Request {
-        name: "check_tail",
-        arguments: "n:number k:number domain root:digest claim:word record:bytes",
-        answer: "number (step 6; 14 is ours)",
-        call: check_tail,
-    },
 ];
+
+/// An entry's answer: its number, which is 0 here, and its output.
+fn one(word: Word) -> String {
+    many(&[word])
+}
+
+fn many(words: &[Word]) -> String {
+    format!("0 {}", protocol::output_words(words))
+}
+
+fn some(bytes: &[u8]) -> String {
+    format!("0 {}", protocol::output(bytes))
+}
 
 /// A `panic` is to be the Rust's own: what the oracle itself needs is asked first.
 fn want(holds: bool, what: &str) -> Result<(), Bad> {
     holds.then_some(()).ok_or(format!("wanted: {what}"))
 }
 
-fn pattern(length: usize) -> Vec<u8> {
-    (0..length).map(|i| (i % 251) as u8).collect()
+fn pack_table(args: &mut Args) -> Result<String, Bad> {
+    let words = field::pack_table(&args.bytes("bits")?);
+    args.output()?;
+    Ok(many(&words))
+}
+
+fn eq_table(args: &mut Args) -> Result<String, Bad> {
+    let (n, point) = (args.number("n")?, args.words("point")?);
+    want(point.len() == n, "n coordinates")?;
+    args.output()?;
+    Ok(many(&field::eq_build(&point)))
+}
+
+fn mul_run(args: &mut Args) -> Result<String, Bad> {
+    let words = field::mul_run(&args.words("src")?, args.word("r")?);
+    args.output()?;
+    Ok(many(&words))
+}
+
+fn fed(args: &mut Args) -> Result<String, Bad> {
+    let (message, times) = (args.bytes("message")?, args.number("times")?);
+    let bytes = [message.repeat(times), args.bytes("last")?].concat();
+    Ok(some(&hash::blake3(&bytes)))
+}
+
+fn serialize_parts(args: &mut Args) -> Result<String, Bad> {
+    let (bytes, lengths) = (args.bytes("parts")?, args.numbers("lengths")?);
+    want(lengths.iter().sum::<usize>() == bytes.len(), "the lengths' sum of bytes")?;
+    let mut rest = &bytes[..];
+    let mut parts = Vec::new();
+    for length in lengths {
+        let part;
+        (part, rest) = rest.split_at(length);
+        parts.push(part);
+    }
+    args.output()?;
+    Ok(some(&hash::serialize_parts(&parts)))
 }
 
 fn with_parts(args: &mut Args, call: impl Fn(&[&[u8]]) -> String) -> Result<String, Bad> {
@@ -397,7 +419,8 @@ fn axpy_run(args: &mut Args) -> Result<String, Bad> {
     // The Rust would write beyond the shorter list.
     want(dst.len() == src.len(), "dst and src of one length")?;
     field::axpy_run(&mut dst, &src, args.word("r")?);
-    Ok(protocol::words(&dst))
+    args.output()?;
+    Ok(many(&dst))
 }
 
 fn eq_build_fused_into(args: &mut Args) -> Result<String, Bad> {
@@ -410,16 +433,15 @@ fn eq_build_fused_into(args: &mut Args) -> Result<String, Bad> {
 fn node(args: &mut Args) -> Result<String, Bad> {
     let (domain, level) = (args.domain()?, args.number("level")? as u64);
     let (left, right) = (args.digest("left")?, args.digest("right")?);
-    Ok(protocol::bytes(&tree::node(&domain, level, &left, &right)))
+    Ok(some(&tree::node(&domain, level, &left, &right)))
 }
 
 fn build_tree(args: &mut Args) -> Result<String, Bad> {
-    let (domain, width) = (args.domain()?, args.number("width")?);
-    Ok(protocol::digests(&tree::build(
-        &domain,
-        &args.words("values")?,
-        width,
-    )))
+    let (domain, count) = (args.domain()?, args.number("count")?);
+    let (width, values) = (args.number("width")?, args.words("values")?);
+    want(values.len() == count, "as many values as the count")?;
+    args.output()?;
+    Ok(some(&tree::build(&domain, &values, width).concat()))
 }
 
 fn open(args: &mut Args) -> Result<String, Bad> {
@@ -427,12 +449,8 @@ fn open(args: &mut Args) -> Result<String, Bad> {
     let (place, digests) = (args.number("place")?, args.digests("tree")?);
     let groups = count.checked_div(width).ok_or("the width is 0")?;
     want(digests.len() + 1 == 2 * groups, "2 × groups − 1 digests")?;
-    let (leaf, path) = tree::open(&digests, count, width, place);
-    Ok(format!(
-        "{} {}",
-        protocol::bytes(&leaf),
-        protocol::digests(&path)
-    ))
+    args.output()?;
+    Ok(some(&tree::open(&digests, count, width, place).1.concat()))
 }
 
 fn root_of_path(args: &mut Args) -> Result<String, Bad> {
@@ -442,7 +460,7 @@ fn root_of_path(args: &mut Args) -> Result<String, Bad> {
     let (values, path) = (args.words("values")?, args.digests("path")?);
     Ok(
         match tree::root_of_path(&domain, count, width, place, &values, &path) {
-            Ok(root) => protocol::bytes(&root),
+            Ok(root) => some(&root),
             Err(message) => format!("error {message}"),
         },
     )
@@ -450,29 +468,23 @@ fn root_of_path(args: &mut Args) -> Result<String, Bad> {
 
 fn derive(args: &mut Args) -> Result<String, Bad> {
     let (n, k) = (args.number("n")?, args.number("k")?);
-    Ok(protocol::words(&code::derive(n, k, &args.domain()?)))
+    let gammas = code::derive(n, k, &args.domain()?);
+    args.output()?;
+    Ok(many(&gammas))
 }
 
 fn l_of(args: &mut Args) -> Result<String, Bad> {
-    let (n, k) = (args.number("n")?, args.number("k")?);
+    let (n, k, eps) = (args.number("n")?, args.number("k")?, args.number("eps")?);
     let gammas = read_gammas(args, n, k)?;
-    Ok(protocol::words(&code::l_of(
-        n,
-        k,
-        &gammas,
-        args.number("eps")?,
-    )))
+    args.output()?;
+    Ok(many(&code::l_of(n, k, &gammas, eps)))
 }
 
 fn encode(args: &mut Args) -> Result<String, Bad> {
-    let (n, k) = (args.number("n")?, args.number("k")?);
+    let (n, k, table) = (args.number("n")?, args.number("k")?, args.words("table")?);
     let gammas = read_gammas(args, n, k)?;
-    Ok(protocol::words(&code::encode(
-        n,
-        k,
-        &gammas,
-        &args.words("table")?,
-    )))
+    args.output()?;
+    Ok(many(&code::encode(n, k, &gammas, &table)))
 }
 
 fn read_gammas(args: &mut Args, n: usize, k: usize) -> Result<Vec<Word>, Bad> {
@@ -485,47 +497,68 @@ fn fold(args: &mut Args) -> Result<String, Bad> {
     let (n, k, var) = (args.number("n")?, args.number("k")?, args.number("var")?);
     let r = args.word("r")?;
     let (values, new_n) = code::fold(n, k, var, r, &args.words("values")?);
-    Ok(format!("{new_n} {}", protocol::words(&values)))
+    args.output()?;
+    Ok(format!("0 {new_n} {}", protocol::output_words(&values)))
 }
 
 fn partial_evals(args: &mut Args) -> Result<String, Bad> {
-    let (eq, packed) = (args.words("eq")?, args.words("packed")?);
-    Ok(protocol::words(&ring::partial_evals(&eq, &packed)))
+    let n = args.number("n")?;
+    let (packed, eq) = (args.words("packed")?, args.words("eq")?);
+    want(packed.len() == 1 << n, "2^n words")?;
+    args.output()?;
+    Ok(many(&ring::partial_evals(&eq, &packed)))
+}
+
+fn materialize(args: &mut Args) -> Result<String, Bad> {
+    let (n, z) = (args.number("n")?, args.words("z")?);
+    want(z.len() == n, "n coordinates")?;
+    let table = ring::materialize(&z, &args.array("rb")?);
+    args.output()?;
+    Ok(many(&table))
 }
 
 fn eval_at(args: &mut Args) -> Result<String, Bad> {
-    let (z, rb) = (args.words("z")?, args.array("rb")?);
-    Ok(protocol::word(ring::eval_at(
-        &z,
-        &rb,
-        &args.words("point")?,
-    )))
+    let (n, z, rb) = (args.number("n")?, args.words("z")?, args.array("rb")?);
+    want(z.len() == n, "n coordinates")?;
+    Ok(one(ring::eval_at(&z, &rb, &args.words("point")?)))
 }
 
 fn level_domain(args: &mut Args) -> Result<String, Bad> {
     let base = args.domain()?;
-    Ok(protocol::bytes(
-        query::level_domain(&base, args.number("level")?).as_bytes(),
-    ))
+    let domain = query::level_domain(&base, args.number("level")?);
+    args.output()?;
+    let output = protocol::output(domain.as_bytes());
+    Ok(format!("{} {output}", domain.len()))
 }
 
-fn params() -> String {
-    let mut all = vec![query::default_params()];
-    all.extend(query::profiles());
-    let texts = all
-        .iter()
-        .map(|p| format!("{} {} {}", p.domain, p.k, p.queries));
-    texts.collect::<Vec<_>>().join(" ")
+fn profile(args: &mut Args) -> Result<String, Bad> {
+    let params = match args.number("which")? {
+        0 => query::default_params(),
+        which => query::profiles()
+            .get(which - 1)
+            .ok_or("there are four profiles")?
+            .clone(),
+    };
+    let mut domain = params.domain.into_bytes();
+    let length = domain.len();
+    domain.resize(args.output()?, 0);
+    let output = protocol::output(&domain);
+    Ok(format!("{} {} {length} {output}", params.k, params.queries))
 }
 
 fn commit(args: &mut Args) -> Result<String, Bad> {
-    let (k, domain) = (args.number("k")?, args.domain()?);
-    let made = query::commitment(k, &domain, &args.words("table")?);
+    let (n, k, domain) = (args.number("n")?, args.number("k")?, args.domain()?);
+    let table = args.words("table")?;
+    want(table.len() == 1 << n, "2^n words")?;
+    let made = query::commitment(k, &domain, &table);
+    for _ in 0..3 {
+        args.output()?;
+    }
     Ok(format!(
         "{} {} {}",
-        protocol::words(&made.gammas),
-        protocol::words(&made.codeword),
-        protocol::digests(&made.digests)
+        many(&made.gammas),
+        protocol::output_words(&made.codeword),
+        protocol::output(&made.digests.concat())
     ))
 }
 
@@ -572,7 +605,8 @@ fn build_query(args: &mut Args) -> Result<String, Bad> {
         "every tree, end to end",
     )?;
     let levels = Levels::lent(n, k, &values, &digests);
-    Ok(protocol::bytes(&levels.query(position).to_bytes()))
+    args.output()?;
+    Ok(some(&levels.query(position).to_bytes()))
 }
 
 fn tail_record(args: &mut Args) -> Result<String, Bad> {
@@ -590,12 +624,14 @@ fn tail_record(args: &mut Args) -> Result<String, Bad> {
     ))
 }
 
-/// Reads a claim, then gives it to the call.
+/// Reads a claim, a place and a record, and gives them to the call.
 fn with_claim(
     args: &mut Args,
-    call: impl Fn(&Claim, &mut Args) -> Result<String, Bad>,
+    place: &str,
+    call: impl Fn(&Claim, usize, &[u8]) -> Result<String, Bad>,
 ) -> Result<String, Bad> {
-    let (n, k, domain) = (args.number("n")?, args.number("k")?, args.domain()?);
+    let (domain, n, k) = (args.domain()?, args.number("n")?, args.number("k")?);
+    let place = args.number(place)?;
     let (challenges, roots) = (args.words("challenges")?, args.digests("roots")?);
     want(
         challenges.len() == n && roots.len() == n + 1,
@@ -608,29 +644,27 @@ fn with_claim(
         challenges: &challenges,
         roots: &roots,
     };
-    call(&claim, args)
+    call(&claim, place, &args.bytes("record")?)
 }
 
 fn check_query(args: &mut Args) -> Result<String, Bad> {
-    with_claim(args, |claim, args| {
-        let position = args.number("position")?;
-        let answer = query::check_query_bytes(claim, position, &args.bytes("record")?);
+    with_claim(args, "position", |claim, position, record| {
+        let answer = query::check_query_bytes(claim, position, record);
         Ok(format!("{} {}", answer.number, answer.level))
     })
 }
 
 fn check_query_sha3(args: &mut Args) -> Result<String, Bad> {
-    with_claim(args, |claim, args| {
-        let nonce = args.number("nonce")? as u64;
-        let record = Query::from_bytes(&args.bytes("record")?);
+    with_claim(args, "nonce", |claim, nonce, record| {
+        let record = Query::from_bytes(record);
         let record = record.ok_or("the record does not read whole")?;
-        let (position, number) = query::check_query_sha3(claim, nonce, &record);
+        let (position, number) = query::check_query_sha3(claim, nonce as u64, &record);
         Ok(format!("{position} {number}"))
     })
 }
 
 fn check_tail(args: &mut Args) -> Result<String, Bad> {
-    let (n, k, domain) = (args.number("n")?, args.number("k")?, args.domain()?);
+    let (domain, n, k) = (args.domain()?, args.number("n")?, args.number("k")?);
     let (root, claim) = (args.digest("root")?, args.word("claim")?);
     let record = args.bytes("record")?;
     Ok(query::check_tail_bytes(n, k, &domain, root, claim, &record).to_string())

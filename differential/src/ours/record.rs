@@ -105,7 +105,7 @@ fn check_tail(n: usize, k: usize, domain: &str, root: Digest, claim: Word, bytes
     }
 }
 
-/// The bytes of a tail record for k from 0 to 4 (document 01).
+/// The bytes of a tail record for k from 0 to 4 (SPECIFICATION 7.6).
 const TAIL_SIZES: [usize; 5] = [28, 44, 148, 420, 340];
 
 fn build_tail(n: usize, k: usize, level: &[Word], tree: &[Digest]) -> (u64, Vec<u8>) {

@@ -5,7 +5,7 @@ use crate::eval::Eval;
 use oracle::query::{Commitment, Params};
 use oracle::Word;
 
-/// Written from document 01; the profiles are as eval.rs writes them.
+/// Written from SPECIFICATION 6.7; the profiles are as eval.rs writes them.
 pub const RIGHT: Eval = Eval {
     fold_tree_width: width,
     level_domain,

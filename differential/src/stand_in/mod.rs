@@ -1,5 +1,5 @@
 //! Stand-ins for our functions, to test the harness: for each layer one set that
-//! is right, written from document 01 alone, and wrong ones, each wrong in one
+//! is right, written from docs/SPECIFICATION.md alone, and wrong ones, each wrong in one
 //! function and as little as a likely slip would be.
 
 pub mod code;

@@ -6,7 +6,7 @@ use crate::tree::Tree;
 use oracle::hash::blake3;
 use oracle::{Digest, Word};
 
-/// Written from document 01's messages.
+/// Written from the messages of SPECIFICATION 5.2 and 5.3.
 pub const RIGHT: Tree = Tree {
     blake3: |bytes| (0, blake3(bytes)),
     serialize_parts: |parts| (0, serialized(parts.len(), parts)),

@@ -1,4 +1,4 @@
-//! The Rust against what document 01 says of it, and against itself.
+//! The Rust against what docs/SPECIFICATION.md says, and against itself.
 
 use crate::support::{start, Random};
 use oracle::{code, field, hash, query, ring, tree, Word};
@@ -41,7 +41,7 @@ fn checked_small_values() {
     assert_eq!([1, 2, 8, 16].map(query::fold_tree_width), [1, 2, 2, 8]);
 }
 
-/// Document 01's leaf message, written out.
+/// The leaf message of SPECIFICATION 5.2, written out.
 fn leaf_message(domain: &str, count: u64, width: u64, group: u64, values: &[Word]) -> Vec<u8> {
     let mut message = 5u64.to_le_bytes().to_vec();
     let (count, own_width) = (count.to_le_bytes(), width.to_le_bytes());

@@ -1,51 +1,15 @@
-//! The answers on levels and records: eval.rs and ring.rs.
+//! Requests on records that the Rust built: each intact at its position and at others, then damaged.
 //!
-//! Beside the lists there is a file for each of some records that the Rust built: `query0` .. and `tail0` ... Its first
-//! line has n, k, the domain's length and how many bytes follow, 64 to a line: for a query record the challenges, the
-//! roots and the record, for a tail record the claim, the root and the record. Then a line for each case: the position
-//! (0 for a tail record), a damage (`Damage`), the number that the check answers and the level.
+//! A line keeps the bytes of a record and of what it is checked against: for a query record the
+//! challenges, the roots and the record, for a tail record the claim, the root and the record. The
+//! requests after it name parts of them. What a record is made of is drawn from its number.
 
-use super::{columns, numbered, of_bytes, List, Stream};
-use oracle::query::{self as rust, Claim, Levels};
+use crate::protocol;
+use crate::stream::Stream;
+use oracle::query::{self as rust, Levels};
 use oracle::record::{Group, Level, Query, Tail};
-use oracle::Word;
 use std::collections::BTreeSet;
-use std::fs;
-use std::io;
-use std::path::Path;
-
-pub fn lists() -> Vec<List> {
-    vec![
-        List {
-            function: "fold_tree_width",
-            cases: numbered((0..=40).chain([64, 1024, 65_536])),
-            answer: |case| Word(rust::fold_tree_width(case.numbers[0]) as u128),
-        },
-        List {
-            function: "level_domain",
-            cases: [0, 1, 20, 200]
-                .into_iter()
-                .flat_map(|length| (0..=20).map(move |level| vec![length, level]))
-                .collect(),
-            answer: |case| {
-                let base = case.input(0).text(case.numbers[0]);
-                of_bytes(rust::level_domain(&base, case.numbers[1]).as_bytes())
-            },
-        },
-        List {
-            function: "profiles",
-            cases: numbered(0..5),
-            answer: |case| {
-                let params = match case.numbers[0] {
-                    0 => rust::default_params(),
-                    profile => rust::profiles()[profile - 1].clone(),
-                };
-                let numbers = [params.k as u8, params.queries as u8];
-                of_bytes(&[&numbers, params.domain.as_bytes()].concat())
-            },
-        },
-    ]
-}
+use std::ops::Range;
 
 /// n, k and the base domain's length of each query record; the last has a level of two digits.
 const QUERIES: [(usize, usize, usize); 10] = [
@@ -71,37 +35,87 @@ const TAILS: [(usize, usize, usize); 6] = [
     (12, 4, 40),
 ];
 
-/// Writes the records and their cases; how many cases there are.
-pub fn write(folder: &Path) -> io::Result<usize> {
-    let mut count = 0;
+/// The lines.
+pub fn lines() -> String {
+    let mut file = File::default();
     for (number, &size) in QUERIES.iter().enumerate() {
-        let base = QueryBase::of(number, size);
-        let cases = base.cases();
-        count += cases.len();
-        fs::write(
-            folder.join(format!("query{number}")),
-            text(size, &base.bytes, &cases),
-        )?;
+        QueryBase::of(number, size).write(&mut file);
     }
     for (number, &size) in TAILS.iter().enumerate() {
-        let base = TailBase::of(number, size);
-        let cases = base.cases();
-        count += cases.len();
-        fs::write(
-            folder.join(format!("tail{number}")),
-            text(size, &base.bytes, &cases),
-        )?;
+        TailBase::of(number, size).write(&mut file);
     }
-    Ok(count)
+    file.text
 }
 
-/// A record's file: the first line, the bytes, the cases.
-fn text((n, k, domain): (usize, usize, usize), bytes: &[u8], cases: &[Vec<usize>]) -> String {
-    let line = |numbers: &[usize]| columns(numbers).trim_end().to_string() + "\n";
-    let row = |row: &[u8]| row.iter().map(|b| format!("{b:02x}")).collect::<String>() + "\n";
-    let rows: String = bytes.chunks(64).map(row).collect();
-    let cases: String = cases.iter().map(|case| line(case)).collect();
-    line(&[n, k, domain, bytes.len()]) + &rows + &cases
+/// The lines so far, how many bytes they keep, and where the bytes of the record at hand start.
+#[derive(Default)]
+struct File {
+    text: String,
+    kept: usize,
+    start: usize,
+}
+
+impl File {
+    fn keep(&mut self, bytes: &[u8]) {
+        self.text += &format!("= {}\n", protocol::bytes(bytes));
+        self.start = self.kept;
+        self.kept += bytes.len();
+    }
+
+    fn request(&mut self, line: String) {
+        self.text += &(line + "\n");
+    }
+
+    /// A part of the bytes after a damage, as an argument.
+    fn part(&self, damage: &Damage, damaged: &[u8], part: Range<usize>) -> String {
+        let zeros = damage.at..damage.at + damage.inserted;
+        let changed = damage.place..damage.place + usize::from(damage.xor != 0);
+        let mut ends = vec![part.start, part.end, zeros.start, zeros.end];
+        ends.extend([changed.start, changed.end]);
+        ends.retain(|end| part.contains(end) || *end == part.end);
+        ends.sort();
+        ends.dedup();
+        let piece = |run: &[usize]| {
+            let (from, size) = (run[0], run[1] - run[0]);
+            if changed.contains(&from) {
+                return protocol::bytes(&damaged[from..from + size]);
+            }
+            if zeros.contains(&from) {
+                return format!("00x{size}");
+            }
+            let place = if from < damage.at {
+                from
+            } else {
+                from - damage.inserted + damage.removed
+            };
+            format!("@{}+{size}", self.start + place)
+        };
+        let pieces: Vec<String> = ends.windows(2).map(piece).collect();
+        if pieces.is_empty() {
+            return "-".into();
+        }
+        pieces.join(",")
+    }
+
+    /// The same for words: in digits, where they are not as they are kept.
+    fn words(&self, damage: &Damage, damaged: &[u8], part: Range<usize>) -> String {
+        let named = self.part(damage, damaged, part.clone());
+        if named.starts_with('@') && !named.contains(',') {
+            return named;
+        }
+        let word = |run: &[u8]| u128::from_le_bytes(run.try_into().expect("16 bytes"));
+        let digits = |run: &[u8]| format!("{:x}", word(run));
+        let words: Vec<String> = damaged[part].chunks_exact(16).map(digits).collect();
+        words.join(",")
+    }
+}
+
+/// A base domain that is drawn, as an argument.
+fn domain_of(number: usize, length: usize) -> String {
+    match length {
+        0 => "-".into(),
+        _ => format!("~t{}x{length}", 16 * number + 2),
+    }
 }
 
 /// At a place some bytes taken out and some zeros put there; then a byte changed by exclusive or.
@@ -180,30 +194,6 @@ impl Damage {
     }
 }
 
-fn case(position: usize, damage: &Damage, number: u32, level: usize) -> Vec<usize> {
-    let Damage {
-        at,
-        removed,
-        inserted,
-        place,
-        xor,
-    } = *damage;
-    vec![
-        position,
-        at,
-        removed,
-        inserted,
-        place,
-        xor.into(),
-        number as usize,
-        level,
-    ]
-}
-
-fn word_bytes(words: &[Word]) -> Vec<u8> {
-    words.iter().flat_map(|word| word.0.to_le_bytes()).collect()
-}
-
 /// A query record with what it is checked against. Inputs 0 to 3: table, challenges, domain, position.
 struct QueryBase {
     number: usize,
@@ -217,14 +207,14 @@ struct QueryBase {
 
 impl QueryBase {
     fn of(number: usize, (n, k, length): (usize, usize, usize)) -> QueryBase {
-        let input = |input| Stream::of(number, input);
+        let input = |input| Stream(16 * number as u64 + input);
         let (table, challenges) = (input(0).words(1 << n), input(1).words(n));
         let domain = input(2).text(length);
         let position = input(3).number(0) as usize % (1 << (n + k));
         let levels = Levels::of(k, &domain, &table, &challenges);
         let record = levels.query(position);
         let bytes = [
-            word_bytes(&challenges),
+            protocol::word_bytes(&challenges),
             levels.roots().concat(),
             record.to_bytes(),
         ]
@@ -245,44 +235,30 @@ impl QueryBase {
         16 * self.n + 32 * (self.n + 1)
     }
 
-    /// What the Rust's check answers for the base's bytes after a damage.
-    fn case(&self, position: usize, damage: &Damage) -> Vec<usize> {
-        let bytes = damage.apply(&self.bytes);
-        let (challenges, rest) = bytes.split_at(16 * self.n);
-        let (roots, record) = rest.split_at(32 * (self.n + 1));
-        let word = |run: &[u8]| Word(u128::from_le_bytes(run.try_into().expect("16 bytes")));
-        let claim = Claim {
-            n: self.n,
-            k: self.k,
-            domain: &self.domain,
-            challenges: &challenges.chunks_exact(16).map(word).collect::<Vec<_>>(),
-            roots: &roots
-                .chunks_exact(32)
-                .map(|run| run.try_into().expect("32 bytes"))
-                .collect::<Vec<_>>(),
-        };
-        let answer = rust::check_query_bytes(&claim, position, record);
-        case(position, damage, answer.number, answer.level)
+    /// The request to check the base's bytes after a damage.
+    fn request(&self, file: &mut File, position: usize, damage: &Damage) {
+        let damaged = damage.apply(&self.bytes);
+        let challenges = file.words(damage, &damaged, 0..16 * self.n);
+        let roots = file.part(damage, &damaged, 16 * self.n..self.front());
+        let record = file.part(damage, &damaged, self.front()..damaged.len());
+        let (domain, n, k) = (domain_of(self.number, self.domain.len()), self.n, self.k);
+        file.request(format!(
+            "check_query {domain} {n} {k} {position} {challenges} {roots} {record}"
+        ));
     }
 
     /// At its position and at others, intact; then damaged.
-    fn cases(&self) -> Vec<Vec<usize>> {
-        let intact = Damage::default();
+    fn write(&self, file: &mut File) {
+        file.keep(&self.bytes);
         let last = (1 << (self.n + self.k)) - 1;
         let bits = (0..self.n + self.k).map(|bit| self.position ^ (1 << bit));
-        let positions = bits.chain([self.position, 0, last]);
-        let positions: BTreeSet<usize> = positions.collect();
-        let elsewhere = positions
-            .into_iter()
-            .map(|position| self.case(position, &intact));
-        let damages = self.damages();
-        elsewhere
-            .chain(
-                damages
-                    .iter()
-                    .map(|damage| self.case(self.position, damage)),
-            )
-            .collect()
+        let positions: BTreeSet<usize> = bits.chain([self.position, 0, last]).collect();
+        for position in positions {
+            self.request(file, position, &Damage::default());
+        }
+        for damage in self.damages() {
+            self.request(file, self.position, &damage);
+        }
     }
 
     fn damages(&self) -> BTreeSet<Damage> {
@@ -309,7 +285,7 @@ impl QueryBase {
             }
             place += level_size(level);
         }
-        damages.extend(Damage::drawn(bytes, &Stream::of(self.number, 4), 12));
+        damages.extend(Damage::drawn(bytes, &Stream(16 * self.number as u64 + 4), 12));
         damages.into_iter().collect()
     }
 
@@ -361,13 +337,13 @@ struct TailBase {
 
 impl TailBase {
     fn of(number: usize, (n, k, length): (usize, usize, usize)) -> TailBase {
-        let input = |input| Stream::of(number, input);
+        let input = |input| Stream(16 * number as u64 + input);
         let (table, challenges) = (input(0).words(1 << n), input(1).words(n));
         let domain = input(2).text(length);
         let record = rust::prove(k, &domain, &table, &challenges, &[]).tail;
         let root = Levels::of(k, &domain, &table, &challenges).roots()[n];
         let claim = record.groups[0].values[0];
-        let bytes = [word_bytes(&[claim]), root.to_vec(), record.to_bytes()].concat();
+        let bytes = [protocol::word_bytes(&[claim]), root.to_vec(), record.to_bytes()].concat();
         TailBase {
             number,
             n,
@@ -378,16 +354,19 @@ impl TailBase {
         }
     }
 
-    fn case(&self, damage: &Damage) -> Vec<usize> {
-        let bytes = damage.apply(&self.bytes);
-        let (claim, rest) = bytes.split_first_chunk().expect("the claim is not cut");
-        let (root, record) = rest.split_first_chunk().expect("the root is not cut");
-        let claim = Word(u128::from_le_bytes(*claim));
-        let number = rust::check_tail_bytes(self.n, self.k, &self.domain, *root, claim, record);
-        case(0, damage, number, 0)
+    fn request(&self, file: &mut File, damage: &Damage) {
+        let damaged = damage.apply(&self.bytes);
+        let claim = file.words(damage, &damaged, 0..16);
+        let root = file.part(damage, &damaged, 16..48);
+        let record = file.part(damage, &damaged, 48..damaged.len());
+        let (domain, n, k) = (domain_of(self.number, self.domain.len()), self.n, self.k);
+        file.request(format!(
+            "check_tail {domain} {n} {k} {root} {claim} {record}"
+        ));
     }
 
-    fn cases(&self) -> Vec<Vec<usize>> {
+    fn write(&self, file: &mut File) {
+        file.keep(&self.bytes);
         let (front, bytes) = (48, &self.bytes);
         let mut damages = vec![
             Damage::default(),
@@ -423,9 +402,11 @@ impl TailBase {
             }
             place += group_size(group);
         }
-        damages.extend(Damage::drawn(bytes, &Stream::of(self.number, 4), 12));
+        damages.extend(Damage::drawn(bytes, &Stream(16 * self.number as u64 + 4), 12));
         let damages: BTreeSet<Damage> = damages.into_iter().collect();
-        damages.iter().map(|damage| self.case(damage)).collect()
+        for damage in &damages {
+            self.request(file, damage);
+        }
     }
 }
 

@@ -1,16 +1,11 @@
-//! Inputs of the fixed list, drawn by splitmix64 from a case's number. `crates/replay` draws the same.
+//! Inputs drawn by splitmix64 from a stream's number. `crates/test_lines` and tools/lines.py draw the same.
 
 use oracle::Word;
 
-/// One of a case's inputs. Each number of it is drawn by its place alone.
-pub struct Stream(u64);
+/// A stream. Each number of it is drawn by its place alone.
+pub struct Stream(pub u64);
 
 impl Stream {
-    /// Input 0 to 15 of a case.
-    pub fn of(case: usize, input: u64) -> Stream {
-        Stream(16 * case as u64 + input)
-    }
-
     /// Number i that splitmix64 gives, started from this stream's.
     pub fn number(&self, i: u64) -> u64 {
         let step = (i + 1).wrapping_mul(0x9e37_79b9_7f4a_7c15);
@@ -40,10 +35,6 @@ impl Stream {
         (0..count as u64).map(|i| self.word(i)).collect()
     }
 
-    pub fn array<const N: usize>(&self) -> [Word; N] {
-        std::array::from_fn(|i| self.word(i as u64))
-    }
-
     pub fn bytes(&self, count: usize) -> Vec<u8> {
         (0..count as u64).map(|i| self.number(i) as u8).collect()
     }
@@ -58,13 +49,5 @@ impl Stream {
     pub fn text(&self, count: usize) -> String {
         let character = |i| char::from(32 + (self.number(i) % 95) as u8);
         (0..count as u64).map(character).collect()
-    }
-
-    pub fn digests(&self, count: usize) -> Vec<oracle::Digest> {
-        let digest = |run: &[u8]| run.try_into().expect("32 bytes");
-        self.bytes(32 * count)
-            .chunks_exact(32)
-            .map(digest)
-            .collect()
     }
 }

@@ -1,0 +1,577 @@
+"""The model's answer to a request line: the questions of SPECIFICATION 8.4 and definitions by model.py and records.py, apart from the code and the Rust.
+
+An operation gets its arguments, words as their bytes, and how long its outputs are, in halves of words or in bytes. It answers the numbers,
+and what the outputs hold; None for one that holds what it held."""
+import collections
+
+import records
+from lines import FILL, shown
+from model import blake3, derive, encode, equality_table, extension, fold_tree_width, gamma_message, leaf_message, level_domain, mul, node_message, path
+from model import number as number_bytes, part, root_of_path, shift, tree
+from records import Deposit, first_no, query, query_bytes, tail_bytes
+
+OPERATIONS = {}
+
+
+def operation(f):
+    OPERATIONS[f.__name__] = f
+    return f
+
+
+def answer(reader, letters, line):
+    """The answer to a line whose operation has these letters."""
+    name, *texts = line.split()
+    arguments, outputs, texts = [], [], iter(texts)
+    for letter in letters:
+        if letter in "ocd":
+            outputs.append((letter != "d", {"o": 16, "c": 2048, "d": 32}[letter]))
+            continue
+        text = next(texts)
+        if letter in "WB":
+            outputs.append((letter == "W", int(text) * (8 if letter == "W" else 1)))
+        elif letter == "n":
+            arguments.append(int(text))
+        elif letter == "l":
+            arguments.append([int(x) for x in text.split(",") if x != "-"])
+        else:
+            arguments.append(reader.bytes(text, letter == "w"))
+    assert next(texts, None) is None, line
+    lengths = [size // 8 if words else size for words, size in outputs]
+    numbers, held = OPERATIONS[name](*arguments, *lengths)
+    held = list(held) + [None] * (len(outputs) - len(held))
+    after = [FILL * size if x is None else x for x, (_, size) in zip(held, outputs)]
+    assert all(len(x) == size for x, (_, size) in zip(after, outputs)), line
+    return " ".join([*map(str, numbers), *(shown(words, x) for x, (words, _) in zip(after, outputs))])
+
+
+def ints(data):
+    return [int.from_bytes(data[i : i + 16], "little") for i in range(0, len(data), 16)]
+
+
+def packed(words):
+    return b"".join(w.to_bytes(16, "little") for w in words)
+
+
+def no(*questions):
+    """The first number whose question is answered with no."""
+    return next((number for number, yes in questions if not yes), 0)
+
+
+def done(number, *held):
+    """The number, and the outputs where it is 0."""
+    return [number], held if number == 0 else []
+
+
+def halves(data):
+    return len(data) // 8
+
+
+# ---- words
+
+
+def polynomials(a, b):
+    """Schoolbook: the product of two polynomials over two values."""
+    product = 0
+    for i in range(b.bit_length()):
+        if b >> i & 1:
+            product ^= a << i
+    return product
+
+
+def inverse(a):
+    """By Euclid's extended algorithm."""
+    r, s, u, v = 1 << 128 | 0x87, a, 0, 1
+    while s:
+        q, rest = 0, r
+        while rest.bit_length() >= s.bit_length():
+            shift = rest.bit_length() - s.bit_length()
+            q ^= 1 << shift
+            rest ^= s << shift
+        r, s, u, v = s, rest, v, u ^ polynomials(q, v)
+    return u
+
+
+def phi(w, coefficients):
+    total = 0
+    for b, c in enumerate(coefficients):
+        if w >> b & 1:
+            total ^= c
+    return total
+
+
+@operation
+def add(a, b, _):
+    return done(0, packed([ints(a)[0] ^ ints(b)[0]]))
+
+
+@operation
+def mul_(a, b, _):
+    return done(0, packed([mul(ints(a)[0], ints(b)[0])]))
+
+
+OPERATIONS["mul"] = OPERATIONS.pop("mul_")
+
+
+@operation
+def square(a, _):
+    return done(0, packed([mul(ints(a)[0], ints(a)[0])]))
+
+
+@operation
+def inv(a, _):
+    (a,) = ints(a)
+    return [0 if a else 1], [packed([inverse(a) if a else 0])]
+
+
+@operation
+def phi_c(a, c, _):
+    return done(0, packed([phi(ints(a)[0], ints(c))]))
+
+
+OPERATIONS["phi_tab"] = phi_c
+
+
+@operation
+def eq_coefficients(r, _):
+    return done(0, packed(equality_table(ints(r))))
+
+
+@operation
+def pack_table(data, out):
+    number = no((2, len(data) % 128 == 0), (3, all(b < 2 for b in data)), (5, out == 2 * (len(data) // 128)))
+    groups = [data[i : i + 128] for i in range(0, len(data), 128)]
+    return done(number, packed([sum((b & 1) << i for i, b in enumerate(group)) for group in groups]))
+
+
+@operation
+def eq_table(n, point, out):
+    number = no((4, n <= 20), (5, halves(point) == 2 * n and out == 2 << n if n <= 20 else False))
+    return done(number, *([packed(equality_table(ints(point)))] if number == 0 else []))
+
+
+@operation
+def mul_run(run, r, _):
+    return done(0, packed([mul(w, ints(r)[0]) for w in ints(run)]))
+
+
+@operation
+def axpy_run(y, x, r, _):
+    return done(0, packed([a ^ mul(b, ints(r)[0]) for a, b in zip(ints(y), ints(x))]))
+
+
+# ---- ring switching
+
+
+def evals_of(n, words, eq):
+    return [sum_of(e for w, e in zip(words, eq) if w >> b & 1) for b in range(128)]
+
+
+def sum_of(words):
+    total = 0
+    for w in words:
+        total ^= w
+    return total
+
+
+@operation
+def partial_evals(n, words, eq, out):
+    number = no((4, n <= 20), (5, n <= 20 and halves(words) == halves(eq) == 2 << n and out == 256))
+    return done(number, *([packed(evals_of(n, ints(words), ints(eq)))] if number == 0 else []))
+
+
+@operation
+def fold_partials(s, rb, _):
+    if halves(s) != 256:
+        return [5], [bytes(16)]
+    s, rb = ints(s), ints(rb)
+    rows = [sum((s[j] >> i & 1) << j for j in range(128)) for i in range(128)]
+    return [0], [packed([sum_of(mul(r, row) for r, row in zip(rb, rows))])]
+
+
+@operation
+def materialize(n, z, rb, out):
+    number = no((4, n <= 20), (5, n <= 20 and halves(z) == 2 * n and out == 2 << n))
+    return done(number, *([packed([phi(entry, ints(rb)) for entry in equality_table(ints(z))])] if number == 0 else []))
+
+
+@operation
+def eval_at(n, z, rb, point, _):
+    number = no((4, n <= 20), (5, halves(z) == halves(point) == 2 * n))
+    if number:
+        return [number], [bytes(16)]
+    table = [phi(entry, ints(rb)) for entry in equality_table(ints(z))]
+    return [0], [packed([extension(table, ints(point))])]
+
+
+# ---- the code
+
+
+def in_range(n, k):
+    return n <= 20 and k <= 4
+
+
+@operation
+def derive_(n, k, base, out):
+    number = no((4, in_range(n, k)), (5, out == 2 * n * k), (7, len(base) <= 200))
+    return done(number, *([packed(derive(base, n, k))] if number == 0 else []))
+
+
+@operation
+def l_of(n, k, eps, gammas, out):
+    number = no((4, in_range(n, k)), (5, halves(gammas) == 2 * n * k and out == 2 * n))
+    return done(number, *([packed(shift(n, k, ints(gammas), eps))] if number == 0 else []))
+
+
+@operation
+def encode_(n, k, table, gammas, out):
+    number = no((4, in_range(n, k)), (5, in_range(n, k) and halves(table) == 2 << n and halves(gammas) == 2 * n * k and out == 2 << n + k))
+    return done(number, *([packed(encode(n, k, ints(table), ints(gammas)))] if number == 0 else []))
+
+
+for name in ("derive", "encode"):
+    OPERATIONS[name] = OPERATIONS.pop(name + "_")
+
+
+def fold_at(level, var, r):
+    """a + r × (a + b) for each pair of places that differ in bit var."""
+    lower = [v for v in range(len(level)) if not v >> var & 1]
+    return [level[v] ^ mul(r, level[v] ^ level[v | 1 << var]) for v in lower]
+
+
+@operation
+def fold(n, k, var, r, values, out):
+    sized = in_range(n, k) and halves(values) == 2 << n + k and out == (1 << n + k) // 2 * 2
+    number = no((4, in_range(n, k)), (5, sized), (6, var < n))
+    if number:
+        return [number, 0], []
+    return [0, n - 1], [packed(fold_at(ints(values), var, ints(r)[0]))]
+
+
+@operation
+def gamma_message_(n, k, base, j, i):
+    return [0, len(gamma_message(base, n, k, j, i))], []
+
+
+OPERATIONS["gamma_message"] = OPERATIONS.pop("gamma_message_")
+
+
+# ---- the hash
+
+
+@operation
+def blake3_(message, _):
+    return [0], [blake3(message)]
+
+
+OPERATIONS["blake3"] = OPERATIONS.pop("blake3_")
+
+
+@operation
+def serialize_parts(data, lengths, out):
+    number = no((5, sum(lengths) == len(data) and out == 8 + 8 * len(lengths) + len(data)))
+    parts, at = [], 0
+    for size in lengths:
+        parts.append(data[at : at + size])
+        at += size
+    return done(number, number_bytes(len(parts)) + b"".join(map(part, parts)))
+
+
+@operation
+def pieces(message, first, step, _):
+    return [0], [blake3(message)]
+
+
+@operation
+def fed(message, times, last, _):
+    """The message so many times, then a last piece: the number that this gets, and the digest of what was taken."""
+    length = len(message) * times
+    number = no((13, length + len(last) <= 1 << 24))
+    if length > 1 << 20:
+        assert length == 1 << 24 and not any(message) and not last.strip(b"\0"), "no digest of this is at hand"
+        return [number], [bytes.fromhex(ZEROS_2_24)]
+    return [number], [blake3(message * times + (b"" if number else last))]
+
+
+# the digest of 2^24 zeros, by the Rust's BLAKE3 (oracle: `fed 00x65536 256 -`)
+ZEROS_2_24 = "b4834959bc889fed1abf3c45d5da0e384134386a4b2786cc5dbb9fe8fa853bbb"
+
+
+# ---- trees
+
+
+def is_power(x, most):
+    return 0 < x <= most and x & x - 1 == 0
+
+
+def shaped(count, width):
+    return (8, is_power(count, 1 << 24)), (9, is_power(width, 512)), (10, bool(width) and count % width == 0)
+
+
+def refused_digest(number):
+    return [number], [bytes(32)]
+
+
+@operation
+def leaf_digest(domain, count, width, place, values, _):
+    number = no((7, len(domain) <= 255), *shaped(count, width), (11, place < count), (5, halves(values) == 2 * width))
+    if number:
+        return refused_digest(number)
+    return [0], [blake3(leaf_message(domain, count, width, place // width, ints(values)))]
+
+
+@operation
+def leaf_message_(domain, count, width, group, values):
+    return [0, len(leaf_message(domain, count, width, group, ints(values)))], []
+
+
+OPERATIONS["leaf_message"] = OPERATIONS.pop("leaf_message_")
+
+
+@operation
+def node_digest(domain, level, left, right, _):
+    number = no((5, len(left) == 32), (5, len(right) == 32), (7, len(domain) <= 255))
+    return refused_digest(number) if number else ([0], [blake3(node_message(domain, level, left, right))])
+
+
+@operation
+def build(domain, count, width, values, out):
+    questions = [(7, len(domain) <= 255), *shaped(count, width)]
+    number = no(*questions) or no((5, halves(values) == 2 * count and out == 32 * (2 * (count // width) - 1)))
+    return done(number, *([b"".join(tree(domain, width, ints(values)))] if number == 0 else []))
+
+
+@operation
+def open_(count, width, place, digests, out):
+    number = no(*shaped(count, width), (11, place < count))
+    if number == 0:
+        groups = count // width
+        number = no((5, len(digests) == 32 * (2 * groups - 1) and out == 32 * (groups.bit_length() - 1)))
+    if number:
+        return [number], []
+    all_digests = [digests[i : i + 32] for i in range(0, len(digests), 32)]
+    return [0], [b"".join(path(all_digests, place // width))]
+
+
+OPERATIONS["open"] = OPERATIONS.pop("open_")
+
+
+@operation
+def root_of_path_(domain, count, width, place, values, siblings, _):
+    number = no((7, len(domain) <= 255), *shaped(count, width), (11, place < count))
+    if number == 0:
+        depth = (count // width).bit_length() - 1
+        number = no((12, len(siblings) == 32 * depth), (5, halves(values) == 2 * width))
+    if number:
+        return refused_digest(number)
+    return [0], [root_of_path(domain, count, width, place, ints(values), [siblings[i : i + 32] for i in range(0, len(siblings), 32)])]
+
+
+OPERATIONS["root_of_path"] = OPERATIONS.pop("root_of_path_")
+
+
+# ---- levels, committing and records
+
+
+@operation
+def fold_tree_width_(length):
+    return [fold_tree_width(length)], []
+
+
+OPERATIONS["fold_tree_width"] = OPERATIONS.pop("fold_tree_width_")
+
+
+@operation
+def level_domain_(base, level, out):
+    return [len(level_domain(base, level))], [level_domain(base, level)]
+
+
+OPERATIONS["level_domain"] = OPERATIONS.pop("level_domain_")
+
+
+@operation
+def commit(n, k, base, table, gammas, codeword, out):
+    number = no((4, in_range(n, k)))
+    if number == 0:
+        count, width, _ = records.shape(n, k, 0)
+        sized = halves(table) == 2 << n and gammas == 2 * n * k and codeword == 2 << n + k and out == 32 * (2 * (count // width) - 1)
+        number = no((5, sized), (7, len(base) <= 200))
+    if number:
+        return [number], []
+    made = derive(base, n, k)
+    words = encode(n, k, ints(table), made)
+    return [0], [packed(made), packed(words), b"".join(tree(level_domain(base, 0), width, words))]
+
+
+class Lent(Deposit):
+    """Levels and trees that are lent, end to end."""
+
+    def __init__(self, n, k, words, digests):
+        self.n, self.k, self.levels, self.trees = n, k, [], []
+        for l in range(n + 1):
+            count, width, _ = records.shape(n, k, l)
+            size = 32 * (2 * (count // width) - 1)
+            self.levels.append(ints(words[: 16 * count]))
+            self.trees.append([digests[i : i + 32] for i in range(0, size, 32)])
+            words, digests = words[16 * count :], digests[size:]
+
+
+@operation
+def build_query(n, k, position, words, digests, out):
+    number, _ = first_no(records.build_query(n, k, position, len(words), len(digests), out))
+    return done(number, *([query_bytes(query(Lent(n, k, words, digests), position))] if number == 0 else []))
+
+
+@operation
+def build_tail(n, k, words, digests, out):
+    number, _ = first_no(records.build_tail(n, k, len(words), len(digests), out))
+    if number:
+        return [number], []
+    count, width, _ = records.shape(n, k, n)
+    lent = [digests[i : i + 32] for i in range(0, len(digests), 32)]
+    values = ints(words)
+    groups = [records.Group(values[width * g : width * (g + 1)], path(lent, g)) for g in range(count // width)]
+    return [0], [tail_bytes(groups)]
+
+
+@operation
+def check_query(base, n, k, position, challenges, roots, record):
+    return first_no(records.check_query(base, n, k, position, challenges, roots, record)), []
+
+
+@operation
+def check_tail(base, n, k, root, claim, record):
+    return [first_no(records.check_tail(base, n, k, claim, root, record))[0]], []
+
+
+def tally(numbers):
+    """How many are refused, of how many; then each number but 0 with how often it is the answer."""
+    seen = collections.Counter(numbers)
+    times = [x for number in sorted(seen) if number for x in (number, seen[number])]
+    return [len(numbers) - seen[0], len(numbers), *times], []
+
+
+def damaged(step, record):
+    """Every byte of a record changed by 1, and from there on in steps of this size."""
+    for i, x in enumerate(record):
+        for mask in range(1, 256, step):
+            yield record[:i] + bytes([x ^ mask]) + record[i + 1 :]
+
+
+def prefixes(record):
+    return (record[:i] for i in range(len(record)))
+
+
+@operation
+def damaged_query(step, *given):
+    *given, record = given
+    return tally([check_query(*given, wrong)[0][0] for wrong in damaged(step, record)])
+
+
+@operation
+def prefixes_query(*given):
+    *given, record = given
+    return tally([check_query(*given, wrong)[0][0] for wrong in prefixes(record)])
+
+
+@operation
+def damaged_tail(step, *given):
+    *given, record = given
+    return tally([check_tail(*given, wrong)[0][0] for wrong in damaged(step, record)])
+
+
+@operation
+def prefixes_tail(*given):
+    *given, record = given
+    return tally([check_tail(*given, wrong)[0][0] for wrong in prefixes(record)])
+
+
+@operation
+def compare(base, n, k, position, challenges, roots, first, second, room, other):
+    def questions():
+        yield 4, 0, 1 <= n <= 20 and k <= 4
+        yield 5, 0, len(challenges) == 16 * n
+        yield 5, 0, len(roots) == 32 * (n + 1)
+        yield 5, 0, room == 512
+        yield 5, 0, other == 512
+        yield 7, 0, len(base) <= 200
+        yield 11, 0, position < 1 << (n + k)
+        for record in (first, second):
+            yield 32, 0, first_no(records.check_query(base, n, k, position, challenges, roots, record)) == (0, 0)
+        yield 33, 0, first != second
+
+    number, _ = first_no(questions())
+    assert number, "two different records are accepted"
+    return [number, 0, 0], []
+
+
+@operation
+def walk(leaf, node, depth, first, second, room, other):
+    """The last place at which two chains differ, whose messages have these lengths."""
+    ends = [leaf + node * i for i in range(depth + 1)]
+    pairs = [(first[start:end], second[start:end]) for start, end in zip([0] + ends, ends)]
+    differing = [(x, y) for x, y in pairs if x != y]
+    if not differing:
+        return [0, 0, 0], []
+    x, y = differing[-1]
+    return [0, len(x), len(y)], [x.ljust(512, b"\0"), y.ljust(512, b"\0")]
+
+
+# ---- tail-list, and the whole run
+
+
+def last_level(n, k, table, gammas, challenges):
+    """By folds and by P(r + L(eps)), which must agree."""
+    level = encode(n, k, table, gammas)
+    for r in challenges:
+        level = fold_at(level, 0, r)
+    for eps in range(1 << k):
+        d = shift(n, k, gammas, eps)
+        assert level[eps] == extension(table, [r ^ c for r, c in zip(challenges, d)])
+    return level
+
+
+@operation
+def tails(data, out):
+    def refused(number):
+        return [number, 0, 0], [bytes(256)]
+
+    if len(data) < 2:
+        return refused(5)
+    n, k = data[0], data[1]
+    if n > 20 or k > 4 or n + k > 8:
+        return refused(4)
+    if len(data) != 2 + 16 * ((1 << n) + k * n + n):
+        return refused(5)
+    words = ints(data[2:])
+    table, gammas, challenges = words[: 1 << n], words[1 << n : (1 << n) + k * n], words[(1 << n) + k * n :]
+    return [0, n, k], [packed(last_level(n, k, table, gammas, challenges)).ljust(256, b"\0")]
+
+
+class Run(Deposit):
+    """The table 5, 9, 3, 7 committed with k 1 under the domain `deposit`, and a list of fold calls."""
+
+    def __init__(self, calls):
+        self.n, self.k, self.base, self.challenges = 2, 1, b"deposit", []
+        self.levels = [encode(2, 1, [5, 9, 3, 7], derive(self.base, 2, 1))]
+        for var, r in calls:
+            if var < 2 - len(self.challenges):
+                self.levels.append(fold_at(self.levels[-1], var, r))
+                self.challenges.append(r)
+        self.trees = [tree(level_domain(self.base, l), fold_tree_width(len(v)), v) for l, v in enumerate(self.levels)]
+        self.roots = [digests[-1] for digests in self.trees]
+
+
+@operation
+def run(variables, challenges, position, claim, out):
+    made = Run(zip(variables, ints(challenges)))
+    kept, roots = packed(made.challenges), b"".join(made.roots)
+    number, level = first_no(records.check_query(made.base, 2, 1, position, kept, roots, query_bytes(query(made, position))))
+    tail, _ = first_no(records.check_tail(made.base, 2, 1, claim, made.roots[2], tail_bytes(made.tail())))
+    return [len(made.challenges), number, level, tail], [roots]
+
+
+@operation
+def profile(which, out):
+    """docs/SPECIFICATION.md's default; the four profiles are the Rust's to say."""
+    assert which == 0
+    return [1, 40, 20], [b"magnetar/pcs/default".ljust(out, b"\0")]

@@ -1,0 +1,457 @@
+"""Lines for test_record: levels, committing, records built, checked and compared, `tail-list` and the whole run. Deposits and records are those of
+records.py. Of each case on records its number is also known by the way it is made, and the model must agree."""
+import copy
+import dataclasses
+import itertools
+import typing
+
+import answers
+import damages
+import records
+from cases_field import text
+from damages import Damage, change, of_lengths, of_numbers, other_byte
+from lines import Store, hex_words
+from model import leaf_message, node_message, some_words, word_bytes
+from records import Deposit, OpenedDeposit, Reader, first_no, query, query_bytes, tail_bytes, words_bytes
+
+# ---- what an entry is given
+
+
+@dataclasses.dataclass
+class CheckQuery:
+    base: bytes
+    n: int
+    k: int
+    position: int
+    challenges: bytes
+    roots: bytes
+    items: list
+    edit: typing.Callable = bytes
+
+    kind, name = "query", "check_query"
+
+    def record(self):
+        return self.edit(query_bytes(self.items))
+
+    def line(self, store):
+        given = store.named(self.base), self.n, self.k, self.position, store.words(self.challenges), store.named(self.roots), store.named(self.record())
+        return " ".join(map(str, given))
+
+    def answer(self):
+        return first_no(records.check_query(self.base, self.n, self.k, self.position, self.challenges, self.roots, self.record()))
+
+
+@dataclasses.dataclass
+class CheckTail:
+    base: bytes
+    n: int
+    k: int
+    claim: bytes
+    root: bytes
+    items: list
+    edit: typing.Callable = bytes
+
+    kind, name = "tail", "check_tail"
+
+    def record(self):
+        return self.edit(tail_bytes(self.items))
+
+    def line(self, store):
+        given = store.named(self.base), self.n, self.k, store.named(self.root), store.words(self.claim), store.named(self.record())
+        return " ".join(map(str, given))
+
+    def answer(self):
+        return first_no(records.check_tail(self.base, self.n, self.k, self.claim, self.root, self.record()))
+
+
+@dataclasses.dataclass
+class Build:
+    """The words and trees that are lent, and how long the record's buffer is."""
+
+    kind: str
+    n: int
+    k: int
+    position: int
+    words: bytes
+    trees: bytes
+    out: bytes
+
+    @property
+    def name(self):
+        return "build_" + self.kind
+
+    def line(self, store):
+        numbers = [self.n, self.k] + ([self.position] if self.kind == "query" else [])
+        return " ".join(map(str, [*numbers, store.words(self.words), store.named(self.trees), len(self.out)]))
+
+    def answer(self):
+        lengths = len(self.words), len(self.trees), len(self.out)
+        if self.kind == "query":
+            return first_no(records.build_query(self.n, self.k, self.position, *lengths))
+        return first_no(records.build_tail(self.n, self.k, *lengths))
+
+
+@dataclasses.dataclass
+class Compare:
+    base: bytes
+    n: int
+    k: int
+    position: int
+    challenges: bytes
+    roots: bytes
+    first: bytes
+    second: bytes
+    first_message: bytes = bytes(512)
+    second_message: bytes = bytes(512)
+
+    kind, name = "query", "compare"
+
+    def line(self, store):
+        numbers = [store.named(self.base), self.n, self.k, self.position, store.words(self.challenges), store.named(self.roots)]
+        rest = [store.named(self.first), store.named(self.second), len(self.first_message), len(self.second_message)]
+        return " ".join(map(str, numbers + rest))
+
+    def answer(self):
+        given = self.base, self.n, self.k, self.position, self.challenges, self.roots, self.first, self.second
+        return answers.compare(*given, len(self.first_message), len(self.second_message))[0][0], 0
+
+
+def check_query(deposit, position):
+    roots = b"".join(deposit.roots)
+    return CheckQuery(deposit.base, deposit.n, deposit.k, position, words_bytes(deposit.challenges), roots, query(deposit, position))
+
+
+def check_tail(deposit):
+    claim = word_bytes(deposit.levels[-1][0])
+    return CheckTail(deposit.base, deposit.n, deposit.k, claim, deposit.roots[-1], deposit.tail())
+
+
+def build_query(deposit, position):
+    size = len(query_bytes(query(deposit, position)))
+    words, trees = b"".join(map(words_bytes, deposit.levels)), b"".join(map(b"".join, deposit.trees))
+    return Build("query", deposit.n, deposit.k, position, words, trees, bytes(size))
+
+
+def build_tail(deposit):
+    size = len(tail_bytes(deposit.tail()))
+    return Build("tail", deposit.n, deposit.k, 0, words_bytes(deposit.levels[-1]), b"".join(deposit.trees[-1]), bytes(size))
+
+
+def compare(deposit, position):
+    """A deposit's query record with itself."""
+    record = query_bytes(query(deposit, position))
+    return Compare(deposit.base, deposit.n, deposit.k, position, words_bytes(deposit.challenges), b"".join(deposit.roots), record, record)
+
+
+# ---- cases: a remark, an operation, and what it is given
+
+
+def right(remark, given, number=0, level=0):
+    """A case whose answer is this number and level."""
+    got = given.answer()
+    assert got == (number, level), "%s: the model answers %d at level %d" % (remark, *got)
+    return remark, given.name, given
+
+
+def damaged(given, *done):
+    wrong = copy.deepcopy(given)
+    for damage in done:
+        damage.do(wrong)
+    return wrong
+
+
+def alone(title, given, ways):
+    for x in ways:
+        yield right("%s, %s" % (title, x.name), damaged(given, x), x.number, x.level)
+
+
+def alone_and_in_pairs(title, given, ways):
+    """Of two questions that are answered with no, the first gives the number."""
+    for x, y in itertools.combinations_with_replacement(ways, 2):
+        if x is y:
+            yield from alone(title, given, [x])
+        else:
+            yield right("%s, %s and %s" % (title, x.name, y.name), damaged(given, x, y), x.number, x.level)
+
+
+NOT_TEXT = bytes(range(256 - 81, 256))
+
+
+def accepted():
+    for n, k, base, positions in [
+        (1, 0, b"", [0, 1]),
+        (1, 1, b"a", [0, 3]),
+        (1, 3, b"a", [10]),
+        (1, 4, b"deposit", [0, 17, 31]),
+        (2, 1, b"a" * 200, [0, 3, 7]),
+        (2, 2, NOT_TEXT, [0, 9, 15]),
+        (3, 0, b"deposit", [0, 5, 7]),
+        (3, 2, b"a", [21]),
+        (5, 2, b"", [0, 77, 127]),
+    ]:
+        deposit = Deposit(n, k, base)
+        title = "n %d k %d, a domain of %d bytes" % (n, k, len(base))
+        for position in positions:
+            yield right(title, check_query(deposit, position))
+            yield right(title, build_query(deposit, position))
+        yield right(title, check_tail(deposit))
+        yield right(title, build_tail(deposit))
+    for n, k, base, position in [(20, 4, b"deposit", (1 << 24) - 1), (12, 3, b"a" * 200, 12345)]:
+        yield right("n %d k %d" % (n, k), check_query(OpenedDeposit(n, k, base, position), position))
+
+
+def query_cases():
+    given, levels = check_query(Deposit(3, 2, b"a"), 21), range(3)
+    yield from alone_and_in_pairs("query", given, damages.heads_of_query(3, 2) + [x for l in levels for x in damages.of_level(l)])
+    for ways in [
+        *(damages.of_level_otherwise(given, l) for l in levels),
+        damages.of_roots(given),
+        damages.of_numbers(given),
+        damages.of_lengths([("challenges", 16), ("roots", 32)]),
+        damages.of_record_ends(given),
+        damages.of_counts(given, Reader.level),
+    ]:
+        yield from alone("query", given, ways)
+    # both positions of the pair are right; another pair of its group is not, and another group is not
+    for position, number in [(20, 0), (22, 19), (17, 19), (5, 18), (29, 18)]:
+        yield right("query, position %d for 21" % position, dataclasses.replace(given, position=position), number)
+    smallest, small = check_query(Deposit(1, 1, b"a"), 3), check_query(Deposit(2, 2, NOT_TEXT), 9)
+    yield "every other value of every byte", "damaged_query 1", smallest
+    yield "every byte changed by 1, 128 and 255", "damaged_query 127", small
+    yield "every proper prefix", "prefixes_query", small
+
+
+def tail_cases():
+    given, groups = check_tail(Deposit(1, 3, b"a")), (0, 2, 3)
+    yield from alone_and_in_pairs("tail", given, damages.heads_of_tail() + [x for g in groups for x in damages.of_group(g)] + damages.of_claim())
+    for ways in [
+        damages.of_tail_otherwise(groups),
+        damages.of_numbers(given),
+        damages.of_lengths([("root", 32)]),
+        damages.of_record_ends(given),
+        damages.of_counts(given, Reader.group),
+    ]:
+        yield from alone("tail", given, ways)
+    yield "every other value of every byte", "damaged_tail 1", check_tail(Deposit(1, 1, b"a"))
+    yield "every byte changed by 1, 128 and 255", "damaged_tail 127", given
+    yield "every proper prefix", "prefixes_tail", given
+
+
+def build_cases():
+    given_query, given_tail = build_query(Deposit(2, 2, NOT_TEXT), 9), build_tail(Deposit(1, 3, b"a"))
+    for title, given in [("build query", given_query), ("build tail", given_tail)]:
+        yield from alone_and_in_pairs(title, given, damages.heads_of_build(given.kind, given.n, given.k))
+        yield from alone(title, given, damages.of_numbers(given))
+        yield from alone(title, given, damages.of_lengths([("words", 16), ("trees", 32), ("out", 1)]))
+
+
+# ---- comparing
+
+
+def heads_of_compare(n, k):
+    return [
+        Damage("4", 4, 0, change("k", lambda k: 5)),
+        Damage("5 challenges", 5, 0, change("challenges", lambda c: c[:-8])),
+        Damage("5 roots", 5, 0, change("roots", lambda r: r + b"\0")),
+        Damage("5 first buffer", 5, 0, change("first_message", lambda m: m[:-1])),
+        Damage("5 second buffer", 5, 0, change("second_message", lambda m: m + b"\0")),
+        Damage("7", 7, 0, change("base", lambda b: b"a" * 201)),
+        Damage("11", 11, 0, change("position", lambda p: p + (1 << (n + k)))),
+        Damage("32 first", 32, 0, change("first", other_byte(4))),
+        Damage("32 second", 32, 0, change("second", other_byte(5))),
+    ]
+
+
+def of_records(given):
+    """Records that are refused, by 14, 15 and each way through the levels."""
+    for name, f in [
+        ("no bytes", lambda record: b""),
+        ("a byte less", lambda record: record[:-1]),
+        ("a byte more", lambda record: record + b"\0"),
+        ("a level less", lambda record: query_bytes(records.read(record, records.Reader.level)[:-1])),
+        ("first byte of a level", other_byte(4)),
+        ("last byte", other_byte(len(given.first) - 1)),
+    ]:
+        for side in ("first", "second"):
+            yield Damage("%s %s" % (side, name), 32, 0, change(side, f))
+        yield Damage("both %s" % name, 32, 0, lambda given, f=f: (change("first", f)(given), change("second", f)(given)))
+
+
+def compared():
+    for n, k, base, positions in [(1, 0, b"", [0, 1]), (1, 4, b"deposit", [17]), (2, 1, b"a" * 200, [0, 7]), (3, 2, NOT_TEXT, [21]), (5, 2, b"", [77])]:
+        deposit = Deposit(n, k, base)
+        for position in positions:
+            yield right("a record with itself, n %d k %d" % (n, k), compare(deposit, position), 33)
+    yield right("n 12 k 3", compare(OpenedDeposit(12, 3, b"a" * 200, 12345), 12345), 33)
+    given = compare(Deposit(3, 2, b"a"), 21)
+    yield from alone_and_in_pairs("compare", given, heads_of_compare(3, 2))
+    lengths = [("challenges", 16), ("roots", 32), ("first_message", 1), ("second_message", 1)]
+    for ways in [of_numbers(given), of_lengths(lengths), of_records(given)]:
+        yield from alone("compare", given, ways)
+
+
+# ---- chains of messages under a stand-in digest: two accepted records that differ would be a collision of BLAKE3
+
+
+def stand_in(message):
+    """A digest with four values: the sum of the message's bytes, modulo 4."""
+    return bytes([sum(message) % 4]) * 32
+
+
+def chain(domain, count, width, place, values, siblings):
+    """The messages from the group of a place to the root, under the stand-in digest."""
+    group, messages = place // width, []
+    messages.append(leaf_message(domain, count, width, group, values))
+    for height, sibling in enumerate(siblings):
+        digest = stand_in(messages[-1])
+        pair = (digest, sibling) if group % 2 == 0 else (sibling, digest)
+        messages.append(node_message(domain, height, *pair))
+        group //= 2
+    return messages
+
+
+def tries(width, depth):
+    """Openings of one place: another byte of a value, and of each sibling, or none."""
+    values, digits = some_words("stand-in", width), some_words("siblings", 2 * depth)
+    siblings = [words_bytes(digits[2 * i : 2 * i + 2]) for i in range(depth)]
+    for flips in itertools.product(range(5), repeat=depth + 1):
+        others = [bytes([sibling[0] ^ flip]) + sibling[1:] for flip, sibling in zip(flips[1:], siblings)]
+        yield [values[0] ^ flips[0]] + values[1:], others
+
+
+def walks(store):
+    """For each set of places at which two chains with one root can differ, two such chains."""
+    for domain, count, width, place, depth in [(b"", 1, 1, 0, 0), (b"a", 8, 1, 5, 3), (b"d" * 209, 64, 8, 37, 3)]:
+        openings = [chain(domain, count, width, place, *opening) for opening in tries(width, depth)]
+        first, seen = openings[0], set()
+        for second in openings:
+            places = tuple(i for i in range(depth + 1) if first[i] != second[i])
+            if places in seen or stand_in(first[-1]) != stand_in(second[-1]):
+                continue
+            if places:
+                assert stand_in(first[places[-1]]) == stand_in(second[places[-1]])
+            seen.add(places)
+            sizes = len(first[0]), len(first[-1]) if depth else 1, depth
+            yield "# chains that differ at %s of %d" % (", ".join(map(str, places)) or "no place", depth + 1)
+            lent = store.named(b"".join(first)), store.named(b"".join(second))
+            yield from kept(store)
+            yield "walk %d %d %d %s %s 512 512" % (*sizes, *lent)
+        assert len(seen) == 2 ** (depth + 1), sorted(seen)
+
+
+# ---- tail-list, the whole run, levels, differences
+
+
+def tail_list():
+    def packed(n, k, words):
+        return bytes([n, k]) + words_bytes(words)
+
+    # every size
+    for k in range(5):
+        for n in range(9 - k):
+            yield packed(n, k, some_words("size %d %d" % (n, k), (1 << n) + k * n + n))
+    # the gammas, or the challenges, zero or one
+    for gamma, challenge in [(0, 3), (1, 3), (7, 0), (7, 1)]:
+        yield packed(2, 2, some_words("special", 4) + [gamma] * 4 + [challenge] * 2)
+    # 0 and 1 byte
+    yield from [b"", b"\x00", b"\x15", b"\xff"]
+    # sizes out of range, alone and with a long input
+    for n, k in [(21, 0), (255, 255), (20, 0), (9, 0), (8, 1), (5, 4), (4, 5), (0, 5)]:
+        yield bytes([n, k])
+    yield from [b"\x15\x00" + bytes(4225), b"\x08\x01" + bytes(5000)]
+    # too short and too long, by a byte and by a word
+    for n, k in [(0, 0), (1, 1), (0, 4), (4, 4), (8, 0)]:
+        whole = packed(n, k, some_words("cut", (1 << n) + k * n + n))
+        yield from [whole[:-1], whole[:-16], whole[:2], whole + b"\x00", whole + bytes(16), whole + bytes(2000)]
+
+
+def example():
+    """The specification's example of `tail-list`: what export_tail_list reads, and the lines that it prints."""
+    data = bytes([1, 1]) + words_bytes([5, 9, 7, 2])
+    numbers, (entries,) = answers.tails(data, 32)
+    tails = ["tail %d %032x\n" % (eps, word) for eps, word in enumerate(answers.ints(entries)[:2])]
+    return {"stdin": data, "stdout": "".join(["n %d k %d\n" % tuple(numbers[1:]), *tails]).encode()}
+
+
+def tail_lines(store):
+    # docs/SPECIFICATION.md's example
+    yield "tails 0101,@0+64 32"
+    for data in tail_list():
+        line = "tails %s 32" % store.named(data)
+        yield from kept(store)
+        yield line
+
+
+def run_lines():
+    from model import extension
+
+    table = [5, 9, 3, 7]
+    for remark, variables, challenges, position, claim in [
+        ("folds at variable 0", "0,0", [2, 4], 5, extension(table, [2, 4])),
+        ("refused calls among them", "2,0,1,0,0", [1, 2, 3, 4, 5], 0, extension(table, [2, 4])),
+        ("another claim", "0,0", [2, 4], 7, extension(table, [2, 4]) ^ 1),
+        ("a fold at variable 1", "1,0", [2, 4], 3, extension(table, [4, 2])),
+    ]:
+        yield "# " + remark
+        yield "run %s %s %d %x 96" % (variables, hex_words(challenges), position, claim)
+
+
+def level_lines():
+    yield from ("fold_tree_width %d" % length for length in (1, 2, 8, 16))
+    yield from ("level_domain 61 %d %d" % (level, 8 + len(str(level))) for level in (0, 9, 10, 20))
+    yield "profile 0 24"
+
+
+def commit_lines():
+    """4, 5 and 7, alone and in pairs."""
+    right_sizes = [1, 1, "61", "5,9", 2, 8, 96]
+    wrong = [(0, 21), (1, 5), (3, "5"), (4, 3), (5, 7), (6, 95), (2, "61x201")]
+    yield "commit 1 1 61 5,9 2 8 96"
+    yield from ["commit 2 1 61x200 5,9,3,7 4 16 224", "commit 0 0 - 5 0 2 32"]
+    for (i, x), (j, y) in itertools.combinations_with_replacement(wrong, 2):
+        given = list(right_sizes)
+        given[i], given[j] = x, y
+        yield "commit " + " ".join(map(str, given))
+
+
+def difference_lines():
+    yield from ["# 6: base domains of 81 and 200 bytes", "commit 2 0 64x81 0x4 0 8 32", "commit 2 0 64x200 0x4 0 8 32"]
+    yield from ["# 8: n = 0", "build_query 0 0 0 5 00x32 4", "check_query - 0 0 0 - 00x32 00x4"]
+    yield from ["build_tail 0 0 5 00x32 28", "check_tail - 0 0 00x32 5 00x4", "# 9", "profile 0 24"]
+
+
+# ---- files
+
+
+def kept(store):
+    new, store.new = store.new, []
+    return new
+
+
+def case_lines(cases):
+    store = Store()
+    for remark, name, given in cases:
+        operation, *numbers = name.split()
+        line = " ".join([operation, *numbers, given.line(store)])
+        yield from kept(store)
+        yield "# " + remark
+        yield line
+
+
+def files():
+    store = Store()
+    store.data = words_bytes([5, 9, 7, 2])
+    first = "= " + store.data.hex()
+    compare_store = Store()
+    return [
+        ("levels.txt", text([*level_lines(), *commit_lines()])),
+        ("accepted.txt", text(case_lines(accepted()))),
+        ("query.txt", text(case_lines(query_cases()))),
+        ("tail.txt", text(case_lines(tail_cases()))),
+        ("build.txt", text(case_lines(build_cases()))),
+        ("compare.txt", text(case_lines(compared()))),
+        ("walks.txt", text(walks(compare_store))),
+        ("tail_list.txt", text([first, *tail_lines(store)])),
+        ("run.txt", text(run_lines())),
+        ("differences.txt", text(difference_lines())),
+    ]

@@ -1,0 +1,128 @@
+"""Lines for test_tree: the hash and trees."""
+import itertools
+import pathlib
+
+from cases_field import text
+from model import blake3
+
+# How many bytes an update takes, in `pieces`.
+SIZES = 8
+
+PUBLISHED = pathlib.Path(__file__).resolve().parent / "b3sum.txt"
+
+
+def vectors():
+    """The published vectors' lengths, in one call, and fed to a hasher by each size and by all sizes in turn."""
+    lengths = []
+    for line in PUBLISHED.read_text().splitlines():
+        digest, length = line.split()
+        assert blake3(bytes(i % 251 for i in range(int(length)))).hex() == digest, "b3sum differs on %s bytes" % length
+        lengths.append(int(length))
+    for length in lengths:
+        yield "blake3 %%%d" % length
+    for length in lengths:
+        yield from ("pieces %%%d %d 0" % (length, first) for first in range(SIZES))
+        yield "pieces %%%d 0 1" % length
+
+
+def parts():
+    for lengths in ["-", "0", "3", "0,0", "1,2,3", "3,2,1,0"]:
+        total = sum(int(x) for x in lengths.split(",") if x != "-")
+        count = 0 if lengths == "-" else lengths.count(",") + 1
+        yield "serialize_parts %%%d %s %d" % (total, lengths, 8 + 8 * count + total)
+    yield from ["serialize_parts %3 1,1 27", "serialize_parts %3 2,2 27", "serialize_parts %3 1,2 26", "serialize_parts %3 1,2 28", "serialize_parts %0 - 7"]
+    yield "serialize_parts %%3 %d,4 27" % ((1 << 64) - 1)
+
+
+DOMAINS = {0: "-", 1: "61", 88: "@0+88", 89: "@0+89", 255: "@0+255"}
+SHAPES = [(1, 1), (2, 1), (2, 2), (16, 1), (16, 2), (16, 8)]
+LARGE = [(1024, 1), (1024, 2), (1024, 8), (1024, 32), (1024, 512)]
+
+
+def letters(count):
+    return bytes(97 + i % 26 for i in range(count))
+
+
+def pairs(entry, right, wrong):
+    """An entry's questions answered with no, one alone and two at a time: which arguments, by question."""
+    for i, j in itertools.combinations_with_replacement(range(len(wrong)), 2):
+        given = list(right)
+        # of two values for one argument that of the earlier question stays, and answers both with no
+        for question in (j, i):
+            for place, value in wrong[question]:
+                given[place] = value
+        yield "%s %s" % (entry, " ".join(map(str, given)))
+
+
+def refusals():
+    """Each entry's questions, in the order of SPECIFICATION 8.4."""
+    long = (0, "61x256")
+    shape = [[(1, 3)], [(2, 3)], [(2, 32)]]
+    yield from pairs("leaf_digest", ["61", 16, 8, 5, "~w1x8"], [[long], *shape, [(3, 1000)], [(4, "~w1x3,h7")]])
+    yield from pairs("node_digest", ["61", 0, "%32", "%32"], [[long], [(2, "%31")], [(3, "%33")]])
+    yield from pairs("build", ["61", 16, 8, "~w1x16", 96], [[long], *shape, [(3, "~w1x15,h7")], [(4, 95)]])
+    shape = [[(0, 3)], [(1, 3)], [(1, 32)]]
+    yield from pairs("open", [16, 8, 5, "%96", 32], [*shape, [(2, 1000)], [(3, "%97")], [(4, 64)]])
+    shape = [[(1, 3)], [(2, 3)], [(2, 32)]]
+    yield from pairs("root_of_path", ["61", 16, 8, 5, "~w1x8", "%32"], [[long], *shape, [(3, 1000)], [(5, "-")], [(4, "~w1x3,h7")]])
+    yield "# a path that is no whole number of digests, counts and widths at their largest and past it"
+    yield "root_of_path 61 16 8 0 ~w1x8 %33"
+    yield from ["leaf_digest 61 %d 1 0 1" % count for count in (0, 1 << 24, 1 << 25, (1 << 32) + 1)]
+    yield from ["leaf_digest 61 1024 %d 0 ~w1x%d" % (width, width) for width in (0, 512, 1024)]
+    yield from ["leaf_digest 61x255 1 1 0 1", "node_digest 61x255 0 %32 %32", "node_digest 61 24 %32 %32"]
+    yield "# the length of a leaf's message: width 8, a domain of 1 byte"
+    yield "leaf_message 64 16 8 0 1x8"
+
+
+def trees():
+    """Every shape under every domain; large trees under those whose trees the Rust does not build."""
+    yield "= " + letters(255).hex()
+    for d, domain in DOMAINS.items():
+        for count, width in SHAPES + (LARGE if d > 88 else []):
+            groups = count // width
+            yield "build %s %d %d ~w%dx%d %d" % (domain, count, width, count, count, 32 * (2 * groups - 1))
+
+
+def openings():
+    """Places of small trees that are built here: leaf digest, path, and the root of both."""
+    from answers import packed
+    from lines import Store, drawn_bytes
+    from model import path, tree
+
+    store, said = Store(), []
+    for d, (count, width) in itertools.product(DOMAINS, SHAPES):
+        domain = letters(d)
+        values = drawn_bytes("w", count, count)
+        words = [int.from_bytes(values[i : i + 16], "little") for i in range(0, len(values), 16)]
+        digests = tree(domain, width, words)
+        for place in sorted({0, 2 * count // 3, count - 1}):
+            group = place // width
+            lent, siblings = b"".join(digests), b"".join(path(digests, group))
+            part = store.words(packed(words[width * group : width * (group + 1)]))
+            said.append("leaf_digest %s %d %d %d %s" % (store.named(domain), count, width, place, part))
+            said.append("open %d %d %d %s %d" % (count, width, place, store.named(lent), len(siblings)))
+            said.append("root_of_path %s %d %d %d %s %s" % (store.named(domain), count, width, place, part, store.named(siblings)))
+        yield from store.new
+        yield from said
+        store.new, said = [], []
+
+
+def differences():
+    yield from ["# 6: domains past 88 bytes", "node_digest 64x89 0 00x32 00x32", "build 64x255 2 1 0,0 96", "root_of_path 64x89 2 1 0 0 00x32"]
+    yield from ["# 12", "leaf_digest - 1 1 0 3", "leaf_digest - 8 8 0 3x8", "# 17", "leaf_digest - 2 2 0 0"]
+    yield from ["# 24", "build - 3 1 0x4 96", "build - 4 3 0x4 96", "build - 2 0 0x4 96", "build - 2 4 0x4 96", "build - 0 1 0x4 96", "leaf_digest - 1 0 0 -"]
+    yield from ["open 2 1 2 00x96 32", "# 25", "leaf_digest - 3 1 0 0", "leaf_digest - 1 1 1 0"]
+    yield from ["# 27", "leaf_digest 64x256 1 1 0 0", "leaf_digest - 33554432 1 0 0", "leaf_digest - 1024 1024 0 0x1024"]
+    yield from ["# 27: a byte after 2^24 bytes, and none", "fed 00x65536 256 00", "fed 00x65536 256 -"]
+
+
+def files():
+    source = "# Answers: Debian's b3sum 1.2.0, whose digests tools/b3sum.txt has; the model agrees (tools/answers.py).\n"
+    return [
+        ("vectors.txt", source + "".join(line + "\n" for line in vectors())),
+        ("parts.txt", text(parts())),
+        ("trees.txt", text(trees())),
+        ("openings.txt", text(openings())),
+        ("refusals.txt", text(refusals())),
+        ("differences.txt", text(differences())),
+    ]
