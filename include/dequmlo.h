@@ -1,4 +1,4 @@
-/* The deposit seal's library: libdequmlo.a, made by `rt staticlib dequmlo` from proved code (docs/LINKING.md).
+/* The deposit seal's library: libdequmlo.a, made by `library/archive` from proved code (docs/LINKING.md).
 
    Answers. A function answers 0 when the work is done and the number of the first question whose answer is no when it is refused
    (docs/REFUSALS.md lists them). A refused call changes no lent byte, and every other field of its answer is 0, but for the level of a
@@ -19,6 +19,12 @@
 
 #include <stddef.h>
 #include <stdint.h>
+
+/* The version of this header, which is that of the archive beside it. */
+#define DEQUMLO_VERSION_MAJOR 0
+#define DEQUMLO_VERSION_MINOR 2
+#define DEQUMLO_VERSION_PATCH 0
+#define DEQUMLO_VERSION "0.2.0"
 
 #ifdef __cplusplus
 extern "C" {

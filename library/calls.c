@@ -1,4 +1,4 @@
-/* Calls every function of include/dequmlo.h once with document 01's small values where it has some. Compiled as C and as C++. */
+/* Calls every function of include/dequmlo.h once with the small values of SPECIFICATION 12 where there are some. Compiled as C and as C++. */
 #include "fixture.h"
 
 static dequmlo_word word(uint64_t lo) {

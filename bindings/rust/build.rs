@@ -15,7 +15,7 @@ fn main() {
     println!("cargo:rerun-if-changed={}", archive.display());
     if !archive.exists() {
         eprintln!(
-            "there is no {}: make it by `rt staticlib dequmlo`",
+            "there is no {}: make it by `library/archive`",
             archive.display()
         );
         std::process::exit(1);

@@ -1,60 +1,49 @@
 //! The program `seal`: commits a file, opens places of it, and checks what a holder shows. The work is the proved library's; this program
-//! reads and writes files and says what was found. Exit status: 0 accepted or done, 1 refused, 2 wrong use.
+//! reads and writes files and says what was found. Exit status: 0 accepted or done, 1 refused, 2 could not run, 3 sound by the holder's own
+//! questions.
 
+mod check_lines;
 mod commands;
-mod drawn;
-mod files;
+mod console;
+mod folder;
+mod help;
 mod hex;
 mod json;
+mod lines;
 mod opening;
 mod options;
 mod outcome;
 mod progress;
+mod questions;
+mod reading;
 mod seal;
+mod shape;
+mod shown;
+mod statement;
+mod system;
 mod table;
+mod writing;
 
 use options::Options;
-use outcome::{Failure, Outcome};
+use outcome::{could_not_run, Failure, Outcome};
+use std::ffi::OsString;
 use std::process::ExitCode;
 
-const USAGE: &str = "\
-seal commit FILE [--profile NAME | --k K --domain TEXT] [--out FOLDER]
-    seal a file: its root and parameters go into FILE.seal
-seal open FILE --seal FOLDER (--challenges FILE | --seed TEXT) [--at P,P,.. | --positions FILE | --count N] [--out FOLDER]
-    build the records that a checker asked for, into FILE.opening
-seal check OPENING --seal FOLDER [--challenges FILE | --seed TEXT] [--at P,P,.. | --positions FILE] [--roots FILE] [--claim WORD]
-    check the records and the tail of an opening
-seal tail OPENING --seal FOLDER [--claim WORD]
-    check the tail record alone, and list the last level
-seal compare FIRST SECOND --opening OPENING --seal FOLDER --at P [--out FOLDER]
-    compare two accepted records of one position
-seal explain [NUMBER]
-    what the number of a refusal means, and what to ask the holder for
-seal demo
-    seal a sample deposit, open places, check them, damage a byte and show the refusal
-
---json prints one object for programs. --force lets a seal or an opening be replaced. Profiles: default, fastchunk, balanced, compactwrap,
-deepwrap; `seal commit` takes the default where none is named. Exit status: 0 accepted or done, 1 refused, 2 wrong use.";
-
 fn main() -> ExitCode {
-    let words: Vec<_> = std::env::args_os().skip(1).collect();
-    let (json, answer) = match Options::read(words) {
-        Ok(options) => (options.json, run(&options)),
-        Err(failure) => (false, Err(failure)),
+    system::end_at_a_closed_pipe();
+    console::report_faults();
+    let words: Vec<OsString> = std::env::args_os().skip(1).collect();
+    let status = match Options::read(&words).and_then(|options| run(&options)) {
+        Ok(outcome) => outcome.print(&words),
+        Err(failure) => could_not_run(&words, &failure),
     };
-    match answer {
-        Ok(outcome) => {
-            outcome.print(json);
-            ExitCode::from(if outcome.accepted { 0 } else { 1 })
-        }
-        Err(Failure(message)) => {
-            eprintln!("seal: {message}");
-            ExitCode::from(2)
-        }
-    }
+    ExitCode::from(status)
 }
 
 fn run(options: &Options) -> Result<Outcome, Failure> {
+    if options.has("--help") {
+        return help::run(options);
+    }
     match options.command.as_str() {
         "commit" => commands::commit::run(options),
         "open" => commands::open::run(options),
@@ -63,7 +52,8 @@ fn run(options: &Options) -> Result<Outcome, Failure> {
         "compare" => commands::compare::run(options),
         "explain" => commands::explain::run(options),
         "demo" => commands::demo::run(options),
-        "help" | "--help" => Ok(Outcome::done(vec![USAGE.into()], json::Json::Null)),
+        "help" | "-h" => help::run(options),
+        "version" | "--version" | "-V" => help::version(options),
         other => Err(Failure(format!(
             "there is no command `{other}`; `seal help` lists them"
         ))),

@@ -2,18 +2,25 @@
 //!
 //!     parameters.txt     as in the seal
 //!     challenges.txt     n words, one to a line, 32 hexadecimal digits, highest first
-//!     roots.txt          the roots of levels 0 to n, one to a line
-//!     claim.txt          the terminal claim: the value that the table takes at the challenges
-//!     query-P.record     the query record at position P, in document 01's bytes
+//!     roots.txt          the roots of levels 0 to n, one to a line; the first is the root of the seal that it was made for
+//!     claim.txt          the terminal claim: the value of the table at the challenges
+//!     query-P.record     the query record at position P, in the bytes of SPECIFICATION 7.2
 //!     tail.record        the tail record
-//!     summary.txt        what this is, in sentences; never read by a program
+//!     summary.txt        what this is, in sentences; no check reads it
+//!     check.txt          the digest of each of these (check_lines.rs); openings of version 0.1.0 have none
 
-use crate::files::{read, Named, SUMMARY};
-use crate::outcome::Failure;
-use crate::seal::{list, one, Shape};
+use crate::check_lines::with_check_lines;
+use crate::folder::{Kind, Named, SUMMARY};
+use crate::lines;
+use crate::shape::{Shape, PARAMETERS};
 use dequmlo::{QueryRecord, Root, TailRecord, Word};
-use std::path::Path;
 
+pub const CHALLENGES: &str = "challenges.txt";
+pub const ROOTS: &str = "roots.txt";
+pub const CLAIM: &str = "claim.txt";
+pub const TAIL: &str = "tail.record";
+
+/// An opening as it is made. What is read of one that a holder sent is `shown.rs`.
 pub struct Opening {
     pub shape: Shape,
     pub challenges: Vec<Word>,
@@ -25,33 +32,26 @@ pub struct Opening {
 }
 
 impl Opening {
-    pub fn read(folder: &Path) -> Result<Opening, Failure> {
-        Ok(Opening {
-            shape: Shape::read(folder)?,
-            challenges: list(&folder.join("challenges.txt"))?,
-            roots: list(&folder.join("roots.txt"))?,
-            claim: one(folder, "claim.txt")?,
-            tail: read(&folder.join("tail.record"))?.into(),
-            queries: queries(folder)?,
-        })
-    }
-
     pub fn files(&self, file: &str, drawn: &str) -> Vec<Named> {
         let positions: Vec<String> = self.queries.iter().map(|(p, _)| p.to_string()).collect();
         let summary = format!(
-            "An opening of the sealed file {file}.\n\nRecords at {} positions: {}.\nThe challenges: {drawn}.\nRoot of level 0: {}\nTerminal \
-             claim: {}\n\n`seal check` checks it against a seal.\n",
+            "{} {file}.\n\nRecords at {} positions: {}.\nThe challenges: {drawn}.\nMade for the root: {}\nTerminal claim: {}\n\n\
+             `seal check` checks it against a seal.\n",
+            Kind::Opening.heading(),
             positions.len(),
             positions.join(", "),
             self.roots[0],
             self.claim
         );
-        let mut files = vec![
-            ("parameters.txt".into(), self.shape.text().into_bytes()),
-            ("challenges.txt".into(), lines(&self.challenges)),
-            ("roots.txt".into(), lines(&self.roots)),
-            ("claim.txt".into(), lines(&[self.claim])),
-            ("tail.record".into(), self.tail.bytes().to_vec()),
+        let mut files: Vec<Named> = vec![
+            (PARAMETERS.into(), self.shape.text().into_bytes()),
+            (
+                CHALLENGES.into(),
+                lines::text(&self.challenges).into_bytes(),
+            ),
+            (ROOTS.into(), lines::text(&self.roots).into_bytes()),
+            (CLAIM.into(), lines::text(&[self.claim]).into_bytes()),
+            (TAIL.into(), self.tail.bytes().to_vec()),
             (SUMMARY.into(), summary.into_bytes()),
         ];
         files.extend(
@@ -59,7 +59,7 @@ impl Opening {
                 .iter()
                 .map(|(p, record)| (record_name(*p), record.bytes().to_vec())),
         );
-        files
+        with_check_lines(files)
     }
 }
 
@@ -68,30 +68,45 @@ pub fn record_name(position: usize) -> String {
     format!("query-{position}.record")
 }
 
-/// The records of a folder, by the positions that their names say.
-fn queries(folder: &Path) -> Result<Vec<(usize, QueryRecord)>, Failure> {
-    let unreadable = |e| Failure(format!("cannot read {}: {e}", folder.display()));
-    let mut found = Vec::new();
-    for entry in std::fs::read_dir(folder).map_err(unreadable)? {
-        let name = entry.map_err(unreadable)?.file_name();
-        let position = name.to_str().and_then(|n| {
-            n.strip_prefix("query-")?
-                .strip_suffix(".record")?
-                .parse()
-                .ok()
-        });
-        if let Some(position) = position {
-            found.push((position, read(&folder.join(&name))?.into()));
-        }
-    }
-    found.sort_by_key(|(position, _)| *position);
-    Ok(found)
+/// The position whose record has this name, to the letter.
+pub fn record_position(name: &str) -> Option<usize> {
+    meant_position(name).filter(|position| record_name(*position) == name)
 }
 
-fn lines<T: std::fmt::Display>(items: &[T]) -> Vec<u8> {
-    items
-        .iter()
-        .map(|item| format!("{item}\n"))
-        .collect::<String>()
-        .into_bytes()
+/// The position that a name seems to mean, as query-003.record means 3.
+pub fn meant_position(name: &str) -> Option<usize> {
+    name.strip_prefix("query-")?
+        .strip_suffix(".record")?
+        .parse()
+        .ok()
+}
+
+#[cfg(test)]
+mod tests {
+    use super::{meant_position, record_position};
+
+    #[test]
+    fn only_the_exact_name_is_a_record_s() {
+        assert_eq!(record_position("query-3.record"), Some(3));
+        for name in ["query-003.record", "query-+3.record"] {
+            assert_eq!(
+                (record_position(name), meant_position(name)),
+                (None, Some(3)),
+                "{name}"
+            );
+        }
+        for name in [
+            "query-.record",
+            "query-3.records",
+            "Query-3.record",
+            "query--3.record",
+            "query-99999999999999999999.record",
+        ] {
+            assert_eq!(
+                (record_position(name), meant_position(name)),
+                (None, None),
+                "{name}"
+            );
+        }
+    }
 }

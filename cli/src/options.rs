@@ -9,10 +9,12 @@ use std::path::PathBuf;
 pub struct Options {
     pub command: String,
     pub operands: Vec<PathBuf>,
-    pub json: bool,
-    pub force: bool,
+    flags: Vec<String>,
     named: Vec<(String, OsString)>,
 }
+
+/// The options that take no value.
+const FLAGS: [&str; 4] = ["--json", "--force", "--own-questions", "--help"];
 
 /// The options that take a value.
 const NAMED: [&str; 13] = [
@@ -32,53 +34,72 @@ const NAMED: [&str; 13] = [
 ];
 
 impl Options {
-    pub fn read(words: Vec<OsString>) -> Result<Options, Failure> {
-        let mut words = words.into_iter();
-        let command = words.next().ok_or_else(|| Failure(crate::USAGE.into()))?;
-        let mut options = Options {
-            command: text(command)?,
-            ..Options::default()
-        };
+    /// The first word that is no flag is the command. After `--` every word is an operand.
+    pub fn read(words: &[OsString]) -> Result<Options, Failure> {
+        let mut options = Options::default();
+        let mut command = None;
+        let mut only_operands = false;
+        let mut words = words.iter();
         while let Some(word) = words.next() {
             match word.to_str() {
-                Some("--json") => options.json = true,
-                Some("--force") => options.force = true,
-                Some(name) if name.starts_with("--") => {
-                    if !NAMED.contains(&name) {
-                        return Err(Failure(format!(
-                            "there is no option {name}; `seal help` lists them"
-                        )));
-                    }
-                    if options.value(name).is_some() {
-                        return Err(Failure(format!("{name} is given twice")));
-                    }
-                    let value = words
-                        .next()
-                        .ok_or_else(|| Failure(format!("{name} needs a value")))?;
+                Some("--") if !only_operands => only_operands = true,
+                Some(flag) if !only_operands && FLAGS.contains(&flag) => {
+                    options.flags.push(flag.into())
+                }
+                Some(name) if !only_operands && command.is_some() && is_option(name) => {
+                    let value = options.new_value(name, words.next())?;
                     options.named.push((name.into(), value));
                 }
+                _ if command.is_none() => command = Some(text(word)?),
                 _ => options.operands.push(word.into()),
             }
         }
+        options.command = match command {
+            Some(command) => command,
+            None if options.has("--help") => "help".into(),
+            None => return Err(Failure(format!("name a command:\n{}", crate::help::USAGE))),
+        };
         Ok(options)
+    }
+
+    fn new_value(&self, name: &str, value: Option<&OsString>) -> Result<OsString, Failure> {
+        if !NAMED.contains(&name) {
+            return Err(Failure(format!(
+                "there is no option {name}; `seal help` lists them"
+            )));
+        }
+        if self.value(name).is_some() {
+            return Err(Failure(format!("{name} is given twice")));
+        }
+        match value {
+            Some(value) if !value.to_str().map_or(false, is_option) => Ok(value.clone()),
+            _ => Err(Failure(format!("{name} needs a value"))),
+        }
     }
 
     /// Fails where an option is given that the command does not take, or where the operands are not so many.
     pub fn expect(&self, operands: usize, what: &str, taken: &[&str]) -> Result<(), Failure> {
-        if let Some((name, _)) = self
-            .named
+        let given = self
+            .flags
             .iter()
-            .find(|(name, _)| !taken.contains(&name.as_str()))
-        {
-            return Err(Failure(format!(
-                "`seal {}` takes no {name}; `seal help` lists what it takes",
-                self.command
-            )));
+            .chain(self.named.iter().map(|(name, _)| name));
+        for name in given {
+            if !taken.contains(&name.as_str()) {
+                return Err(Failure(format!(
+                    "`seal {}` takes no {name}; `seal help` lists what it takes",
+                    self.command
+                )));
+            }
         }
         if self.operands.len() != operands {
             return Err(Failure(format!("`seal {}` needs {what}", self.command)));
         }
         Ok(())
+    }
+
+    /// Whether an option without a value is given.
+    pub fn has(&self, flag: &str) -> bool {
+        self.flags.iter().any(|given| given == flag)
     }
 
     fn value(&self, name: &str) -> Option<&OsString> {
@@ -98,21 +119,24 @@ impl Options {
     }
 
     pub fn text(&self, name: &str) -> Result<Option<String>, Failure> {
-        self.value(name).cloned().map(text).transpose()
+        self.value(name).map(text).transpose()
     }
 
     pub fn number(&self, name: &str) -> Result<Option<usize>, Failure> {
-        let Some(text) = self.text(name)? else {
-            return Ok(None);
+        let number = |text: String| {
+            text.parse()
+                .map_err(|_| Failure(format!("{name} needs a number, and `{text}` is none")))
         };
-        let number = text
-            .parse()
-            .map_err(|_| Failure(format!("{name} needs a number, and `{text}` is none")))?;
-        Ok(Some(number))
+        self.text(name)?.map(number).transpose()
     }
 }
 
-fn text(word: OsString) -> Result<String, Failure> {
-    word.into_string()
+fn is_option(word: &str) -> bool {
+    word.starts_with("--")
+}
+
+fn text(word: &OsString) -> Result<String, Failure> {
+    word.clone()
+        .into_string()
         .map_err(|word| Failure(format!("{} is not UTF-8", word.to_string_lossy())))
 }

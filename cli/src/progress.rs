@@ -1,6 +1,7 @@
 //! What a long command is doing, on a terminal only.
 
-use std::io::{IsTerminal, Write};
+use crate::console::complain;
+use crate::system::stderr_is_a_terminal;
 
 pub struct Progress {
     shown: bool,
@@ -10,14 +11,13 @@ impl Progress {
     /// Shown where standard error is a terminal.
     pub fn start() -> Progress {
         Progress {
-            shown: std::io::stderr().is_terminal(),
+            shown: stderr_is_a_terminal(),
         }
     }
 
     pub fn say(&self, what: &str) {
         if self.shown {
-            eprint!("\r\x1b[K{what}");
-            let _ = std::io::stderr().flush();
+            complain(&format!("\r\x1b[K{what}"));
         }
     }
 }

@@ -2,9 +2,9 @@
 //! length too is under the root. The table has 2^n words, n from 1 to 20.
 
 use crate::outcome::Failure;
-use dequmlo::Word;
-use std::fs::File;
-use std::io::Read;
+use crate::reading::named;
+use crate::shape::Shape;
+use dequmlo::{Sizes, Word};
 use std::path::Path;
 
 /// A file's length and its table.
@@ -15,10 +15,7 @@ pub struct Table {
 
 /// The table of a file; a sentence where the file is too large, of which then no more is read than shows that.
 pub fn read_table(path: &Path) -> Result<Result<Table, String>, Failure> {
-    let mut bytes = Vec::new();
-    File::open(path)
-        .and_then(|file| file.take(MOST_BYTES as u64 + 1).read_to_end(&mut bytes))
-        .map_err(|e| Failure(format!("cannot read {}: {e}", path.display())))?;
+    let bytes = named(path, MOST_BYTES)?;
     Ok(table_of(&bytes).map(|words| Table {
         bytes: bytes.len(),
         words,
@@ -35,7 +32,7 @@ fn table_of(bytes: &[u8]) -> Result<Vec<Word>, String> {
             "the file has more than {MOST_BYTES} bytes, the most that a deposit has (n = 20); divide it and seal each part"
         ));
     }
-    let count = (bytes.len().div_ceil(16) + 1).next_power_of_two().max(2);
+    let count = ((bytes.len() + 15) / 16 + 1).next_power_of_two().max(2);
     let mut table = vec![Word(0); count];
     for (word, chunk) in table.iter_mut().zip(bytes.chunks(16)) {
         let mut padded = [0; 16];
@@ -44,6 +41,24 @@ fn table_of(bytes: &[u8]) -> Result<Vec<Word>, String> {
     }
     table[count - 1] = Word(bytes.len() as u128);
     Ok(table)
+}
+
+/// Fails where there is no memory for all levels and trees of a deposit of this shape, and the table twice. (Memory that runs out later would
+/// end the program without a sentence.)
+pub fn room_for(shape: &Shape) -> Result<(), Failure> {
+    // The library refuses parameters that no deposit has; there is nothing to make room for.
+    let sizes = match Sizes::of(shape.n, shape.k) {
+        Ok(sizes) => sizes,
+        Err(_) => return Ok(()),
+    };
+    let bytes = 16 * (sizes.levels_words + 2 * sizes.table_words) + sizes.trees_bytes;
+    Vec::<u8>::new().try_reserve_exact(bytes).map_err(|_| {
+        Failure(format!(
+            "there is not enough memory: this file with k = {} takes {} MiB",
+            shape.k,
+            bytes >> 20
+        ))
+    })
 }
 
 #[cfg(test)]

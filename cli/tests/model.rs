@@ -24,8 +24,11 @@ fn files_are_sealed_and_opened_as_the_model_has_it() {
     let stored = concat!(env!("CARGO_MANIFEST_DIR"), "/tests/model.txt");
     for line in fs::read_to_string(stored).unwrap().lines() {
         let fields: Vec<&str> = line.split(' ').collect();
-        let [size, profile, root, claim, tail, records @ ..] = &fields[..] else {
-            panic!("{line}");
+        let (size, profile, root, claim, tail, records) = match &fields[..] {
+            [size, profile, root, claim, tail, records @ ..] => {
+                (size, profile, root, claim, tail, records)
+            }
+            _ => panic!("{line}"),
         };
         let folder = Path::new(env!("CARGO_TARGET_TMPDIR")).join(format!("model-{size}-{profile}"));
         let _ = fs::remove_dir_all(&folder);

@@ -8,6 +8,7 @@ use crate::root::Root;
 use crate::sizes::{level_words, tree_bytes, Sizes};
 use crate::tree::{build_into, fold_tree_width, level_domain, root_of};
 use crate::word::{halves, words, Word};
+use std::fmt;
 
 /// A committed table: its gammas, its codeword (level 0) and level 0's tree. The buffers have room for all levels, which [`Deposit::fold`]
 /// fills.
@@ -17,6 +18,13 @@ pub struct Deposit {
     gammas: Vec<u64>,
     levels: Vec<u64>,
     trees: Vec<u8>,
+}
+
+/// The shape and the root; the buffers are megabytes.
+impl fmt::Debug for Deposit {
+    fn fmt(&self, f: &mut fmt::Formatter) -> fmt::Result {
+        described(f, "Deposit", &self.sizes, &self.root())
+    }
 }
 
 impl Deposit {
@@ -64,21 +72,25 @@ impl Deposit {
     }
 
     /// What n and k fix.
+    #[must_use]
     pub fn sizes(&self) -> Sizes {
         self.sizes
     }
 
     /// Level 0's root: what the office keeps.
+    #[must_use]
     pub fn root(&self) -> Root {
         root_of(&self.trees)
     }
 
     /// The gammas (j, i), j outer.
+    #[must_use]
     pub fn gammas(&self) -> Vec<Word> {
         words(&self.gammas)
     }
 
     /// The codeword: 2^k blocks, of which the first is the table.
+    #[must_use]
     pub fn codeword(&self) -> Vec<Word> {
         words(&self.levels)
     }
@@ -154,18 +166,36 @@ pub struct Folded {
     roots: Vec<Root>,
 }
 
+/// The shape and the root; the buffers are megabytes.
+impl fmt::Debug for Folded {
+    fn fmt(&self, f: &mut fmt::Formatter) -> fmt::Result {
+        described(f, "Folded", &self.sizes, &self.roots[0])
+    }
+}
+
+fn described(f: &mut fmt::Formatter, name: &str, sizes: &Sizes, root: &Root) -> fmt::Result {
+    f.debug_struct(name)
+        .field("n", &sizes.n)
+        .field("k", &sizes.k)
+        .field("root", &format_args!("{root}"))
+        .finish_non_exhaustive()
+}
+
 impl Folded {
     /// The roots of levels 0 to n.
+    #[must_use]
     pub fn roots(&self) -> Vec<Root> {
         self.roots.clone()
     }
 
     /// The last level: 2^k words, of which the first is the terminal claim.
+    #[must_use]
     pub fn last_level(&self) -> Vec<Word> {
         words(self.last_halves())
     }
 
     /// The terminal claim: the table's multilinear extension at the challenges.
+    #[must_use]
     pub fn claim(&self) -> Word {
         self.last_level()[0]
     }

@@ -29,11 +29,11 @@
 //! let mut bytes = record.bytes().to_vec();
 //! bytes[60] ^= 1;
 //! let refusal = statement.check_query(5, &bytes.into()).unwrap_err();
-//! assert_eq!(refusal.to_string(), "18 at level 0: the group and path shown for a do not lead to this level's root");
+//! assert_eq!(refusal.to_string(), "18 at level 0: the group and the path of a do not lead to this level's root");
 //! # Ok::<(), dequmlo::Refusal>(())
 //! ```
 
-#![warn(missing_docs)]
+#![warn(missing_docs, missing_debug_implementations)]
 
 mod deposit;
 mod parameters;
@@ -50,7 +50,7 @@ pub use deposit::{Deposit, Folded};
 pub use parameters::Parameters;
 pub use record::{Collision, QueryRecord, Statement, TailRecord};
 pub use refusal::{Explanation, Refusal, EXPLANATIONS};
-pub use root::Root;
+pub use root::{ParseRootError, Root};
 pub use sizes::Sizes;
 pub use tree::digest;
-pub use word::Word;
+pub use word::{ParseWordError, Word};

@@ -32,6 +32,7 @@ impl Parameters {
     ];
 
     /// The parameters of a profile by its name.
+    #[must_use]
     pub fn named(name: &str) -> Option<Parameters> {
         match name {
             "default" => Some(Parameters::default()),
@@ -44,21 +45,25 @@ impl Parameters {
     }
 
     /// k 1, 40 queries.
+    #[must_use]
     pub fn fastchunk() -> Parameters {
         of(unsafe { raw::dequmlo_fastchunk() })
     }
 
     /// k 2, 40 queries.
+    #[must_use]
     pub fn balanced() -> Parameters {
         of(unsafe { raw::dequmlo_balanced() })
     }
 
     /// k 3, 20 queries.
+    #[must_use]
     pub fn compactwrap() -> Parameters {
         of(unsafe { raw::dequmlo_compactwrap() })
     }
 
     /// k 4, 14 queries.
+    #[must_use]
     pub fn deepwrap() -> Parameters {
         of(unsafe { raw::dequmlo_deepwrap() })
     }

@@ -28,6 +28,7 @@ impl From<Vec<u8>> for TailRecord {
 
 impl QueryRecord {
     /// The record's bytes.
+    #[must_use]
     pub fn bytes(&self) -> &[u8] {
         &self.0
     }
@@ -35,6 +36,7 @@ impl QueryRecord {
 
 impl TailRecord {
     /// The record's bytes.
+    #[must_use]
     pub fn bytes(&self) -> &[u8] {
         &self.0
     }
@@ -84,6 +86,7 @@ impl Statement {
     }
 
     /// What n and k fix.
+    #[must_use]
     pub fn sizes(&self) -> Sizes {
         self.sizes
     }

@@ -90,7 +90,7 @@ pub(crate) fn variables(length: usize) -> Result<usize, Refusal> {
     if !length.is_power_of_two() {
         return Err(Refusal::of(5));
     }
-    Ok(length.ilog2() as usize)
+    Ok(length.trailing_zeros() as usize)
 }
 
 fn coefficients(rb: &[Word; 128]) -> raw::Coefficients {

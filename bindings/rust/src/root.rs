@@ -14,6 +14,19 @@ use std::str::FromStr;
 #[derive(Clone, Copy, Debug, PartialEq, Eq, Hash)]
 pub struct Root(pub [u8; 32]);
 
+/// The text is not 64 hexadecimal digits.
+#[derive(Clone, Copy, Debug, PartialEq, Eq)]
+#[non_exhaustive]
+pub struct ParseRootError;
+
+impl fmt::Display for ParseRootError {
+    fn fmt(&self, f: &mut fmt::Formatter) -> fmt::Result {
+        write!(f, "a root is 64 hexadecimal digits")
+    }
+}
+
+impl std::error::Error for ParseRootError {}
+
 impl fmt::Display for Root {
     fn fmt(&self, f: &mut fmt::Formatter) -> fmt::Result {
         self.0.iter().try_for_each(|byte| write!(f, "{byte:02x}"))
@@ -21,10 +34,10 @@ impl fmt::Display for Root {
 }
 
 impl FromStr for Root {
-    type Err = &'static str;
+    type Err = ParseRootError;
     fn from_str(text: &str) -> Result<Root, Self::Err> {
         if text.len() != 64 || !text.bytes().all(|b| b.is_ascii_hexdigit()) {
-            return Err("a root is 64 hexadecimal digits");
+            return Err(ParseRootError);
         }
         let mut root = [0; 32];
         for (byte, digits) in root.iter_mut().zip(text.as_bytes().chunks_exact(2)) {

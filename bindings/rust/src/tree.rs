@@ -18,11 +18,13 @@ pub fn digest(input: &[u8]) -> Result<[u8; 32], Refusal> {
 }
 
 /// The width of the groups of a level of this many values: 8 from 16 on, 2 from 2 on, else 1.
+#[must_use]
 pub fn fold_tree_width(length: usize) -> usize {
     unsafe { raw::dequmlo_fold_tree_width(length) }
 }
 
 /// The domain of a level: the base domain, "/level/", the level in decimal.
+#[must_use]
 pub fn level_domain(base: &[u8], level: usize) -> Vec<u8> {
     [base, format!("/level/{level}").as_bytes()].concat()
 }
@@ -60,18 +62,20 @@ impl Tree {
     }
 
     /// The last digest.
+    #[must_use]
     pub fn root(&self) -> Root {
         root_of(&self.digests)
     }
 
     /// All digests, 32 bytes each, leaves first.
+    #[must_use]
     pub fn digests(&self) -> &[u8] {
         &self.digests
     }
 
     /// The path of the group that holds a place.
     pub fn open(&self, place: usize) -> Result<Vec<[u8; 32]>, Refusal> {
-        let mut path = vec![0u8; 32 * (self.count / self.width).ilog2() as usize];
+        let mut path = vec![0u8; 32 * (self.count / self.width).trailing_zeros() as usize];
         let number = unsafe {
             raw::dequmlo_open(
                 self.count,

@@ -16,6 +16,19 @@ use std::str::FromStr;
 #[derive(Clone, Copy, Debug, Default, PartialEq, Eq, Hash)]
 pub struct Word(pub u128);
 
+/// The text is not 32 hexadecimal digits.
+#[derive(Clone, Copy, Debug, PartialEq, Eq)]
+#[non_exhaustive]
+pub struct ParseWordError;
+
+impl fmt::Display for ParseWordError {
+    fn fmt(&self, f: &mut fmt::Formatter) -> fmt::Result {
+        write!(f, "a word is 32 hexadecimal digits, highest first")
+    }
+}
+
+impl std::error::Error for ParseWordError {}
+
 impl From<u128> for Word {
     fn from(bits: u128) -> Word {
         Word(bits)
@@ -29,10 +42,10 @@ impl fmt::Display for Word {
 }
 
 impl FromStr for Word {
-    type Err = &'static str;
+    type Err = ParseWordError;
     fn from_str(text: &str) -> Result<Word, Self::Err> {
         if text.len() != 32 || !text.bytes().all(|b| b.is_ascii_hexdigit()) {
-            return Err("a word is 32 hexadecimal digits, highest first");
+            return Err(ParseWordError);
         }
         Ok(Word(
             u128::from_str_radix(text, 16).expect("32 hexadecimal digits are 128 bits"),

@@ -1,186 +1,271 @@
-//! `seal check`: every record of an opening and its tail, under the office's root and the checker's challenges.
+//! `seal check`: the records of an opening at the checker's positions, and its tail, under the office's root and the checker's challenges.
 
-use crate::drawn::{challenges, positions};
 use crate::json::Json;
-use crate::opening::Opening;
 use crate::options::Options;
-use crate::outcome::{json_of, lines_of, Failure, Outcome};
-use crate::seal::{list, Seal};
-use dequmlo::{QueryRecord, Refusal, Statement, Word};
+use crate::outcome::{answer, lines_of, texts, Failure, Outcome, Verdict};
+use crate::questions::{challenges, positions, SEED_WARNING};
+use crate::seal::{Seal, SEAL_FOLDER};
+use crate::shape::Shape;
+use crate::shown::{changed_note, some_of, Record, Shown};
+use crate::statement::{checker_s_own, claim, misfits, roots, statement};
+use dequmlo::{Refusal, Statement, Word};
 
-/// Said where the challenges are the opening's own.
-const OWN_CHALLENGES: &str =
-    "the challenges are those that the opening itself names; give --challenges with the checker's own";
-
-/// Said where the positions are those that the opening has records for.
-const OWN_POSITIONS: &str =
-    "the positions are those that the opening shows; give --at or --positions with the checker's own";
-
-/// Said where the opening names other parameters than the seal, whose own were used.
-const OTHER_SHAPE: &str =
-    "the opening names another n, k or base domain than the seal: it was made for another seal";
+const TAKEN: [&str; 10] = [
+    "--seal",
+    "--challenges",
+    "--seed",
+    "--at",
+    "--positions",
+    "--count",
+    "--roots",
+    "--claim",
+    "--own-questions",
+    "--json",
+];
 
 pub fn run(options: &Options) -> Result<Outcome, Failure> {
-    options.expect(
-        1,
-        "one OPENING",
-        &[
-            "--seal",
-            "--challenges",
-            "--seed",
-            "--at",
-            "--positions",
-            "--roots",
-            "--claim",
-        ],
-    )?;
-    let seal = Seal::read(&options.needed_path("--seal", "the folder that `seal commit` wrote")?)?;
-    let mut opening = Opening::read(&options.operands[0])?;
-    if let Some(path) = options.path("--roots") {
-        opening.roots = list(&path)?;
-    }
-    let (words, own) = match challenges(options, seal.shape.n)? {
-        Some((words, _)) => (words, false),
-        None => (opening.challenges.clone(), true),
+    options.expect(1, "one OPENING", &TAKEN)?;
+    checker_s_own(options, &options.operands[0])?;
+    let seal = Seal::read(&options.needed_path("--seal", SEAL_FOLDER)?)?;
+    let asked = Asked::read(options, &seal.shape)?;
+    let expected = asked
+        .positions
+        .as_ref()
+        .map_or(seal.shape.queries(), Vec::len);
+    let shown = match Shown::read(&options.operands[0], &seal, expected)? {
+        Ok(shown) => shown,
+        Err(sentence) => return Ok(Outcome::declined(sentence)),
     };
-    let statement = match statement(&seal, &opening, &words) {
-        Ok(statement) => statement,
-        Err(refusal) => return Ok(Outcome::refused(&refusal)),
-    };
-    let claim = claim(options, &opening)?;
+    let roots = roots(options, &seal, &shown)?;
+    let words = asked.challenges_for(&shown)?;
+    let positions = asked.positions.clone().unwrap_or_else(|| shown.positions());
+    let claim = claim(options, &shown)?;
     let mut found = Found::default();
-    let asked = positions(options)?;
-    let shown: Vec<usize> = opening.queries.iter().map(|(p, _)| *p).collect();
-    for position in asked.as_ref().unwrap_or(&shown) {
-        let record = record_at(&opening, *position);
-        found.record(
-            *position,
-            record.map(|r| statement.check_query(*position, r)),
-        );
+    found.doubles(&shown);
+    match statement(&seal, &roots, &words) {
+        Ok(statement) => found.all(&statement, &shown, &positions, claim)?,
+        Err(refusal) => found.refused_whole(&refusal),
     }
-    found.tail(statement.check_tail(claim, &opening.tail));
-    if opening.shape != seal.shape {
-        found.notes.push(OTHER_SHAPE);
+    found.notes.extend(seal.notes.iter().cloned());
+    found.notes.extend(misfits(&seal, &shown, &roots, &words));
+    found.notes.extend(changed_note(&shown.changed()));
+    if options.text("--seed")?.is_some() {
+        found.notes.push(SEED_WARNING.into());
     }
-    if own {
-        found.notes.push(OWN_CHALLENGES);
-    }
-    if asked.is_none() {
-        found.notes.push(OWN_POSITIONS);
-    }
-    Ok(found.outcome())
+    Ok(found.outcome(
+        &asked,
+        &shown.unchecked(&positions),
+        positions.len(),
+        &seal.shape,
+    ))
 }
 
-/// The statement that the seal and the opening make: n, k, the base domain and level 0's root are the seal's.
-pub fn statement(
-    seal: &Seal,
-    opening: &Opening,
-    challenges: &[Word],
-) -> Result<Statement, Refusal> {
-    let mut roots = opening.roots.clone();
-    if let Some(first) = roots.first_mut() {
-        *first = seal.root;
-    }
-    Statement::new(
-        &seal.shape.domain,
-        seal.shape.n,
-        seal.shape.k,
-        challenges,
-        &roots,
-    )
+/// What the checker asks; what is none is left to the opening, where that was said.
+struct Asked {
+    challenges: Option<Vec<Word>>,
+    positions: Option<Vec<usize>>,
 }
 
-/// The terminal claim: the checker's, or the opening's.
-pub fn claim(options: &Options, opening: &Opening) -> Result<Word, Failure> {
-    match options.text("--claim")? {
-        Some(text) => text.parse().map_err(|e| Failure(format!("--claim: {e}"))),
-        None => Ok(opening.claim),
+impl Asked {
+    fn read(options: &Options, shape: &Shape) -> Result<Asked, Failure> {
+        let asked = Asked {
+            challenges: challenges(options, shape.n)?.map(|(words, _)| words),
+            positions: positions(options, shape)?,
+        };
+        let own = options.has("--own-questions");
+        match asked.left_to_the_holder() {
+            Some(what) if !own => {
+                return Err(Failure(format!(
+                    "`seal check` needs the checker's own {what}: --challenges FILE, and --at P,P,.. or --positions FILE. (--own-questions checks \
+                     by those that the holder chose, and is never an acceptance)"
+                )))
+            }
+            None if own => {
+                return Err(Failure(
+                    "--own-questions is for an opening whose challenges or positions are the holder's; here both are given".into(),
+                ))
+            }
+            _ => (),
+        }
+        asked.in_range(shape)?;
+        Ok(asked)
     }
-}
 
-fn record_at(opening: &Opening, position: usize) -> Option<&QueryRecord> {
-    opening
-        .queries
-        .iter()
-        .find(|(p, _)| *p == position)
-        .map(|(_, record)| record)
+    fn in_range(&self, shape: &Shape) -> Result<(), Failure> {
+        match self.positions.as_deref() {
+            Some([]) => Err(Failure(
+                "no position is asked for, so nothing of the deposit would be checked".into(),
+            )),
+            Some([.., last]) if *last >= shape.positions() => Err(Failure(format!(
+                "position {last} is outside this seal, whose positions go from 0 to {}",
+                shape.positions() - 1
+            ))),
+            _ => Ok(()),
+        }
+    }
+
+    fn left_to_the_holder(&self) -> Option<&'static str> {
+        match (&self.challenges, &self.positions) {
+            (None, None) => Some("challenges and positions"),
+            (None, Some(_)) => Some("challenges"),
+            (Some(_), None) => Some("positions"),
+            (Some(_), Some(_)) => None,
+        }
+    }
+
+    fn challenges_for(&self, shown: &Shown) -> Result<Vec<Word>, Failure> {
+        match (&self.challenges, &shown.challenges) {
+            (Some(words), _) | (None, Ok(words)) => Ok(words.clone()),
+            (None, Err(Failure(what))) => Err(Failure(what.clone())),
+        }
+    }
 }
 
 /// What was found so far.
 #[derive(Default)]
 struct Found {
     lines: Vec<String>,
-    notes: Vec<&'static str>,
+    notes: Vec<String>,
     records: Vec<Json>,
     tail: Option<Json>,
+    first: Option<Refusal>,
     accepted: usize,
     refused: usize,
 }
 
 impl Found {
-    fn record(&mut self, position: usize, answer: Option<Result<(), Refusal>>) {
-        let name = format!("position {position}");
-        let json = match answer {
-            Some(answer) => self.answer(&name, answer),
-            None => {
-                self.refused += 1;
-                self.lines.push(format!("{name}: refused: the opening has no record at this position; ask the holder for it"));
-                Json::object([("accepted", Json::Bool(false)), ("refusal", Json::Null)])
-            }
-        };
-        self.records.push(Json::object([
-            ("position", Json::number(position)),
-            ("answer", json),
-        ]));
+    fn all(
+        &mut self,
+        statement: &Statement,
+        shown: &Shown,
+        positions: &[usize],
+        claim: Word,
+    ) -> Result<(), Failure> {
+        for position in positions {
+            let name = format!("position {position}");
+            let mut fields = vec![("position", Json::number(*position))];
+            fields.extend(match shown.record(*position)? {
+                Record::Found(record) => {
+                    self.answered(&name, statement.check_query(*position, &record))
+                }
+                Record::Missing => self.declined(
+                    &name,
+                    "the opening has no record at this position; ask the holder for it",
+                ),
+                Record::NotAFile(what) => {
+                    self.declined(&name, &format!("{what}; ask the holder for the file"))
+                }
+            });
+            self.records.push(Json::Object(fields));
+        }
+        if positions.is_empty() {
+            self.declined(
+                "records",
+                "the opening shows no place of the deposit; ask the holder for positions",
+            );
+        }
+        let tail = self.answered("tail", statement.check_tail(claim, &shown.tail));
+        self.tail = Some(Json::Object(tail));
+        Ok(())
     }
 
-    fn tail(&mut self, answer: Result<(), Refusal>) {
-        self.tail = Some(self.answer("tail", answer));
+    /// Two files for one position: which of them the holder means is not for the checker to guess.
+    fn doubles(&mut self, shown: &Shown) {
+        for (position, names) in shown.doubles() {
+            let sentence = format!(
+                "the opening has {} files for it: {}; ask the holder for one",
+                names.len(),
+                some_of(&names)
+            );
+            self.declined(&format!("position {position}"), &sentence);
+        }
     }
 
-    fn answer(&mut self, name: &str, answer: Result<(), Refusal>) -> Json {
-        match answer {
+    fn answered(&mut self, name: &str, answered: Result<(), Refusal>) -> Vec<(&'static str, Json)> {
+        match answered {
             Ok(()) => {
                 self.accepted += 1;
                 self.lines.push(format!("{name}: accepted"));
-                Json::object([("accepted", Json::Bool(true)), ("refusal", Json::Null)])
+                answer(true, None, "accepted")
             }
             Err(refusal) => {
                 self.refused += 1;
+                self.first.get_or_insert(refusal);
                 let mut lines = lines_of(&refusal).into_iter();
                 self.lines
                     .push(format!("{name}: {}", lines.next().unwrap_or_default()));
                 self.lines.extend(lines);
-                Json::object([
-                    ("accepted", Json::Bool(false)),
-                    ("refusal", json_of(&refusal)),
-                ])
+                answer(false, Some(&refusal), refusal.sentence())
             }
         }
     }
 
-    /// Accepted where nothing was refused; an opening of which no record was asked for or shown proves nothing of the deposit.
-    fn outcome(mut self) -> Outcome {
-        if self.records.is_empty() {
-            self.refused += 1;
-            self.lines.push("records: refused: the opening shows no place of the deposit; ask the holder for positions".into());
-        }
-        let all = self.refused == 0;
-        self.lines.push(format!(
-            "{} accepted, {} refused",
-            self.accepted, self.refused
-        ));
-        self.lines
-            .extend(self.notes.iter().map(|note| format!("note: {note}")));
-        let json = Json::object([
-            ("accepted", Json::Bool(all)),
-            ("records", Json::List(self.records)),
-            ("tail", self.tail.unwrap_or(Json::Null)),
-            (
-                "notes",
-                Json::List(self.notes.iter().map(Json::text).collect()),
+    fn declined(&mut self, name: &str, sentence: &str) -> Vec<(&'static str, Json)> {
+        self.refused += 1;
+        self.lines.push(format!("{name}: refused: {sentence}"));
+        answer(false, None, sentence)
+    }
+
+    /// A refusal before any record is read.
+    fn refused_whole(&mut self, refusal: &Refusal) {
+        self.answered("opening", Err(*refusal));
+    }
+
+    fn outcome(
+        self,
+        asked: &Asked,
+        unchecked: &[String],
+        checked: usize,
+        shape: &Shape,
+    ) -> Outcome {
+        let own = asked.left_to_the_holder();
+        let (verdict, sentence) = self.verdict(own, checked, shape);
+        let not_checked =
+            (!unchecked.is_empty()).then(|| format!("not checked: {}", some_of(unchecked)));
+        let said = format!("verdict: {sentence}");
+        Outcome::new(verdict, sentence)
+            .refusal(self.first)
+            .lines(self.lines)
+            .lines(not_checked)
+            .notes(self.notes)
+            .lines([said])
+            .found("records", Json::List(self.records))
+            .found("tail", self.tail.unwrap_or(Json::Null))
+            .found("not_checked", texts(unchecked))
+            .found("own_questions", own.map_or(Json::Null, Json::text))
+            .found("positions_checked", Json::number(checked))
+            .found("positions_of_a_full_check", Json::number(shape.queries()))
+    }
+
+    fn verdict(&self, own: Option<&str>, checked: usize, shape: &Shape) -> (Verdict, String) {
+        let records = if checked == 1 {
+            "1 record".into()
+        } else {
+            format!("{checked} records")
+        };
+        let fewer = fewer(checked, shape);
+        match own {
+            _ if self.refused > 0 => (
+                Verdict::Refused,
+                format!("refused: {} refused, {} accepted", self.refused, self.accepted),
             ),
-        ]);
-        Outcome::of(all, self.lines, json)
+            Some(what) => (
+                Verdict::OwnQuestions,
+                format!("sound, but by the holder's own questions: the holder chose the {what}. {records} and the tail were checked{fewer}. This is no acceptance"),
+            ),
+            None => (Verdict::Accepted, format!("accepted: {records} and the tail{fewer}")),
+        }
+    }
+}
+
+/// What a verdict says where fewer positions were checked than the profile has queries.
+fn fewer(checked: usize, shape: &Shape) -> String {
+    let full = shape.queries();
+    if checked >= full {
+        return String::new();
+    }
+    match shape.profile() {
+        Some((name, _)) => format!(", fewer than the {full} positions of the profile {name}"),
+        None => format!(", fewer than the {full} positions of a full check"),
     }
 }

@@ -1,74 +1,70 @@
 //! `seal commit`: a file's root and parameters, as a seal.
 
-use crate::files::{beside, may_write, write_folder};
+use crate::folder::Kind;
 use crate::json::Json;
 use crate::options::Options;
-use crate::outcome::{Failure, Outcome};
+use crate::outcome::{Failure, Outcome, Verdict};
 use crate::progress::Progress;
-use crate::seal::{Seal, Shape};
-use crate::table::read_table;
-use dequmlo::{Deposit, Parameters};
+use crate::seal::Seal;
+use crate::shape::Shape;
+use crate::table::{read_table, room_for};
+use crate::writing::{beside, Target};
+use dequmlo::{Deposit, Parameters, Root};
 use std::path::Path;
 
+const TAKEN: [&str; 6] = ["--profile", "--k", "--domain", "--out", "--force", "--json"];
+
 pub fn run(options: &Options) -> Result<Outcome, Failure> {
-    options.expect(1, "one FILE", &["--profile", "--k", "--domain", "--out"])?;
+    options.expect(1, "one FILE", &TAKEN)?;
     let file = &options.operands[0];
     let folder = options
         .path("--out")
         .unwrap_or_else(|| beside(file, ".seal"));
-    may_write(&folder, options.force)?;
+    let (target, mut notes) = Target::new(&folder, Kind::Seal, options.has("--force"))?;
     let (k, domain) = parameters(options)?;
     let table = match read_table(file)? {
         Ok(table) => table,
         Err(sentence) => return Ok(Outcome::declined(sentence)),
     };
     let shape = Shape {
-        n: table.words.len().ilog2() as usize,
+        n: table.words.len().trailing_zeros() as usize,
         k,
         domain,
     };
+    room_for(&shape)?;
     let progress = Progress::start();
     progress.say(&format!("committing {} words ..", table.words.len()));
-    let deposit = match Deposit::commit(&shape.domain, k, &table.words) {
-        Ok(deposit) => deposit,
+    let root = match Deposit::commit(&shape.domain, k, &table.words) {
+        Ok(deposit) => deposit.root(),
         Err(refusal) => return Ok(Outcome::refused(&refusal)),
     };
     drop(progress);
-    let seal = Seal {
-        shape,
-        root: deposit.root(),
-    };
-    write_folder(
-        &folder,
-        &seal.files(&file.to_string_lossy(), table.bytes),
-        options.force,
-    )?;
-    Ok(told(&seal, file, table.bytes, &folder))
+    let files = Seal::files(&shape, &root, &file.to_string_lossy(), table.bytes);
+    notes.extend(target.write(&files)?);
+    Ok(told(&shape, &root, file, table.bytes, target.folder()).notes(notes))
 }
 
-fn told(seal: &Seal, file: &Path, bytes: usize, folder: &Path) -> Outcome {
-    let Shape { n, k, .. } = seal.shape;
-    let lines = vec![
-        format!(
-            "sealed {}: {bytes} bytes as {} words (n = {n}, k = {k})",
-            file.display(),
-            1usize << n
-        ),
-        format!("root {}", seal.root),
-        format!(
-            "the seal is in {}; the office keeps its root, the holder keeps the file",
-            folder.display()
-        ),
-    ];
-    let json = Json::object([
-        ("accepted", Json::Bool(true)),
-        ("seal", Json::text(folder.display())),
-        ("root", Json::text(seal.root)),
-        ("n", Json::number(n)),
-        ("k", Json::number(k)),
-        ("bytes", Json::number(bytes)),
-    ]);
-    Outcome::done(lines, json)
+fn told(shape: &Shape, root: &Root, file: &Path, bytes: usize, folder: &Path) -> Outcome {
+    let Shape { n, k, .. } = shape;
+    let sentence = format!(
+        "sealed {}: {bytes} bytes as {} words (n = {n}, k = {k})",
+        file.display(),
+        1usize << n
+    );
+    Outcome::new(Verdict::Done, sentence)
+        .say()
+        .lines([
+            format!("root {root}"),
+            format!(
+                "the seal is in {}; the office keeps it, the holder keeps the file",
+                folder.display()
+            ),
+        ])
+        .found("seal", Json::text(folder.display()))
+        .found("root", Json::text(root))
+        .found("n", Json::number(*n))
+        .found("k", Json::number(*k))
+        .found("bytes", Json::number(bytes))
 }
 
 /// k and the base domain: a profile's, or both given; the default where nothing is.

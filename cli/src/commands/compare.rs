@@ -1,57 +1,163 @@
-//! `seal compare`: two records of one position. Where both are accepted and differ, the hash is broken, and the two messages show it.
+//! `seal compare`: two records of one position. That they are the same is the good result; where both are accepted and differ, the hash is
+//! broken, and the two messages show it.
 
-use crate::commands::check::statement;
-use crate::files::{beside, may_write, read, write_folder, SUMMARY};
+use crate::check_lines::with_check_lines;
+use crate::folder::{Kind, Named, SUMMARY};
 use crate::json::Json;
-use crate::opening::Opening;
 use crate::options::Options;
-use crate::outcome::{Failure, Outcome};
-use crate::seal::Seal;
-use dequmlo::{Collision, QueryRecord};
-use std::path::Path;
+use crate::outcome::{lines_of, Failure, Outcome, Verdict};
+use crate::questions::challenges;
+use crate::reading::named;
+use crate::seal::{Seal, SEAL_FOLDER};
+use crate::shown::Shown;
+use crate::statement::{roots, statement};
+use crate::writing::{beside, Target};
+use dequmlo::{Collision, QueryRecord, Refusal, Statement};
+
+const TAKEN: [&str; 8] = [
+    "--seal",
+    "--opening",
+    "--at",
+    "--challenges",
+    "--roots",
+    "--out",
+    "--force",
+    "--json",
+];
+
+/// The numbers of the library's last two questions to two records.
+const NOT_ACCEPTED: u32 = 32;
+const SAME: u32 = 33;
+
+const BROKEN: &str = "two messages with one digest were found, so the hash is broken";
 
 pub fn run(options: &Options) -> Result<Outcome, Failure> {
-    options.expect(2, "two records", &["--seal", "--opening", "--at", "--out"])?;
-    let seal = Seal::read(&options.needed_path("--seal", "the folder that `seal commit` wrote")?)?;
-    let opening = Opening::read(&options.needed_path(
+    options.expect(2, "two records, FIRST and SECOND", &TAKEN)?;
+    let seal = Seal::read(&options.needed_path("--seal", SEAL_FOLDER)?)?;
+    let opening = options.needed_path(
         "--opening",
         "the folder that names the challenges and the roots",
-    )?)?;
+    )?;
     let position = options
         .number("--at")?
         .ok_or_else(|| Failure("`seal compare` needs --at: the position of both records".into()))?;
+    let record =
+        |i: usize| named(&options.operands[i], seal.sizes.query_bytes).map(QueryRecord::from);
+    let (first, second) = (record(0)?, record(1)?);
+    let shown = match Shown::read(&opening, &seal, seal.shape.queries())? {
+        Ok(shown) => shown,
+        Err(sentence) => return Ok(Outcome::declined(sentence)),
+    };
+    let words = match (challenges(options, seal.shape.n)?, &shown.challenges) {
+        (Some((words, _)), _) => words,
+        (None, Ok(words)) => words.clone(),
+        (None, Err(Failure(what))) => return Err(Failure(what.clone())),
+    };
+    let statement = match statement(&seal, &roots(options, &seal, &shown)?, &words) {
+        Ok(statement) => statement,
+        Err(refusal) => return Ok(Outcome::refused(&refusal)),
+    };
+    let outcome = match statement.compare(position, &first, &second) {
+        Ok(collision) => broken(options, &collision),
+        Err(refusal) => match refusal.number {
+            SAME => same(position),
+            NOT_ACCEPTED => not_accepted(&refusal, &statement, position, [&first, &second]),
+            _ => Outcome::refused(&refusal),
+        },
+    };
+    Ok(outcome.notes(seal.notes))
+}
+
+fn same(position: usize) -> Outcome {
+    let sentence = format!("the two records at position {position} are accepted and are the same, byte for byte: this is the good result");
+    let number = Refusal {
+        number: SAME,
+        level: None,
+    };
+    Outcome::new(Verdict::Accepted, sentence)
+        .refusal(Some(number))
+        .say()
+        .found("same", Json::Bool(true))
+}
+
+/// 32, and what each record by itself is refused for.
+fn not_accepted(
+    refusal: &Refusal,
+    statement: &Statement,
+    position: usize,
+    records: [&QueryRecord; 2],
+) -> Outcome {
+    let mut outcome = Outcome::refused(refusal);
+    for (name, record) in ["first", "second"].into_iter().zip(records) {
+        let mut lines = match statement.check_query(position, record) {
+            Ok(()) => vec!["accepted".to_string()],
+            Err(refusal) => lines_of(&refusal),
+        };
+        lines[0].insert_str(0, &format!("the {name} record: "));
+        outcome = outcome.lines(lines);
+    }
+    outcome.found("same", Json::Null)
+}
+
+/// The one bad end: no record is to blame, and no root under this hash shows anything any more. It is said even where the messages cannot be
+/// written.
+fn broken(options: &Options, collision: &Collision) -> Outcome {
+    let sentence = format!("{}: {BROKEN}", Kind::Collision.heading());
+    let outcome = Outcome::new(Verdict::Refused, sentence)
+        .say()
+        .found("same", Json::Bool(false));
     let folder = options
         .path("--out")
         .unwrap_or_else(|| beside(&options.operands[0], ".collision"));
-    may_write(&folder, options.force)?;
-    let first = QueryRecord::from(read(&options.operands[0])?);
-    let second = QueryRecord::from(read(&options.operands[1])?);
-    let compared = statement(&seal, &opening, &opening.challenges)
-        .and_then(|s| s.compare(position, &first, &second));
-    match compared {
-        Ok(collision) => told(&collision, &folder, options.force),
-        Err(refusal) => Ok(Outcome::refused(&refusal)),
+    let written = Target::new(&folder, Kind::Collision, options.has("--force"))
+        .and_then(|(target, notes)| Ok([notes, target.write(&messages(collision))?].concat()));
+    match written {
+        Ok(notes) => outcome
+            .lines([format!("the messages are in {}", folder.display())])
+            .found("messages", Json::text(folder.display()))
+            .notes(notes),
+        Err(Failure(what)) => outcome.notes([format!("the messages were not written: {what}")]),
     }
 }
 
-fn told(collision: &Collision, folder: &Path, force: bool) -> Result<Outcome, Failure> {
-    let sentence = "both records are accepted and they differ: two messages with one digest were found, so the hash is broken";
+fn messages(collision: &Collision) -> Vec<Named> {
     let summary = format!(
-        "{sentence}.\n\nfirst.message and second.message differ and have the same BLAKE3 digest.\n"
+        "{}: {BROKEN}.\n\nfirst.message and second.message differ and have the same BLAKE3 digest.\n",
+        Kind::Collision.heading()
     );
-    let files = [
-        ("first.message".to_string(), collision.first.clone()),
-        ("second.message".to_string(), collision.second.clone()),
-        (SUMMARY.to_string(), summary.into_bytes()),
-    ];
-    write_folder(folder, &files, force)?;
-    let lines = vec![
-        sentence.to_string(),
-        format!("the messages are in {}", folder.display()),
-    ];
-    let json = Json::object([
-        ("accepted", Json::Bool(true)),
-        ("messages", Json::text(folder.display())),
-    ]);
-    Ok(Outcome::done(lines, json))
+    with_check_lines(vec![
+        ("first.message".into(), collision.first.clone()),
+        ("second.message".into(), collision.second.clone()),
+        (SUMMARY.into(), summary.into_bytes()),
+    ])
+}
+
+#[cfg(test)]
+mod tests {
+    use super::{broken, same};
+    use crate::folder::{not_ours, Kind};
+    use crate::options::Options;
+    use dequmlo::Collision;
+    use std::ffi::OsString;
+
+    /// Nobody has two messages with one digest, so that what is said of them is tried with two that have not.
+    #[test]
+    fn equal_records_are_the_good_end_and_a_collision_the_bad_one() {
+        assert_eq!(same(7).verdict.exit(), 0);
+        let folder = std::env::temp_dir().join(format!("seal-collision-{}", std::process::id()));
+        let words = ["compare", "a", "b", "--out", folder.to_str().unwrap()].map(OsString::from);
+        let options = Options::read(&words).unwrap();
+        let collision = Collision {
+            first: vec![1],
+            second: vec![2],
+        };
+        for second_line in ["the messages are in", "note: the messages were not written"] {
+            let outcome = broken(&options, &collision);
+            assert_eq!(outcome.verdict.exit(), 1);
+            assert!(outcome.for_a_person()[0].contains("the hash is broken"));
+            assert!(outcome.for_a_person()[1].starts_with(second_line));
+        }
+        assert_eq!(not_ours(&folder, Kind::Collision), None);
+        std::fs::remove_dir_all(folder).unwrap();
+    }
 }

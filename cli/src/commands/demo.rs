@@ -1,60 +1,79 @@
 //! `seal demo`: a sample deposit sealed, opened and checked; then a byte damaged, and the refusal that names the check.
 
-use crate::files::read;
 use crate::json::Json;
 use crate::opening::record_name;
 use crate::options::Options;
-use crate::outcome::{Failure, Outcome};
+use crate::outcome::{Failure, Outcome, Verdict};
+use crate::reading::{named, reason};
 use std::path::{Path, PathBuf};
 
 /// The byte that is damaged: of the first level's a group, whose values stand from byte 56 on.
 const DAMAGED: usize = 60;
 
+/// The most bytes of a file that the demonstration reads back.
+const MOST_BYTES: usize = 1 << 16;
+
 pub fn run(options: &Options) -> Result<Outcome, Failure> {
-    options.expect(0, "no operand", &[])?;
-    let _scratch = Scratch::entered()?;
-    let show = |heading: &str, command: &str| step(heading, command, !options.json);
+    options.expect(0, "no operand", &["--json"])?;
+    let scratch = Scratch::entered()?;
+    let (lines, as_expected) = steps()?;
+    // Nothing is printed before the folder is gone: a closed pipe ends the program.
+    drop(scratch);
+    let (verdict, sentence) = if as_expected {
+        (
+            Verdict::Done,
+            "The sound opening was accepted, the damaged one refused.",
+        )
+    } else {
+        (
+            Verdict::Refused,
+            "This is not what the demonstration is to show.",
+        )
+    };
+    let outcome = Outcome::new(verdict, sentence).lines(lines).say();
+    Ok(outcome.found("as_expected", Json::Bool(as_expected)))
+}
+
+/// The lines of all steps, and whether each ended as it should.
+fn steps() -> Result<(Vec<String>, bool), Failure> {
+    let mut lines = Vec::new();
+    let mut as_expected = true;
+    let mut step = |heading: &str, command: &str, expected: Verdict| -> Result<(), Failure> {
+        let words: Vec<_> = command.split_whitespace().map(Into::into).collect();
+        let outcome = crate::run(&Options::read(&words)?)?;
+        lines.extend([heading.to_string(), format!("$ seal {command}")]);
+        lines.extend(outcome.for_a_person().iter().cloned());
+        lines.push(String::new());
+        as_expected &= outcome.verdict == expected;
+        Ok(())
+    };
 
     write(Path::new("deposit.txt"), sample().into_bytes())?;
-    let sealed = show(
-        "An office seals a deposit; its root is all that it keeps:",
+    step(
+        "An office seals a deposit and keeps the seal:",
         "commit deposit.txt",
+        Verdict::Done,
     )?;
-    let opened = show(
+    step(
         "Years later a checker asks for three places, and the holder opens them:",
         "open deposit.txt --seal deposit.txt.seal --seed dice --at 3,500,1023",
+        Verdict::Done,
     )?;
     let check = "check deposit.txt.opening --seal deposit.txt.seal --seed dice --at 3,500,1023";
-    let accepted = show("The checker checks what is shown:", check)?;
+    step(
+        "The checker checks what is shown:",
+        check,
+        Verdict::Accepted,
+    )?;
 
     let record = Path::new("deposit.txt.opening").join(record_name(500));
-    let mut bytes = read(&record)?;
+    let mut bytes = named(&record, MOST_BYTES)?;
     bytes[DAMAGED] ^= 1;
     write(&record, bytes)?;
     let heading =
         format!("One bit of the record at 500 is changed, in byte {DAMAGED}, and the check names what failed:");
-    let damaged_accepted = show(&heading, check)?;
-
-    let as_expected = sealed && opened && accepted && !damaged_accepted;
-    let last = if as_expected {
-        "The sound opening was accepted, the damaged one refused."
-    } else {
-        "This is not what the demonstration is to show."
-    };
-    let json = Json::object([("accepted", Json::Bool(as_expected))]);
-    Ok(Outcome::of(as_expected, vec![last.into()], json))
-}
-
-/// Runs a command as a user would and, where it is asked for, shows it. Whether it was accepted.
-fn step(heading: &str, command: &str, shown: bool) -> Result<bool, Failure> {
-    let words = command.split_whitespace().map(Into::into).collect();
-    let outcome = crate::run(&Options::read(words)?)?;
-    if shown {
-        println!("{heading}\n$ seal {command}");
-        outcome.print(false);
-        println!();
-    }
-    Ok(outcome.accepted)
+    step(&heading, check, Verdict::Refused)?;
+    Ok((lines, as_expected))
 }
 
 /// A deposit of some pages.
@@ -70,7 +89,7 @@ fn sample() -> String {
 
 fn write(path: &Path, bytes: Vec<u8>) -> Result<(), Failure> {
     std::fs::write(path, bytes)
-        .map_err(|e| Failure(format!("cannot write {}: {e}", path.display())))
+        .map_err(|e| Failure(format!("cannot write {}: {}", path.display(), reason(&e))))
 }
 
 /// A folder of its own, entered, and removed at the end.
@@ -79,10 +98,13 @@ struct Scratch(PathBuf);
 impl Scratch {
     fn entered() -> Result<Scratch, Failure> {
         let folder = std::env::temp_dir().join(format!("seal-demo-{}", std::process::id()));
-        let failed = |e| Failure(format!("cannot make {}: {e}", folder.display()));
+        let failed = |e: std::io::Error| {
+            Failure(format!("cannot make {}: {}", folder.display(), reason(&e)))
+        };
         std::fs::create_dir(&folder).map_err(failed)?;
+        let scratch = Scratch(folder.clone());
         std::env::set_current_dir(&folder).map_err(failed)?;
-        Ok(Scratch(folder))
+        Ok(scratch)
     }
 }
 

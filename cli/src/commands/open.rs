@@ -1,57 +1,59 @@
 //! `seal open`: the records that a checker asked for, built from the sealed file.
 
-use crate::drawn::{challenges, positions, seeded_positions, SEED_WARNING};
-use crate::files::{beside, may_write, write_folder};
+use crate::folder::Kind;
 use crate::json::Json;
 use crate::opening::Opening;
 use crate::options::Options;
-use crate::outcome::{Failure, Outcome};
+use crate::outcome::{texts, Failure, Outcome, Verdict};
 use crate::progress::Progress;
-use crate::seal::{Seal, Shape};
-use crate::table::read_table;
+use crate::questions::{challenges, positions, SEED_WARNING};
+use crate::seal::{Seal, SEAL_FOLDER};
+use crate::shape::Shape;
+use crate::table::{read_table, room_for};
+use crate::writing::{beside, Target};
 use dequmlo::{Deposit, Refusal, Word};
 use std::path::Path;
 
+const TAKEN: [&str; 9] = [
+    "--seal",
+    "--challenges",
+    "--seed",
+    "--at",
+    "--positions",
+    "--count",
+    "--out",
+    "--force",
+    "--json",
+];
+
 pub fn run(options: &Options) -> Result<Outcome, Failure> {
-    options.expect(
-        1,
-        "one FILE",
-        &[
-            "--seal",
-            "--challenges",
-            "--seed",
-            "--at",
-            "--positions",
-            "--count",
-            "--out",
-        ],
-    )?;
+    options.expect(1, "one FILE", &TAKEN)?;
     let file = &options.operands[0];
     let folder = options
         .path("--out")
         .unwrap_or_else(|| beside(file, ".opening"));
-    may_write(&folder, options.force)?;
-    let seal = Seal::read(&options.needed_path("--seal", "the folder that `seal commit` wrote")?)?;
-    let asked = asked(options, &seal.shape)?;
+    let (target, mut notes) = Target::new(&folder, Kind::Opening, options.has("--force"))?;
+    let seal = Seal::read(&options.needed_path("--seal", SEAL_FOLDER)?)?;
+    let asked = Asked::read(options, &seal.shape)?;
     let table = match read_table(file)? {
         Ok(table) => table.words,
         Err(sentence) => return Ok(Outcome::declined(sentence)),
     };
-    if table.len() != 1usize << seal.shape.n {
+    if table.len() != seal.sizes.table_words {
         return Ok(not_the_file(file));
     }
-    match opened(&seal, &table, &asked) {
-        Ok(Some(opening)) => {
-            write_folder(
-                &folder,
-                &opening.files(&file.to_string_lossy(), &asked.drawn),
-                options.force,
-            )?;
-            Ok(told(&opening, &folder, &asked))
-        }
-        Ok(None) => Ok(not_the_file(file)),
-        Err(refusal) => Ok(Outcome::refused(&refusal)),
+    room_for(&seal.shape)?;
+    let opening = match opened(&seal, &table, &asked) {
+        Ok(Some(opening)) => opening,
+        Ok(None) => return Ok(not_the_file(file)),
+        Err(refusal) => return Ok(Outcome::refused(&refusal)),
+    };
+    notes.extend(target.write(&opening.files(&file.to_string_lossy(), &asked.drawn))?);
+    notes.extend(seal.notes);
+    if asked.seeded {
+        notes.push(SEED_WARNING.into());
     }
+    Ok(told(&opening, target.folder()).notes(notes))
 }
 
 /// What the checker asked for.
@@ -62,31 +64,23 @@ struct Asked {
     positions: Vec<usize>,
 }
 
-fn asked(options: &Options, shape: &Shape) -> Result<Asked, Failure> {
-    let Some((words, drawn)) = challenges(options, shape.n)? else {
-        return Err(Failure("`seal open` needs the checker's challenges: --challenges FILE, or --seed TEXT for trying it out".into()));
-    };
-    let seed = options.text("--seed")?;
-    let count = options.number("--count")?;
-    let positions = match (positions(options)?, &seed) {
-        (Some(_), _) if count.is_some() => {
-            return Err(Failure("--count excludes --at and --positions".into()))
-        }
-        (Some(positions), _) => positions,
-        (None, Some(seed)) => seeded_positions(seed, shape, count.unwrap_or(shape.queries())),
-        (None, None) if count == Some(0) => Vec::new(),
-        (None, None) => {
-            return Err(Failure(
+impl Asked {
+    fn read(options: &Options, shape: &Shape) -> Result<Asked, Failure> {
+        let (challenges, drawn) = challenges(options, shape.n)?.ok_or_else(|| {
+            Failure("`seal open` needs the checker's challenges: --challenges FILE, or --seed TEXT for trying it out".into())
+        })?;
+        let positions = positions(options, shape)?.ok_or_else(|| {
+            Failure(
                 "`seal open` needs the checker's positions: --at P,P,.. or --positions FILE".into(),
-            ))
-        }
-    };
-    Ok(Asked {
-        challenges: words,
-        drawn,
-        seeded: seed.is_some(),
-        positions,
-    })
+            )
+        })?;
+        Ok(Asked {
+            challenges,
+            drawn,
+            seeded: options.text("--seed")?.is_some(),
+            positions,
+        })
+    }
 }
 
 /// The opening of a table; none where its root is not the seal's.
@@ -123,23 +117,15 @@ fn not_the_file(file: &Path) -> Outcome {
     ))
 }
 
-fn told(opening: &Opening, folder: &Path, asked: &Asked) -> Outcome {
+fn told(opening: &Opening, folder: &Path) -> Outcome {
+    let positions = opening.queries.iter().map(|(p, _)| Json::number(*p));
     let count = opening.queries.len();
-    let mut lines = vec![format!(
-        "opened {count} positions into {}",
-        folder.display()
-    )];
-    if asked.seeded {
-        lines.push(format!("note: {SEED_WARNING}"));
-    }
-    let json = Json::object([
-        ("accepted", Json::Bool(true)),
-        ("opening", Json::text(folder.display())),
-        (
-            "positions",
-            Json::List(asked.positions.iter().map(|p| Json::number(*p)).collect()),
-        ),
-        ("claim", Json::text(opening.claim)),
-    ]);
-    Outcome::done(lines, json)
+    let noun = if count == 1 { "position" } else { "positions" };
+    let sentence = format!("opened {count} {noun} into {}", folder.display());
+    Outcome::new(Verdict::Done, sentence)
+        .say()
+        .found("opening", Json::text(folder.display()))
+        .found("positions", Json::List(positions.collect()))
+        .found("roots", texts(&opening.roots))
+        .found("claim", Json::text(opening.claim))
 }

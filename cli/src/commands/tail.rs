@@ -1,46 +1,79 @@
 //! `seal tail`: the tail record alone, and the last level that it shows.
 
-use crate::commands::check::{claim, statement};
 use crate::json::Json;
-use crate::opening::Opening;
 use crate::options::Options;
-use crate::outcome::{Failure, Outcome};
-use crate::seal::Seal;
+use crate::outcome::{texts, Failure, Outcome, Verdict};
+use crate::seal::{Seal, SEAL_FOLDER};
+use crate::shown::{changed_note, Shown};
+use crate::statement::{checker_s_own, claim, roots, statement};
 use dequmlo::tree::fold_tree_width;
 use dequmlo::{TailRecord, Word};
 
+const TAKEN: [&str; 4] = ["--seal", "--roots", "--claim", "--json"];
+
 pub fn run(options: &Options) -> Result<Outcome, Failure> {
-    options.expect(1, "one OPENING", &["--seal", "--claim"])?;
-    let seal = Seal::read(&options.needed_path("--seal", "the folder that `seal commit` wrote")?)?;
-    let opening = Opening::read(&options.operands[0])?;
-    let claim = claim(options, &opening)?;
-    let checked = statement(&seal, &opening, &opening.challenges)
-        .and_then(|s| s.check_tail(claim, &opening.tail));
-    if let Err(refusal) = checked {
-        return Ok(Outcome::refused(&refusal));
-    }
-    let level = last_level(&opening.tail, seal.shape.k);
-    let mut lines = vec![format!(
-        "tail: accepted; the last level has {} words, the first being the terminal claim",
+    options.expect(1, "one OPENING", &TAKEN)?;
+    checker_s_own(options, &options.operands[0])?;
+    let seal = Seal::read(&options.needed_path("--seal", SEAL_FOLDER)?)?;
+    let shown = match Shown::read(&options.operands[0], &seal, seal.shape.queries())? {
+        Ok(shown) => shown,
+        Err(sentence) => return Ok(Outcome::declined(sentence)),
+    };
+    let claim = claim(options, &shown)?;
+    let roots = roots(options, &seal, &shown)?;
+    // A tail is checked under no challenge; the statement takes a list of the right length.
+    let challenges = vec![Word(0); seal.shape.n];
+    let checked = statement(&seal, &roots, &challenges)
+        .and_then(|statement| statement.check_tail(claim, &shown.tail));
+    let notes = seal
+        .notes
+        .iter()
+        .cloned()
+        .chain(changed_note(&shown.changed()));
+    let outcome = match checked {
+        Ok(()) => sound(roots.kept, &last_level(&shown.tail, seal.shape.k)),
+        Err(refusal) => Outcome::refused(&refusal),
+    };
+    Ok(outcome.notes(notes))
+}
+
+/// A tail shows something of the deposit only under a root that the checker had before.
+fn sound(kept: bool, level: &[Word]) -> Outcome {
+    let what = format!(
+        "the last level has {} words, the first being the terminal claim",
         level.len()
-    )];
-    lines.extend(
-        level
-            .iter()
-            .enumerate()
-            .map(|(eps, word)| format!("tail {eps} {word}")),
     );
-    let json = Json::object([
-        ("accepted", Json::Bool(true)),
-        ("tail", Json::List(level.iter().map(Json::text).collect())),
-    ]);
-    Ok(Outcome::done(lines, json))
+    let (verdict, sentence) = if kept {
+        (Verdict::Accepted, format!("tail: accepted; {what}"))
+    } else {
+        (
+            Verdict::OwnQuestions,
+            format!("tail: sound, but under the holder's own roots, so this is no acceptance (--roots FILE names roots that were kept); {what}"),
+        )
+    };
+    Outcome::new(verdict, sentence)
+        .say()
+        .lines(
+            level
+                .iter()
+                .enumerate()
+                .map(|(eps, word)| format!("tail {eps} {word}")),
+        )
+        .found("tail", texts(level))
+        .found(
+            "own_questions",
+            if kept {
+                Json::Null
+            } else {
+                Json::text("roots")
+            },
+        )
 }
 
 /// The words of an accepted tail record: each group's values stand after a count of 4 bytes, and its path after another.
 fn last_level(record: &TailRecord, k: usize) -> Vec<Word> {
     let (count, width) = (1usize << k, fold_tree_width(1 << k));
-    let group = 8 + 16 * width + 32 * (count / width).ilog2() as usize;
+    let group = 8 + 16 * width + 32 * (count / width).trailing_zeros() as usize;
     let word = |at: usize| {
         Word(u128::from_le_bytes(
             record.bytes()[at..at + 16].try_into().expect("16 bytes"),

@@ -1,15 +1,19 @@
-//! Challenges and positions: from the checker's files, or, for trying it out, drawn from a seed text.
+//! What a checker asks: challenges and positions, from the checker's own files or, for trying it out, drawn from a seed text.
 
-use crate::files::read_text;
+use crate::lines::{items, most_bytes};
 use crate::options::Options;
 use crate::outcome::Failure;
-use crate::seal::{list, Shape};
+use crate::reading::named_text;
+use crate::shape::Shape;
 use dequmlo::Word;
 use std::collections::BTreeSet;
 
-/// What a person must know about challenges from a seed.
-pub const SEED_WARNING: &str = "the challenges come from a seed text: good for trying it out, and no substitute for challenges that the \
-                                checker draws itself after the root is known";
+/// What a person must know about questions from a seed.
+pub const SEED_WARNING: &str = "the questions come from a seed text: good for trying it out, and no substitute for challenges and positions \
+                                that the checker draws after the root is known";
+
+/// The most bytes that a file of positions is read for.
+const MOST_POSITIONS: usize = 1 << 20;
 
 /// The challenges that the options name, and where they come from; none where they name none.
 pub fn challenges(options: &Options, n: usize) -> Result<Option<(Vec<Word>, String)>, Failure> {
@@ -17,10 +21,10 @@ pub fn challenges(options: &Options, n: usize) -> Result<Option<(Vec<Word>, Stri
     match (options.path("--challenges"), seed) {
         (Some(_), Some(_)) => Err(Failure("--challenges and --seed exclude each other".into())),
         (Some(path), None) => {
-            let words: Vec<Word> = list(&path)?;
+            let words: Vec<Word> = items(&path, &named_text(&path, most_bytes(n, 32))?)?;
             if words.len() != n {
                 return Err(Failure(format!(
-                    "{} has {} words, and n is {n}",
+                    "{} has {} words, and this seal takes {n} challenges",
                     path.display(),
                     words.len()
                 )));
@@ -35,16 +39,20 @@ pub fn challenges(options: &Options, n: usize) -> Result<Option<(Vec<Word>, Stri
     }
 }
 
-/// The positions that the options name, rising, each once; none where they name none.
-pub fn positions(options: &Options) -> Result<Option<Vec<usize>>, Failure> {
+/// The positions that the options name, or that a seed draws, rising, each once; none where they name none. `--count 0` names the empty list.
+pub fn positions(options: &Options, shape: &Shape) -> Result<Option<Vec<usize>>, Failure> {
+    let count = options.number("--count")?;
     let given = match (options.text("--at")?, options.path("--positions")) {
         (Some(_), Some(_)) => {
             return Err(Failure("--at and --positions exclude each other".into()))
         }
         (Some(text), None) => text.replace(',', " "),
-        (None, Some(path)) => read_text(&path)?,
-        (None, None) => return Ok(None),
+        (None, Some(path)) => named_text(&path, MOST_POSITIONS)?,
+        (None, None) => return drawn(options, shape, count),
     };
+    if count.is_some() {
+        return Err(Failure("--count excludes --at and --positions".into()));
+    }
     let read = |word: &str| {
         word.parse()
             .map_err(|_| Failure(format!("`{word}` is no position")))
@@ -56,9 +64,24 @@ pub fn positions(options: &Options) -> Result<Option<Vec<usize>>, Failure> {
     Ok(Some(positions.into_iter().collect()))
 }
 
+fn drawn(
+    options: &Options,
+    shape: &Shape,
+    count: Option<usize>,
+) -> Result<Option<Vec<usize>>, Failure> {
+    match (options.text("--seed")?, count) {
+        (Some(seed), _) => Ok(Some(seeded(&seed, shape, count.unwrap_or(shape.queries())))),
+        (None, Some(0)) => Ok(Some(Vec::new())),
+        (None, Some(_)) => Err(Failure(
+            "--count draws positions from a seed text, and there is no --seed".into(),
+        )),
+        (None, None) => Ok(None),
+    }
+}
+
 /// So many positions, or all if there are fewer, drawn from a seed text.
-pub fn seeded_positions(seed: &str, shape: &Shape, count: usize) -> Vec<usize> {
-    let all = 1usize << (shape.n + shape.k);
+fn seeded(seed: &str, shape: &Shape, count: usize) -> Vec<usize> {
+    let all = shape.positions();
     let count = count.min(all);
     let mut drawn = BTreeSet::new();
     let mut i = 0;

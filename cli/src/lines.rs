@@ -1,0 +1,51 @@
+//! Text files of words or roots, one to a line. Blanks at a line's ends, a carriage return before its end and empty lines after the last one
+//! are passed over.
+
+use crate::outcome::Failure;
+use std::fmt::Display;
+use std::path::Path;
+use std::str::FromStr;
+
+/// The bytes that a file of so many lines may have: the digits of each, and room for blanks and line ends.
+pub fn most_bytes(lines: usize, digits: usize) -> usize {
+    lines * (digits + 16) + 64
+}
+
+/// The items of a text, one to a line; the path is for what is said of a line that is none.
+pub fn items<T>(path: &Path, text: &str) -> Result<Vec<T>, Failure>
+where
+    T: FromStr,
+    T::Err: Display,
+{
+    text.trim_end()
+        .lines()
+        .enumerate()
+        .map(|(i, line)| {
+            line.trim()
+                .parse()
+                .map_err(|e| Failure(format!("{}, line {}: {e}", path.display(), i + 1)))
+        })
+        .collect()
+}
+
+/// The one item of a text.
+pub fn one<T>(path: &Path, text: &str) -> Result<T, Failure>
+where
+    T: FromStr,
+    T::Err: Display,
+{
+    let mut items: Vec<T> = items(path, text)?;
+    let count = items.len();
+    match items.pop() {
+        Some(item) if count == 1 => Ok(item),
+        _ => Err(Failure(format!(
+            "{} has {count} lines, and it must have one",
+            path.display()
+        ))),
+    }
+}
+
+/// Items as a text.
+pub fn text<T: Display>(items: &[T]) -> String {
+    items.iter().map(|item| format!("{item}\n")).collect()
+}

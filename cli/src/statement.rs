@@ -1,0 +1,123 @@
+//! What an opening is checked under: n, k, the base domain and level 0's root are the seal's; the further roots are those that the checker
+//! kept, or else the opening's.
+
+use crate::lines::{items, most_bytes};
+use crate::options::Options;
+use crate::outcome::Failure;
+use crate::reading::{lies_in, named_text};
+use crate::seal::Seal;
+use crate::shown::Shown;
+use dequmlo::{Refusal, Root, Statement, Word};
+use std::path::Path;
+
+/// The roots of all levels, and whether the checker kept them.
+pub struct Roots {
+    pub all: Vec<Root>,
+    pub kept: bool,
+}
+
+/// The roots to check under. A kept file that is not of this seal is the checker's own fault, and no refusal.
+pub fn roots(options: &Options, seal: &Seal, shown: &Shown) -> Result<Roots, Failure> {
+    let path = match options.path("--roots") {
+        Some(path) => path,
+        None => {
+            let mut all = shown.roots.clone();
+            if let Some(first) = all.first_mut() {
+                *first = seal.root;
+            }
+            return Ok(Roots { all, kept: false });
+        }
+    };
+    let levels = seal.shape.n + 1;
+    let all: Vec<Root> = items(&path, &named_text(&path, most_bytes(levels, 64))?)?;
+    let wrong = |what: String| {
+        Failure(format!(
+            "{} is not the list of roots that was kept for this seal: {what}. It is damaged, or belongs to another seal; nothing is said of the \
+             opening",
+            path.display()
+        ))
+    };
+    if all.len() != levels {
+        return Err(wrong(format!(
+            "it has {} roots, and this seal has {levels} levels",
+            all.len()
+        )));
+    }
+    if all[0] != seal.root {
+        return Err(wrong("its first root is not the seal's".into()));
+    }
+    Ok(Roots { all, kept: true })
+}
+
+/// Fails where a file that must be the checker's own is one of the opening's.
+pub fn checker_s_own(options: &Options, opening: &Path) -> Result<(), Failure> {
+    for name in ["--challenges", "--positions", "--roots"] {
+        if let Some(path) = options.path(name).filter(|path| lies_in(path, opening)) {
+            return Err(Failure(format!(
+                "{} lies in the opening, so it is the holder's; {name} takes the checker's own file",
+                path.display()
+            )));
+        }
+    }
+    Ok(())
+}
+
+pub fn statement(seal: &Seal, roots: &Roots, challenges: &[Word]) -> Result<Statement, Refusal> {
+    let shape = &seal.shape;
+    Statement::new(&shape.domain, shape.n, shape.k, challenges, &roots.all)
+}
+
+/// The terminal claim: the checker's, or the opening's.
+pub fn claim(options: &Options, shown: &Shown) -> Result<Word, Failure> {
+    match options.text("--claim")? {
+        Some(text) => text.parse().map_err(|e| Failure(format!("--claim: {e}"))),
+        None => Ok(shown.claim),
+    }
+}
+
+/// Where the opening does not fit the seal and the checker's own files, and which side that speaks against.
+pub fn misfits(seal: &Seal, shown: &Shown, roots: &Roots, challenges: &[Word]) -> Vec<String> {
+    let mut notes = Vec::new();
+    match &shown.shape {
+        Ok(shape) if *shape == seal.shape => (),
+        Ok(_) => notes.push("the opening names another n, k or base domain than the seal: it was made for another seal".into()),
+        Err(Failure(what)) => notes.push(format!("the opening does not say for which n, k and base domain it was made: {what}")),
+    }
+    notes.extend(another_root(seal, shown));
+    if roots.kept {
+        let differs = (1..roots.all.len()).find(|l| shown.roots.get(*l) != roots.all.get(*l));
+        notes.extend(differs.map(|l| {
+            format!("the root of level {l} in the opening is not the one that was kept: the holder changed it, or the kept file was changed")
+        }));
+    }
+    match &shown.challenges {
+        Ok(words) if words == challenges => (),
+        Ok(words) => {
+            let l = words
+                .iter()
+                .zip(challenges)
+                .take_while(|(a, b)| a == b)
+                .count();
+            notes.push(format!("the opening was made by other challenges than the checker's; the first that differs is that of level {l}"));
+        }
+        Err(Failure(what)) => notes.push(format!(
+            "the opening does not say by which challenges it was made: {what}"
+        )),
+    }
+    notes
+}
+
+/// An opening that was made for another root: a sound seal speaks against the opening, one without check lines against neither.
+fn another_root(seal: &Seal, shown: &Shown) -> Option<String> {
+    let made_for = shown.roots.first().filter(|root| **root != seal.root)?;
+    let whose = if seal.vouched {
+        "The seal is as it was written, by its own check lines: the opening belongs to another deposit, or its roots.txt was changed"
+    } else {
+        "The seal has no check lines, so it cannot be told whether its root.txt was changed or the opening is the wrong one: compare the root \
+         with the one in the seal's summary.txt, or with a copy of the seal"
+    };
+    Some(format!(
+        "the opening says that it was made for the root {made_for}, and the seal's root is {}. {whose}",
+        seal.root
+    ))
+}

@@ -1,0 +1,41 @@
+//! The few functions of the C library that the standard library does not have at the Rust version that this program asks for (x86-64 Linux,
+//! as the archive).
+
+use std::fs::File;
+use std::io::Error;
+use std::os::raw::c_int;
+use std::os::unix::io::AsRawFd;
+
+extern "C" {
+    fn signal(number: c_int, handler: usize) -> usize;
+    fn flock(file: c_int, operation: c_int) -> c_int;
+    fn isatty(file: c_int) -> c_int;
+}
+
+/// For opening: a named pipe is opened without waiting for somebody who writes.
+pub const O_NONBLOCK: c_int = 0o4000;
+/// For opening: a link is not followed.
+pub const O_NOFOLLOW: c_int = 0o400_000;
+
+const SIGPIPE: c_int = 13;
+const SIG_DFL: usize = 0;
+const LOCK_EX: c_int = 2;
+const LOCK_NB: c_int = 4;
+const EWOULDBLOCK: i32 = 11;
+
+/// A closed pipe ends this program silently, as it ends other programs.
+pub fn end_at_a_closed_pipe() {
+    unsafe { signal(SIGPIPE, SIG_DFL) };
+}
+
+/// Whether standard error is a terminal.
+pub fn stderr_is_a_terminal() -> bool {
+    unsafe { isatty(2) == 1 }
+}
+
+/// Locks an open file or folder against other runs until it is closed. False where another run has it; a file system that has no locks
+/// counts as locked, and what protects a folder there is that renaming replaces no folder that holds a file.
+pub fn try_lock(file: &File) -> bool {
+    let locked = unsafe { flock(file.as_raw_fd(), LOCK_EX | LOCK_NB) } == 0;
+    locked || Error::last_os_error().raw_os_error() != Some(EWOULDBLOCK)
+}

@@ -1,0 +1,159 @@
+//! A folder for one test, and the program run in it as a user runs it. Not every test file uses all of it.
+#![allow(dead_code)]
+
+use std::ffi::OsStr;
+use std::fs;
+use std::path::{Path, PathBuf};
+use std::process::Command;
+
+/// The words of a check by the checker's own questions, for what `Desk::opened` made.
+pub const CHECK: &str = "check plan.txt.opening --seal plan.txt.seal --seed dice --at 7,0,127";
+
+/// A folder for one test, empty at its start.
+pub struct Desk(pub PathBuf);
+
+impl Desk {
+    pub fn new(name: &str) -> Desk {
+        let folder = Path::new(env!("CARGO_TARGET_TMPDIR")).join(name);
+        let _ = fs::remove_dir_all(&folder);
+        fs::create_dir_all(&folder).unwrap();
+        Desk(folder)
+    }
+
+    /// A desk with a sealed file and its opening at three positions.
+    pub fn opened(name: &str) -> Desk {
+        let desk = Desk::new(name);
+        desk.write("plan.txt", &plan());
+        assert_eq!(desk.run("commit plan.txt").status, 0);
+        let open = "open plan.txt --seal plan.txt.seal --seed dice --at 7,0,127";
+        assert_eq!(desk.run(open).status, 0);
+        desk
+    }
+
+    /// The same as version 0.1.0 left it, without check lines.
+    pub fn old(name: &str) -> Desk {
+        let desk = Desk::opened(name);
+        let _ = fs::remove_file(desk.path("plan.txt.seal/check.txt"));
+        let _ = fs::remove_file(desk.path("plan.txt.opening/check.txt"));
+        desk
+    }
+
+    pub fn path(&self, name: &str) -> PathBuf {
+        self.0.join(name)
+    }
+
+    pub fn write(&self, name: &str, bytes: &[u8]) {
+        fs::write(self.path(name), bytes).unwrap();
+    }
+
+    pub fn read(&self, name: &str) -> Vec<u8> {
+        fs::read(self.path(name)).unwrap()
+    }
+
+    pub fn text(&self, name: &str) -> String {
+        String::from_utf8(self.read(name)).unwrap()
+    }
+
+    /// Changes one bit of a byte.
+    pub fn damage(&self, name: &str, byte: usize) {
+        let mut bytes = self.read(name);
+        bytes[byte] ^= 1;
+        self.write(name, &bytes);
+    }
+
+    /// A copy of a file of the opening, as a checker who drew or kept it has it.
+    pub fn keep(&self, name: &str) {
+        fs::copy(self.path("plan.txt.opening").join(name), self.path(name)).unwrap();
+    }
+
+    pub fn folder(&self, name: &str) {
+        fs::create_dir(self.path(name)).unwrap();
+    }
+
+    pub fn names(&self, folder: &str) -> Vec<String> {
+        let mut names: Vec<String> = fs::read_dir(self.path(folder))
+            .unwrap()
+            .map(|e| e.unwrap().file_name().into_string().unwrap())
+            .collect();
+        names.sort();
+        names
+    }
+
+    /// The program, ready to be run in this folder.
+    pub fn command<W: AsRef<OsStr>>(&self, words: impl IntoIterator<Item = W>) -> Command {
+        let mut command = Command::new(env!("CARGO_BIN_EXE_seal"));
+        command.args(words).current_dir(&self.0);
+        command
+    }
+
+    /// Runs the program with these words.
+    pub fn seal<W: AsRef<OsStr>>(&self, words: impl IntoIterator<Item = W>) -> Run {
+        Run::of(&mut self.command(words))
+    }
+
+    /// Runs the program with the words of a line, none of which has a blank.
+    pub fn run(&self, line: &str) -> Run {
+        self.seal(line.split_whitespace())
+    }
+
+    /// The same with at most 10 seconds and 2 GB, for what might stall or fill the machine.
+    pub fn limited(&self, line: &str) -> Run {
+        let limited = "ulimit -v 2000000; exec timeout 10 \"$0\" \"$@\"";
+        let mut command = Command::new("sh");
+        command
+            .args(["-c", limited, env!("CARGO_BIN_EXE_seal")])
+            .args(line.split_whitespace())
+            .current_dir(&self.0);
+        Run::of(&mut command)
+    }
+
+    pub fn check(&self) -> Run {
+        self.run(CHECK)
+    }
+}
+
+/// The file that is sealed.
+pub fn plan() -> Vec<u8> {
+    "a ground plan, and a section through the stairs\n"
+        .repeat(20)
+        .into_bytes()
+}
+
+/// What a run printed, and its exit status.
+#[derive(Debug)]
+pub struct Run {
+    pub status: i32,
+    pub out: String,
+    pub err: String,
+}
+
+impl Run {
+    pub fn of(command: &mut Command) -> Run {
+        let output = command.output().unwrap();
+        Run {
+            status: output.status.code().unwrap_or(-1),
+            out: String::from_utf8(output.stdout).unwrap(),
+            err: String::from_utf8(output.stderr).unwrap(),
+        }
+    }
+
+    pub fn printed(&self) -> String {
+        format!("{}{}", self.out, self.err)
+    }
+
+    /// Fails unless the status is this one and each text stands in what was printed.
+    pub fn says(&self, status: i32, texts: &[&str]) {
+        let printed = self.printed();
+        assert_eq!(self.status, status, "{printed}");
+        for text in texts {
+            assert!(printed.contains(text), "{text:?} is not in {printed:?}");
+        }
+    }
+
+    pub fn does_not_say(&self, texts: &[&str]) {
+        let printed = self.printed();
+        for text in texts {
+            assert!(!printed.contains(text), "{text:?} is in {printed:?}");
+        }
+    }
+}
