@@ -14,12 +14,14 @@ abbrev μ-loop : tie.MeasureT-loop
 μ-loop bytes lengths out₀ to₀ from₀ i₀ out to from i = length lengths - i
 
 put-number-requires : tie.Need-put-number-requires Inv-loop μ-loop
-put-number-requires c κs = let start = c .before .before .before .before in omega (arith, start .pre .size)
+put-number-requires c κs =
+    let start : tie.Start Inv-loop μ-loop = search in
+    omega (arith, start .pre .size)
 
 loop-holds : tie.Need-loop-holds Inv-loop μ-loop
 loop-holds c =
-    let put = c .before .before in
-    let start = put .before .before .before .before .before in
+    let start : tie.Start Inv-loop μ-loop = search in
+    let put : tie.After-put-number Inv-loop μ-loop = search in
     (refl, left-begin _ _ _ _ _ (start .pre) (put .put-number .ensures))
 
 mul-end : tie.Need-mul-end Inv-loop μ-loop
