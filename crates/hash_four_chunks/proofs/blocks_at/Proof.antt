@@ -44,7 +44,7 @@ returns c =
     let after-store = after-block-words2 .before in
     let after-block-words = after-store .before .before in
     let a = start .args in
-    four-lanes (λ (s : List ℕ). B.block (part (a .n) (a .from) s)) (now (a .s0)) (now (a .s1)) (now (a .s2)) (now (a .s3)) _ _ _ _ _ _ _ _ _
+    four-lanes (λ (s : List ℕ). B.block (part (a .n) (a .from) s)) (now (a .s0)) (now (a .s1)) (now (a .s2)) (now (a .s3))
     (after-block-words .block-words .ensures) (after-store .store .ensures) (after-block-words2 .block-words2 .ensures)
     (after-store2 .store2 .ensures) (after-block-words3 .block-words3 .ensures) (after-store3 .store3 .ensures)
     (c .before .before .block-words4 .ensures) (c .store4 .ensures)
