@@ -4,7 +4,8 @@ use mathlib.Core.Path.{_≡_, refl, sym, ap, ap₂, _∙_, subst}
 use mathlib.Core.Bool.{Bool, true, false, _&&_}
 use mathlib.Core.Logic.{_⊎_, inl, inr, ⊎-elim}
 use Prim.Native.Nat.{ℕ, zero, suc, _+_, _-_, _*_, _/_, _%_, _^_, _≤_, _<_, zero-le, suc-le-suc}
-use native.Mathlib.Nat.{mul-comm, pow-succ', not-suc-le-zero, zero-lt-suc, div-add-mod', zero-mul, one-mul, le-of-suc-le-suc, pow-suc, eq-or-lt-of-le, mod-lt, mod-eq-of-lt}
+use native.Mathlib.Nat.{mul-comm, zero-mul, one-mul, pow-suc, pow-succ', div-add-mod', mod-lt, mod-eq-of-lt}
+use native.Mathlib.Nat.{not-suc-le-zero, zero-lt-suc, le-of-suc-le-suc, eq-or-lt-of-le}
 use lib.Pow.{pow-pos, pow-lt}
 use native.Mathlib.Omega.{arith}
 use native.Mathlib.Decide.{le-ind}

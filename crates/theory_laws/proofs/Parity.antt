@@ -76,4 +76,6 @@ pub bit-other : (i b : ℕ) → i ≢ b → 2 ^ b / 2 ^ i % 2 ≡ 0
 bit-other zero zero h = absurd (h refl)
 bit-other zero (suc b) h = rw (div-one (2 ^ suc b)) (omega arith)
 bit-other (suc i) zero h = ap (λ x. x % 2) (sym (high-half 1 i) ∙ ap (λ x. x / 2 ^ i) {x = 1 / 2} {y = 0} refl ∙ zero-div (2 ^ i))
-bit-other (suc i) (suc b) h = ap (λ x. x % 2) (sym (high-half (2 ^ suc b) i) ∙ ap (λ x. x / 2 ^ i) {x = 2 ^ suc b / 2} {y = 2 ^ b} (omega arith)) ∙ bit-other i b (λ e. h (ap suc e))
+bit-other (suc i) (suc b) h =
+    let half : 2 ^ suc b / 2 ≡ 2 ^ b = omega arith in
+    ap (λ x. x % 2) (sym (high-half (2 ^ suc b) i) ∙ ap (λ x. x / 2 ^ i) half) ∙ bit-other i b (λ e. h (ap suc e))

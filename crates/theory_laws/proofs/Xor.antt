@@ -7,7 +7,8 @@ use native.Mathlib.Nat.{mod-lt, zero-lt-suc, add-zero, zero-add, mul-comm, div-a
 use native.Mathlib.Omega.{arith}
 use lib.Arith.{bin-ind, digits-mod}
 use lib.Pow.{pow-pos}
-use lib.Bits.{bitAnd, and-shr, and-step, and-zero-r, bitXor, differ, xor-step, xor-zero-l, xor-zero-r, xor-comm, xor-self, xor-lt, xor-block, xor-shr, xor-mod, xor-shifted}
+use lib.Bits.{bitAnd, and-shr, and-step, and-zero-r}
+use lib.Bits.{bitXor, differ, xor-step, xor-zero-l, xor-zero-r, xor-comm, xor-self, xor-lt, xor-block, xor-shr, xor-mod, xor-shifted}
 use Rattle.theory_laws.specs.Xor.{_⊕_, bit, sel}
 
 -- ---- bits
@@ -175,7 +176,9 @@ and-half : (a m : ℕ) → bitAnd a m / 2 ≡ bitAnd (a / 2) (m / 2)
 and-half a m = and-shr a m 1
 
 and-odd : (a m : ℕ) → bitAnd a m % 2 ≡ min (a % 2) (m % 2)
-and-odd a m = ap (λ (x : ℕ). x % 2) (and-step a m) ∙ digits-mod (bitAnd (a / 2) (m / 2)) (lt-of-le-of-lt (min-le-left (a % 2) (m % 2)) (mod-lt a (zero-lt-suc 1)))
+and-odd a m =
+    let digit = lt-of-le-of-lt (min-le-left (a % 2) (m % 2)) (mod-lt a (zero-lt-suc 1)) in
+    ap (λ (x : ℕ). x % 2) (and-step a m) ∙ digits-mod (bitAnd (a / 2) (m / 2)) digit
 
 pub and-⊕ : (a b m : ℕ) → bitAnd (a ⊕ b) m ≡ bitAnd a m ⊕ bitAnd b m
 and-⊕ a b m = go m a b

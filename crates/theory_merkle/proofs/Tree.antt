@@ -1,14 +1,14 @@
 -- A tree over a list of values: its leaves, its size, and the path of a place that leads to its root, over the width as a variable.
 use Prim.Native.Nat.{ℕ, zero, suc, _+_, _*_, _-_, _/_, _^_, _≤_, _<_}
 use mathlib.Core.Path.{_≡_, refl, sym, _∙_, ap, ap₂}
-use mathlib.Core.List.{List, [], _∷_, append-nil}
+use mathlib.Core.List.{List, [], _∷_}
 use native.Mathlib.Nat.{div-self}
 use native.Mathlib.Omega.{arith}
 use lib.Pow.{pow-pos}
 use lib.ListN.{length, getD}
 use lib.Seq.{take-all}
 use Rattle.theory_laws.specs.Lists.{part, runs, flat}
-use Rattle.theory_laws.proofs.Lists.{AllLong, length-runs, getD-runs, runs-flat, length-flat}
+use Rattle.theory_laws.proofs.Lists.{AllLong, length-runs, getD-runs, runs-of-flat, length-flat}
 use Rattle.theory_merkle.specs.Message.{leafMessage}
 use Rattle.theory_merkle.specs.Tree.{groupOf, log2, depthOf, treeSize, root, path, endToEnd, leafDigest, leavesFrom, leaves}
 use Rattle.theory_merkle.specs.Tree.{levelsFrom, levels, climb, leafOf, treeOf, rootOf, rootOfPath, pathOf}
@@ -106,9 +106,8 @@ module _ (H : List ℕ → List ℕ) (domain : List ℕ) (count width : ℕ) whe
 pub runs-tree : (H : List ℕ → List ℕ) (domain : List ℕ) (count width : ℕ) → ((m : List ℕ) → length (H m) ≡ 32) → Shape count width → (values : List ℕ)
     → runs 32 (treeSize count width) (flat (treeOf H domain count width values)) ≡ treeOf H domain count width values
 runs-tree H domain count width sized shape values =
-    let t : List (List ℕ) = treeOf H domain count width values in
-    ap₂ (λ (n : ℕ) (bs : List ℕ). runs 32 n bs) (sym (length-treeOf H domain count width shape values)) (sym (append-nil (flat t)))
-    ∙ runs-flat 32 t [] (treeOf-long H domain count width sized values)
+    runs-of-flat 32 (treeSize count width) (treeOf H domain count width values) (length-treeOf H domain count width shape values)
+    (treeOf-long H domain count width sized values)
 
 pub length-flat-tree : (H : List ℕ → List ℕ) (domain : List ℕ) (count width : ℕ) → ((m : List ℕ) → length (H m) ≡ 32) → Shape count width → (values : List ℕ)
     → length (flat (treeOf H domain count width values)) ≡ 32 * treeSize count width
@@ -139,8 +138,7 @@ opened-bytes-lead-to-root H domain count width sized shape values place h =
     let t : List (List ℕ) = treeOf H domain count width values in
     let ss : List (List ℕ) = pathOf count width place t in
     let long = pathOf-long count width place t shape h (treeOf-long H domain count width sized values) (length-treeOf H domain count width shape values) in
-    let e : runs 32 (depthOf count width) (flat ss) ≡ ss =
-    ap₂ (λ (n : ℕ) (bs : List ℕ). runs 32 n bs) (sym (length-pathOf count width place t)) (sym (append-nil (flat ss))) ∙ runs-flat 32 ss [] long in
+    let e : runs 32 (depthOf count width) (flat ss) ≡ ss = runs-of-flat 32 (depthOf count width) ss (length-pathOf count width place t) long in
     let rootFrom : List (List ℕ) → List ℕ = rootOfPath H domain count width place (groupValues width place values) in
     ap (λ (l : List (List ℕ)). rootFrom (runs 32 (depthOf count width) (flat (pathOf count width place l))))
     (runs-tree H domain count width sized shape values)
