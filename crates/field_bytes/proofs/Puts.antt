@@ -57,11 +57,11 @@ words-step out to ws start count i r out′ k w e p f h n =
     drop-cons ws (start + i) 0 (omega arith) ∙ rw (← f) (ap (λ (j : ℕ). w ∷ drop j ws) s) in
     rw (add-one, put-after p, p .bytes, ← stored-append out to (leBytes 16 w)) (rw (m, d) at e)
 
-pub words-put : (o out : List ℕ) (from to : ℕ) (ws : List ℕ) (start count i : ℕ)
+pub words-put : {o out : List ℕ} {from to : ℕ} (ws : List ℕ) (start count i : ℕ)
     → wordsLeft out to ws start count i ≡ stored o from (wordBytes ws start count) → count ≤ i → i ≤ count → to ≡ from + 16 * i
     → start + count ≤ length ws → Put o from (16 * count) (wordBytes ws start count) out to
 unfolding wordsLeft part flat
-words-put o out from to ws start count i e h g f n =
+words-put {from = from} ws start count i e h g f n =
     let m : count - i ≡ 0 = omega arith in
     let c : i ≡ count = omega arith in
     record {

@@ -29,9 +29,9 @@ which-length blocks a b c d (suc (suc zero)) f = f .third
 which-length blocks a b c d (suc (suc (suc k))) f = f .fourth
 
 -- n bytes from a place on lie within the four lists if they lie within the first
-pub block-within : (blocks from n : ℕ) (a b c d : List ℕ) → Four blocks a b c d → n ≤ 64 → from + n ≤ length a
+pub block-within : {blocks from n : ℕ} {a b c d : List ℕ} → Four blocks a b c d → n ≤ 64 → from + n ≤ length a
     → Block from n (length a) (length b) (length c) (length d)
-block-within blocks from n a b c d f small h = record {
+block-within f small h = record {
   block = small;
   first = h;
   second = omega (arith, f .second);

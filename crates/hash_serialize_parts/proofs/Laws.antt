@@ -78,8 +78,8 @@ pub record Left (ls bs out : List ℕ) (to from i : ℕ) : Type 0 where
   pub size : length out ≡ to + 8 * (length ls - i) + (length bs - from)
   pub rest : stored out to (body (drop i ls) (drop from bs)) ≡ serialized ls bs
 
-pub left-begin : (ls bs out₀ out : List ℕ) (to : ℕ) → Sized ls (length bs) (length out₀) → Put out₀ 0 8 (leBytes 8 (length ls)) out to → Left ls bs out to 0 0
-left-begin ls bs out₀ out to s p =
+pub left-begin : {ls bs out₀ out : List ℕ} {to : ℕ} → Sized ls (length bs) (length out₀) → Put out₀ 0 8 (leBytes 8 (length ls)) out to → Left ls bs out to 0 0
+left-begin {ls} {bs} {out₀} {out} {to} s p =
     let n : length out ≡ length out₀ = ap length (p .bytes) ∙ length-stored out₀ 0 (leBytes 8 (length ls)) in
     let first = leBytes 8 (length ls) in
     let b = length-body ls bs (omega (arith, s .sum)) in
@@ -99,23 +99,23 @@ pub record Room (ls bs out : List ℕ) (to from i : ℕ) : Type 0 where
   pub lies : from + at ls i ≤ length bs
   pub room : to + 8 + at ls i ≤ length out
 
-pub left-room : (ls bs out : List ℕ) (to from i : ℕ) → i < length ls → Left ls bs out to from i → Room ls bs out to from i
-left-room ls bs out to from i h r =
+pub left-room : {ls bs out : List ℕ} {to from i : ℕ} → i < length ls → Left ls bs out to from i → Room ls bs out to from i
+left-room {ls} {bs} {out} {to} {from} {i} h r =
     let n = total-next ls i h in
     record { lies = omega (arith, r .sum, r .bytes); room = omega (arith, r .sum, r .bytes, r .size) }
 
 -- the length of part i, as it is lent
-pub part-length : (ls bs out : List ℕ) (to from i : ℕ) → Room ls bs out to from i → length (take (from + at ls i - from) (drop from bs)) ≡ at ls i
-part-length ls bs out to from i r = ap length (lent-part (at ls i) from bs) ∙ length-part (at ls i) from bs (r .lies)
+pub part-length : {ls bs out : List ℕ} {to from i : ℕ} → Room ls bs out to from i → length (take (from + at ls i - from) (drop from bs)) ≡ at ls i
+part-length {ls} {bs} {from = from} {i = i} r = ap length (lent-part (at ls i) from bs) ∙ length-part (at ls i) from bs (r .lies)
 
-pub left-turn : (ls bs out p out′ : List ℕ) (to from i to′ : ℕ) → i < length ls → Left ls bs out to from i → p ≡ take (from + at ls i - from) (drop from bs)
+pub left-turn : {ls bs out p out′ : List ℕ} {to from i to′ : ℕ} → i < length ls → Left ls bs out to from i → p ≡ take (from + at ls i - from) (drop from bs)
     → Put out to (8 + length p) (prefixed p) out′ to′ → Left ls bs out′ to′ (from + at ls i) (i + 1)
 unfolding body cut flat part
-left-turn ls bs out p out′ to from i to′ h r f q =
+left-turn {ls} {bs} {out} {p} {out′} {to} {from} {i} {to′} h r f q =
     let l = at ls i in
     let n = total-next ls i h in
     let e : p ≡ take l (drop from bs) = f ∙ lent-part l from bs in
-    let lp : length p ≡ l = ap length f ∙ part-length ls bs out to from i (left-room ls bs out to from i h r) in
+    let lp : length p ≡ l = ap length f ∙ part-length (left-room h r) in
     let g = rw (drop-cons ls i 0 h, drop-drop l from bs) at (r .rest) in
     let m : length out′ ≡ length out = ap length (q .bytes) ∙ length-stored out to (prefixed p) in
     let after = body (drop (suc i) ls) (drop (from + l) bs) in
@@ -129,9 +129,9 @@ left-turn ls bs out p out′ to from i to′ h r f q =
           ∙ ap (λ (x : List ℕ). stored out to (prefixed x ++ after)) e ∙ g);
     }
 
-pub left-end : (ls bs out : List ℕ) (to from i : ℕ) → length ls ≤ i → Left ls bs out to from i → out ≡ serialized ls bs
+pub left-end : {ls bs out : List ℕ} {to from i : ℕ} → length ls ≤ i → Left ls bs out to from i → out ≡ serialized ls bs
 unfolding body cut flat
-left-end ls bs out to from i h r = rw (drop-of-length-le ls {i = i} h, stored-nil) at (r .rest)
+left-end {ls} {i = i} h r = rw (drop-of-length-le ls {i = i} h, stored-nil) at (r .rest)
 
 -- ---- the question
 

@@ -60,8 +60,10 @@ returns : tie.Need-returns Inv-loop μ-loop
 returns c =
     let start : tie.Start Inv-loop μ-loop = search in
     let here : tie.At-loop Inv-loop μ-loop = search in
+    let a = start .args in
     let held = here .loop .inv in
-    words-put _ _ _ _ _ _ _ _ (held .3) (c .loop-test .left) (held .0) (held .2) (words-there _ _ (start .pre .0))
+    words-put (words (now (a .values))) (a .start) (a .count) (here .loop .i) (held .3) (c .loop-test .left) (held .0) (held .2)
+    (words-there _ _ (start .pre .0))
 
 pub put-words-spec : {M : Type 1} → statement M
 put-words-spec =

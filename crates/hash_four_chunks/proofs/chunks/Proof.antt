@@ -40,7 +40,7 @@ sub-loop c = omega arith
 blocks-at-requires : tie.Need-blocks-at-requires Inv-loop μ-loop
 blocks-at-requires c κs =
     let start : tie.Start Inv-loop μ-loop = search in
-    block-within _ _ _ _ _ _ _ (start .pre) (omega arith) (omega arith)
+    block-within (start .pre) (omega arith) (omega arith)
 
 start-flag-requires : tie.Need-start-flag-requires Inv-loop μ-loop
 start-flag-requires c κs = search needs
@@ -82,7 +82,7 @@ sub-n c = omega arith
 blocks-at-requires-2 : tie.Need-blocks-at-requires-2 Inv-loop μ-loop
 blocks-at-requires-2 c κs =
     let start : tie.Start Inv-loop μ-loop = search in
-    block-within _ _ _ _ _ _ _ (start .pre) (omega arith) (omega arith)
+    block-within (start .pre) (omega arith) (omega arith)
 
 start-flag-requires-2 : tie.Need-start-flag-requires-2 Inv-loop μ-loop
 start-flag-requires-2 c κs = search needs
