@@ -1,4 +1,4 @@
--- `reader::peek` meets its contract: a walk of its MIR, by hand. The struct is taken apart, and `window_at` is called on the slice and the
+-- `bytes_reader::peek` meets its contract: a walk of its MIR, by hand. The struct is taken apart, and `window_at` is called on the slice and the
 -- number. All that the proof knows of `window_at` is that it meets its contract.
 -- The struct is Copy: what it owns is had twice, one copy is kept whole for the exit, and of the other what src owns goes to the callee, beside
 -- the lifetime's token, which comes back.

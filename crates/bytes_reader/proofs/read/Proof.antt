@@ -1,4 +1,4 @@
--- `reader::read` meets its contract: a walk of its MIR, by hand. A `RecordReader` that one call returns is held in a local and passed to
+-- `bytes_reader::read` meets its contract: a walk of its MIR, by hand. A `RecordReader` that one call returns is held in a local and passed to
 -- `peek`. All that the proof knows of `reader_at` and of `peek` is that each meets its contract.
 -- The machine value that `reader_at` returns is stored and passed on as it is. In a local of a body MIR erases the lifetime of the struct's
 -- type, so the value is shown to have the type at `erased`: what the struct owns does not say the lifetime's name.

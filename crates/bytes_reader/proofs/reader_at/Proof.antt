@@ -1,4 +1,4 @@
--- `reader::reader_at` meets its contract: a walk of its MIR, by hand. A `RecordReader` is made of the slice and the number passed, in the
+-- `bytes_reader::reader_at` meets its contract: a walk of its MIR, by hand. A `RecordReader` is made of the slice and the number passed, in the
 -- result's local.
 -- A `&[u8]` is Copy, so what it owns is had twice: once for src at exit, and once inside the result, beside the facts of at.
 -- Assumes nothing.
