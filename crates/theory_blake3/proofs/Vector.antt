@@ -2,7 +2,6 @@
 -- order of the message's words, and the flags of a root chunk are all in it.
 use mathlib.Core.Path.{_≡_, refl}
 use mathlib.Core.List.{[], _∷_}
-use Prim.Native.Nat.{ℕ}
 use Rattle.theory_laws.specs.Xor.{_⊕_}
 use Rattle.theory_laws.specs.Table.{tab}
 use Rattle.theory_laws.specs.Lists.{part, leValue, leBytes, flat}

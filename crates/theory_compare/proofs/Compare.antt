@@ -13,7 +13,6 @@ use Rattle.theory_laws.specs.Questions.{pick}
 use Rattle.theory_laws.specs.Lists.{same}
 use Rattle.theory_laws.proofs.Lists.{Bytes, same-true, same-refl}
 use Rattle.theory_merkle.specs.Binding.{Found, none, pair}
-use Rattle.theory_record.specs.Widths.{Widths}
 use Rattle.theory_record.specs.Query.{checkQuery}
 use Rattle.theory_record.proofs.Widths.{PowersOfTwo}
 use Rattle.theory_record.proofs.Query.{QueryAccepted, query-accepted, query-zero}

@@ -1,15 +1,14 @@
 -- The product is additive on both sides, commutative and associative, and 1 is its unit: a commutative ring of all numbers.
 use mathlib.Core.Path.{_≡_, refl, sym, ap, ap₂, _∙_}
 use Prim.Native.Nat.{ℕ, zero, suc, _+_, _*_, _/_, _%_, _^_, _<_}
-use native.Mathlib.Nat.{not-suc-le-zero, zero-lt-suc, le-of-suc-le-suc, le-of-suc-le, lt-of-lt-of-le, zero-add, suc-add, two-mul, pow-suc}
+use native.Mathlib.Nat.{not-suc-le-zero, zero-lt-suc, le-of-suc-le-suc, le-of-suc-le, zero-add, suc-add, two-mul, pow-suc}
 use native.Mathlib.Nat.{mod-lt, mod-mod, mod-eq-of-lt, add-mod, mul-mod-left, mul-div-cancel}
-use native.Mathlib.Omega.{arith}
-use lib.Pow.{pow-pos, pow-mono, split, field}
+use lib.Pow.{pow-pos, split, field}
 use lib.Bits.{shifted-half, shifted-even}
-use lib.Dec.{T, eqb, eqb→eq, lit≤, lit<}
+use lib.Dec.{T, eqb, eqb→eq, lit<}
 use Rattle.theory_laws.specs.Xor.{_⊕_, bit, sel}
 use Rattle.theory_laws.proofs.Xor.{zero-⊕, ⊕-zero, ⊕-self, ⊕-dbl, ⊕-mod, ⊕-half, ⊕-swap, ⊕-lt, ⊕-parts}
-use Rattle.theory_laws.proofs.Xor.{⊕-assoc, ⊕-left-comm, ⊕-comm, ⊕-cancel, sel-zero, sel-⊕, sel-odd, sel-bit, sel-lt}
+use Rattle.theory_laws.proofs.Xor.{⊕-assoc, ⊕-left-comm, ⊕-comm, ⊕-cancel, sel-⊕, sel-odd, sel-bit, sel-lt}
 use Rattle.theory_laws.proofs.Linear.{Additive, at-zero, ext, allBelow, below}
 use Rattle.theory_field.specs.Field.{reduction, xtime, mulBits, _⊗_}
 

@@ -1,8 +1,8 @@
 -- Even and odd places: every v is w * 2 or w * 2 + 1. Halves, low bits, and the bits of a power of two.
 use mathlib.Core.Path.{_≡_, refl, sym, ap, _∙_, subst}
-use Prim.Native.Nat.{ℕ, zero, suc, _+_, _-_, _*_, _/_, _%_, _^_, _≤_, _<_}
+use Prim.Native.Nat.{ℕ, zero, suc, _+_, _-_, _*_, _/_, _%_, _^_, _<_}
 use mathlib.Core.Logic.{_≢_}
-use native.Mathlib.Nat.{div-one, zero-div, pow-suc, pow-succ', div-div-eq-div-mul}
+use native.Mathlib.Nat.{div-one, zero-div, pow-succ', div-div-eq-div-mul}
 use native.Mathlib.Numerals.{add-one}
 use lib.Pow.{field, mod-mod-pow, mod-pow-add}
 use native.Mathlib.Omega.{arith}

@@ -1,13 +1,13 @@
 -- The places of pair q at bit i: `ins i 0 q` and `ins i 1 q`. `flip i` goes from one to the other, and `del i` gives q back.
-use mathlib.Core.Path.{_≡_, refl, sym, ap, ap₂, _∙_, subst, fun-ext}
-use mathlib.Core.Logic.{_≢_, _⊎_, inl, inr, ⊎-elim}
+use mathlib.Core.Path.{_≡_, sym, ap, ap₂, _∙_}
+use mathlib.Core.Logic.{_⊎_, inl, inr, ⊎-elim}
 use Prim.Native.Nat.{ℕ, zero, suc, _+_, _-_, _*_, _/_, _%_, _^_, _≤_, _<_}
 use native.Mathlib.Nat.{pow-suc, div-one, mod-one}
 use native.Mathlib.Omega.{arith}
-use lib.Pow.{pow-pos, split}
+use lib.Pow.{split}
 use lib.Arith.{digits-div, digits-mod}
 use Rattle.theory_laws.specs.Places.{ins, del, flip}
-use Rattle.theory_laws.proofs.Parity.{parity, even-half, even-bit, odd-half, odd-bit, by-parity, low-bit, low-half, high-half, mod-double}
+use Rattle.theory_laws.proofs.Parity.{parity, by-parity, low-bit, low-half, high-half, mod-double}
 
 pub ins-even : (i b w : ℕ) → ins (suc i) b (w * 2) ≡ ins i b w * 2
 unfolding ins

@@ -1,14 +1,14 @@
 -- Exclusive or on all naturals: a group in which every element is its own inverse, bit by bit; shifts, parts and masks are
 -- additive, and so is a choice by a bit. Rests on lib.Bits.
-use mathlib.Core.Path.{_≡_, refl, sym, ap, ap₂, _∙_, subst}
-use mathlib.Core.Logic.{_⊎_, inl, inr, ⊎-elim}
-use Prim.Native.Nat.{ℕ, zero, suc, _+_, _-_, _*_, _/_, _%_, _^_, _≤_, _<_, min}
-use native.Mathlib.Nat.{mod-lt, zero-lt-suc, add-zero, zero-add, mul-comm, div-add-mod', zero-mul, one-mul, lt-of-le-of-lt, min-le-left}
+use mathlib.Core.Path.{_≡_, refl, sym, ap, ap₂, _∙_}
+use mathlib.Core.Logic.{_⊎_, inl, inr}
+use Prim.Native.Nat.{ℕ, zero, suc, _+_, _-_, _*_, _/_, _%_, _^_, _<_, min}
+use native.Mathlib.Nat.{mod-lt, zero-lt-suc, add-zero, mul-comm, div-add-mod', zero-mul, one-mul, lt-of-le-of-lt, min-le-left}
 use native.Mathlib.Omega.{arith}
 use lib.Arith.{bin-ind, digits-mod}
 use lib.Pow.{pow-pos}
 use lib.Bits.{bitAnd, and-shr, and-step, and-zero-r}
-use lib.Bits.{bitXor, differ, xor-step, xor-zero-l, xor-zero-r, xor-comm, xor-self, xor-lt, xor-block, xor-shr, xor-mod, xor-shifted}
+use lib.Bits.{xor-zero-l, xor-zero-r, xor-comm, xor-self, xor-lt, xor-block, xor-shr, xor-mod, xor-shifted}
 use Rattle.theory_laws.specs.Xor.{_⊕_, bit, sel}
 
 -- ---- bits

@@ -14,7 +14,7 @@ use Rattle.theory_field.specs.Words.{words}
 use Rattle.theory_merkle.specs.Tree.{groupOf, treeSize}
 use Rattle.theory_merkle.proofs.Tree.{length-treeOf, treeOf-long, treeOf-root, path-of-tree-leads-to-root}
 use Rattle.theory_record.specs.Trees.{groupAt, pathAt, treeFor, rootFor, leadsTo}
-use Rattle.theory_record.specs.Widths.{Widths, levelLength, levelWidth, levelGroups, treeLength}
+use Rattle.theory_record.specs.Widths.{levelLength, levelWidth, levelGroups, treeLength}
 use Rattle.theory_record.specs.Domain.{levelDomain}
 use Rattle.theory_record.specs.Format.{LevelRecord, TailGroup, levelForm, tailForm, recordItems, recordBytes}
 use Rattle.theory_record.specs.Query.{accepted, pairOf, rootAt, checkQuery}

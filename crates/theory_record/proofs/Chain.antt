@@ -12,7 +12,7 @@ use Rattle.theory_laws.proofs.Lists.{length-flat}
 use Rattle.theory_field.specs.Field.{_⊗_}
 use Rattle.theory_field.specs.Words.{words}
 use Rattle.theory_record.specs.Trees.{treeFor, rootFor, levelsLent, treesLent, rootsLent}
-use Rattle.theory_record.specs.Widths.{Widths, levelLength, treeLength}
+use Rattle.theory_record.specs.Widths.{levelLength, treeLength}
 use Rattle.theory_record.specs.Query.{rootAt}
 use Rattle.theory_record.specs.Build.{levelStart, levelsLength, treeStart, levelValues}
 use Rattle.theory_record.proofs.Widths.{PowersOfTwo}

@@ -15,7 +15,7 @@ use Rattle.theory_multilinear.specs.Fold.{line}
 use Rattle.theory_multilinear.specs.Codeword.{encode}
 use Rattle.theory_multilinear.specs.Levels.{level}
 use Rattle.theory_multilinear.proofs.Levels.{length-level, level-lt, level-pair, last-level-first}
-use Rattle.theory_record.specs.Widths.{Widths, levelLength, treeLength}
+use Rattle.theory_record.specs.Widths.{levelLength, treeLength}
 use Rattle.theory_record.specs.Trees.{treeFor, rootFor, levelsLent, treesLent, rootsLent}
 use Rattle.theory_record.specs.Query.{accepted, checkQuery}
 use Rattle.theory_record.specs.Tail.{checkTail}

@@ -10,12 +10,12 @@ use lib.ListN.{length, take, drop, length-append, take-append-drop}
 use lib.Seq.{take-at, drop-at, drop-drop}
 use Rattle.theory_laws.specs.Questions.{both}
 use Rattle.theory_laws.specs.Lists.{part, leValue}
-use Rattle.theory_laws.proofs.Lists.{AllLong, Bytes, length-leBytes, length-part, both-true}
+use Rattle.theory_laws.proofs.Lists.{Bytes, length-leBytes, length-part, both-true}
 pub use Rattle.theory_record.specs.Accepted.{GroupHeld, LevelHeld, TailGroupHeld}
 use Rattle.theory_record.specs.Format.{LevelRecord, TailGroup, levelForm, tailForm, wordBytes, wordAt, runBytes, runFits, runItems}
 use Rattle.theory_record.specs.Format.{levelBytes, fromAGroup, fromCGroup, fromAPath, fromCPath, afterLevel, levelFits, levelRead}
 use Rattle.theory_record.specs.Format.{tailGroupBytes, fromTailPath, afterTailGroup, tailGroupFits, tailGroupOf}
-use Rattle.theory_record.proofs.Runs.{Few, Words, word-back, words-back, RunBack, run-back, word-run-back}
+use Rattle.theory_record.proofs.Runs.{word-back, words-back, RunBack, run-back, word-run-back}
 use Rattle.theory_record.proofs.Runs.{run-read, word-run-read, bytes-afterRun, items-long, word-run-held, run-few}
 use Rattle.theory_record.proofs.Records.{Faithful}
 use Rattle.theory_laws.proofs.Bytes.{leBytes-leValue, leValue-lt, below-part, below-drop}

@@ -1,26 +1,20 @@
 -- A query record is accepted exactly when every question put to it has its yes, as one conjunction of facts.
-use Prim.Native.Nat.{ℕ, suc, _+_, _*_, _^_, _<_, _≤_}
+use Prim.Native.Nat.{ℕ, suc, _+_, _^_, _<_}
 use mathlib.Core.Path.{_≡_, refl, ap}
 use mathlib.Core.Bool.{Bool, true, false}
 use mathlib.Core.List.{List, [], _∷_}
 use borrow.Author.Tests.{eqb-true, eqb-false, leb-true, ltb-true, eq-eqb, le-leb, lt-ltb}
 use lib.Dec.{eqb}
-use lib.ListN.{length}
-use Rattle.theory_laws.specs.Xor.{_⊕_}
 use Rattle.theory_laws.specs.Table.{at}
 use Rattle.theory_laws.specs.Questions.{pick, firstNo}
 use Rattle.theory_laws.proofs.Lists.{same-true}
 use Rattle.theory_laws.proofs.Questions.{all-yes, yes-all, same-yes}
-use Rattle.theory_field.specs.Field.{_⊗_}
 use Rattle.theory_field.specs.Words.{words}
-use Rattle.theory_merkle.specs.Tree.{groupOf}
 pub use Rattle.theory_record.specs.Accepted.{LevelHolds, Ranges, Holds, AllHold}
-use Rattle.theory_record.specs.Trees.{leadsTo}
-use Rattle.theory_record.specs.Widths.{Widths, levelWidth, levelDepth}
 use Rattle.theory_record.specs.Format.{LevelRecord, levelForm, runCount, recordWhole, recordItems}
-use Rattle.theory_record.specs.Query.{Answer, accepted, refused, pairOf, valueAt, rootAt, pairQuestions, levelNumber}
+use Rattle.theory_record.specs.Query.{Answer, accepted, refused, pairOf, rootAt, pairQuestions, levelNumber}
 use Rattle.theory_record.specs.Query.{checkLevels, queryQuestions, queryNumber, checkQuery}
-use Rattle.theory_record.proofs.Ranges.{SizesFit, sizes-fit, fit-sizes}
+use Rattle.theory_record.proofs.Ranges.{sizes-fit, fit-sizes}
 use Rattle.theory_record.specs.Scheme.{Scheme}
 
 module _ (S : Scheme) (l q r : ℕ) (ra rc : List ℕ) (x : LevelRecord) where

@@ -14,7 +14,7 @@ use Rattle.theory_laws.proofs.Lists.{AllLong, Bytes, length-leBytes, leValue-le
 use Rattle.theory_laws.proofs.Lists.{length-runs, runs-flat, flat-runs, length-flat, runs-long, runs-take}
 pub use Rattle.theory_record.specs.Accepted.{Few, Words}
 use Rattle.theory_record.specs.Format.{wordBytes, runBytes, runCount, runSize, runFits, runItems, afterRun}
-use Rattle.theory_laws.proofs.Bytes.{AllBelow, leBytes-leValue, leValue-lt, below-part, below-drop, below-take}
+use Rattle.theory_laws.proofs.Bytes.{leBytes-leValue, leValue-lt, below-part, below-drop, below-take}
 use Rattle.theory_laws.proofs.Questions.{true-both}
 
 -- ---- words as items

@@ -1,7 +1,7 @@
 -- Small values of comparing, under a stand-in digest by which all messages collide: which messages are found of two records that differ.
 -- Rests on what comparing finds.
 use Prim.Native.Nat.{ℕ}
-use mathlib.Core.List.{List, [], _∷_, _++_}
+use mathlib.Core.List.{List, [], _∷_}
 use lib.ListN.{length, replicate}
 use Rattle.theory_laws.specs.Table.{at}
 use Rattle.theory_merkle.specs.Binding.{Found}

@@ -2,7 +2,7 @@
 use denote.Ref.{now}
 use mathlib.Core.Path.{_≡_, refl, sym, ap, _∙_}
 use mathlib.Core.List.{List}
-use Prim.Native.Nat.{ℕ, _≤_, _<_, _-_, _*_, _+_, _/_}
+use Prim.Native.Nat.{ℕ, _≤_, _<_, _-_, _*_, _+_}
 use native.Mathlib.Omega.{arith}
 use lib.ListN.{length, drop}
 use borrow.Author.Needs.{needs}
@@ -11,7 +11,7 @@ use Rattle.theory_blake3.specs.Compression as C
 use Rattle.theory_blake3.specs.Flags.{startFlag}
 use Rattle.theory_blake3.specs.Chunk as B
 use Rattle.hash_four_lanes.specs.helpers.Lane as X
-use Rattle.hash_four_chunks.specs.helpers.FourChunks.{which, Four}
+use Rattle.hash_four_chunks.specs.helpers.FourChunks.{which}
 use Rattle.hash_four_chunks.proofs.Laws.{which-length, block-within, walk-turn, walk-end}
 use Rattle.hash_four_chunks.proofs.chunks.Statement.{statement}
 use Rattle.hash_four_chunks.proofs.chunks.Tie as tie
