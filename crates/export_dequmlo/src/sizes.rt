@@ -41,8 +41,8 @@ pub extern "C" fn dequmlo_sizes(n: usize, k: usize) -> Sizes
         gammas: k * n,
         codeword: code_level::level_length(n, k, 0),
         tree: code_commit::trees::tree_bytes(n, k, 0),
-        levels: record_query_build::levels_length(n, k),
-        trees: record_query_build::trees_size(n, k),
+        levels: code_level::levels_length(n, k),
+        trees: code_level::trees_size(n, k),
         query: record_query_build::query_size(n, k),
         tail: record_tail_build::tail_size(n, k),
     }

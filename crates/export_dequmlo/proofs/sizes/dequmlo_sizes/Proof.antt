@@ -11,9 +11,9 @@ use Rattle.export_dequmlo.proofs.sizes.dequmlo_sizes.Lts as lts
 use Rattle.code_codeword.proofs.sizes.power.Reads as power-reads
 use Rattle.code_level.proofs.level_length.Reads as level-length-reads
 use Rattle.code_level.proofs.size_number.Reads as size-number-reads
-use Rattle.record_query_build.proofs.levels_length.Reads as levels-length-reads
+use Rattle.code_level.proofs.levels_length.Reads as levels-length-reads
 use Rattle.record_query_build.proofs.query_size.Reads as query-size-reads
-use Rattle.record_query_build.proofs.trees_size.Reads as trees-size-reads
+use Rattle.code_level.proofs.trees_size.Reads as trees-size-reads
 use Rattle.code_commit.proofs.trees.tree_bytes.Reads as tree-bytes-reads
 use Rattle.record_tail_build.proofs.tail_size.Reads as tail-size-reads
 

@@ -1,16 +1,16 @@
--- `record_query_build::trees_size` meets its contract.
+-- `code_level::trees_size` meets its contract.
 use borrow.Author.Needs.{needs}
-use Rattle.record_query_build.proofs.Sizes.{level-small, starts-small, no-digests, digests-step, trees-are}
+use Rattle.code_level.proofs.Totals.{level-small, starts-small, no-digests, digests-step, trees-are}
 use Prim.Native.Nat.{_+_, _-_, _≤_}
 use mathlib.Core.Path.{_≡_}
 use Rattle.theory_record.specs.Widths.{present}
 use Rattle.theory_record.specs.Build.{treeStart}
 use Rattle.theory_record.proofs.Ranges.{sizes-small}
-use Rattle.record_query_build.proofs.trees_size.Statement.{statement}
-use Rattle.record_query_build.proofs.trees_size.Tie as tie
-use Rattle.record_query_build.proofs.trees_size.Reads as reads
-use Rattle.record_query_build.proofs.trees_size.Lts as lts
+use Rattle.code_level.proofs.trees_size.Statement.{statement}
+use Rattle.code_level.proofs.trees_size.Tie as tie
+use Rattle.code_level.proofs.trees_size.Reads as reads
+use Rattle.code_level.proofs.trees_size.Lts as lts
 use Rattle.code_level.proofs.level_groups.Reads as level-groups-reads
 
 abbrev Inv-loop : tie.InvT-loop
 Inv-loop n k digests₀ l₀ digests l = (l ≤ n + 1) × (digests ≡ treeStart present n k l)

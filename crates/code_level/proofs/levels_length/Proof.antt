@@ -1,11 +1,11 @@
--- `record_query_build::levels_length` meets its contract.
-use Rattle.record_query_build.proofs.Sizes.{levels-fit, levels-are}
+-- `code_level::levels_length` meets its contract.
+use Rattle.code_level.proofs.Totals.{levels-fit, levels-are}
 use borrow.Author.Needs.{needs}
-use Rattle.record_query_build.proofs.levels_length.Statement.{statement}
-use Rattle.record_query_build.proofs.levels_length.Tie as tie
-use Rattle.record_query_build.proofs.levels_length.Reads as reads
-use Rattle.record_query_build.proofs.levels_length.Lts as lts
+use Rattle.code_level.proofs.levels_length.Statement.{statement}
+use Rattle.code_level.proofs.levels_length.Tie as tie
+use Rattle.code_level.proofs.levels_length.Reads as reads
+use Rattle.code_level.proofs.levels_length.Lts as lts
 use Rattle.code_level.proofs.level_length.Reads as level-length-reads
 
 level-length-requires : tie.Need-level-length-requires
 level-length-requires c κs = search needs
