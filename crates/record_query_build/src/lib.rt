@@ -11,7 +11,7 @@ use field_bytes::put_words;
 use record_writer::put_digests;
 use record_writer::put_values;
 ghost use mathlib.Core.Path.{_≡_};
-ghost use Prim.Native.Nat.{suc, _+_, _*_, _≤_, _<_};
+ghost use Prim.Native.Nat.{_+_, _*_, _≤_, _<_};
 ghost use lib.ListN.{length};
 ghost use Rattle.theory_field.specs.Words.{words};
 ghost use Rattle.bytes_numbers.specs.helpers.Put.{Put};

@@ -1,5 +1,4 @@
 -- `code_commit::level::number` meets its contract.
-use native.Mathlib.Omega.{arith}
 use Rattle.theory_laws.proofs.Questions.{asks, asks-given}
 use Rattle.theory_record.proofs.Ranges.{sizes-small}
 use Rattle.code_level.proofs.Sizes.{sizes-said, asks-sizes}

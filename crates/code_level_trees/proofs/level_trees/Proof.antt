@@ -1,18 +1,18 @@
--- `claim_level_trees::level_trees` meets its contract: the trees and roots below l are made.
+-- `code_level_trees::level_trees` meets its contract: the trees and roots below l are made.
 use Prim.Native.Nat.{_+_, _-_}
 use mathlib.Core.Path.{sym, _∙_}
 use native.Mathlib.Omega.{arith}
 use Rattle.theory_field.specs.Words.{words}
 use Rattle.theory_record.specs.Build.{levelValues}
-use Rattle.claim_level_trees.specs.helpers.Grown.{Grown}
-use Rattle.claim_level_trees.proofs.Growing.{first-room, first-tree-room, begun, level-room, tree-room, grown-more, all-trees, all-roots}
+use Rattle.code_level_trees.specs.helpers.Grown.{Grown}
+use Rattle.code_level_trees.proofs.Growing.{first-room, first-tree-room, begun, level-room, tree-room, grown-more, all-trees, all-roots}
 use borrow.Author.Needs.{needs}
-use Rattle.claim_level_trees.proofs.level_trees.Statement.{statement}
-use Rattle.claim_level_trees.proofs.level_trees.Tie as tie
-use Rattle.claim_level_trees.proofs.level_trees.Reads as reads
-use Rattle.claim_level_trees.proofs.level_trees.Lts as lts
-use Rattle.claim_level_trees.proofs.put_root.Reads as put-root-reads
-use Rattle.claim_level_trees.proofs.put_tree.Reads as put-tree-reads
+use Rattle.code_level_trees.proofs.level_trees.Statement.{statement}
+use Rattle.code_level_trees.proofs.level_trees.Tie as tie
+use Rattle.code_level_trees.proofs.level_trees.Reads as reads
+use Rattle.code_level_trees.proofs.level_trees.Lts as lts
+use Rattle.code_level_trees.proofs.put_root.Reads as put-root-reads
+use Rattle.code_level_trees.proofs.put_tree.Reads as put-tree-reads
 use Rattle.code_level.proofs.level_length.Reads as level-length-reads
 use Rattle.code_commit.proofs.trees.tree_bytes.Reads as tree-bytes-reads
 

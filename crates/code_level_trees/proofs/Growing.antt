@@ -22,10 +22,10 @@ use Rattle.theory_record.proofs.Widths.{present-powers, level-shape, groups-pos
 use Rattle.theory_record.proofs.Totals.{length-endToEnd, total-ext, total-times}
 use Rattle.theory_record.proofs.Offsets.{level-within, tree-within, values-of-part}
 use Rattle.theory_record.proofs.Accepted.{length-treeFor, treeFor-long}
-use Rattle.claim_fold_calls.proofs.Laying.{next-start}
-use Rattle.claim_level_trees.specs.helpers.Grown.{Grown}
+use Rattle.code_levels.proofs.Laying.{next-start}
+use Rattle.code_level_trees.specs.helpers.Grown.{Grown}
 use Rattle.theory_record.specs.Scheme.{scheme}
-use Rattle.claim_level_trees.specs.helpers.Room.{treeMade}
+use Rattle.code_level_trees.specs.helpers.Room.{treeMade}
 
 -- ---- where trees start
 
@@ -204,3 +204,16 @@ pub first-tree-room : (n k : ℕ) {bytes trees : ℕ} → bytes ≡ 32 * treeLen
     → (bytes ≤ trees) × (32 ≤ bytes)
 unfolding treeStart total
 first-tree-room n k eb et = (omega (arith, tree-within present n k 0 (omega arith)), omega (arith, tree-some n k 0))
+
+-- level 0's tree made at the front is there
+pub first-made : (base : List ℕ) (n k : ℕ) (xs ts ts′ : List ℕ) → ts′ ≡ treeMade (scheme base n k) 0 xs 0 ts
+    → take (32 * treeLength present n k 0) ts′ ≡ flat (treeFor (scheme base n k) 0 (levelValues n k (words xs) 0))
+first-made base n k xs ts ts′ e =
+    let values : List ℕ = levelValues n k (words xs) 0 in
+    ap (take (32 * treeLength present n k 0)) e
+    ∙ take-at (flat (treeFor (scheme base n k) 0 values)) _ (32 * treeLength present n k 0) (length-tree base n k 0 values)
+
+-- where level 0 and its tree start
+pub first-starts : (n k : ℕ) → (0 ≡ 2 * levelStart n k 0) × (0 ≡ 32 * treeStart present n k 0)
+unfolding levelStart treeStart total
+first-starts n k = (refl, refl)

@@ -1,13 +1,13 @@
--- `claim_level_trees::put_tree` meets its contract.
+-- `code_level_trees::put_tree` meets its contract.
 use Prim.Native.Nat.{ℕ, _*_}
 use mathlib.Core.Path.{_∙_, ap}
-use Rattle.claim_fold_calls.proofs.Slices.{length-of-part}
-use Rattle.claim_level_trees.proofs.Growing.{level-room, tree-room, length-of-middle, tree-put}
+use Rattle.code_levels.proofs.Slices.{length-of-part}
+use Rattle.code_level_trees.proofs.Growing.{level-room, tree-room, length-of-middle, tree-put}
 use borrow.Author.Needs.{needs}
-use Rattle.claim_level_trees.proofs.put_tree.Statement.{statement}
-use Rattle.claim_level_trees.proofs.put_tree.Tie as tie
-use Rattle.claim_level_trees.proofs.put_tree.Reads as reads
-use Rattle.claim_level_trees.proofs.put_tree.Lts as lts
+use Rattle.code_level_trees.proofs.put_tree.Statement.{statement}
+use Rattle.code_level_trees.proofs.put_tree.Tie as tie
+use Rattle.code_level_trees.proofs.put_tree.Reads as reads
+use Rattle.code_level_trees.proofs.put_tree.Lts as lts
 use Rattle.code_level.proofs.level_length.Reads as level-length-reads
 use Rattle.code_commit.proofs.trees.build_level.Reads as build-level-reads
 use Rattle.code_commit.proofs.trees.tree_bytes.Reads as tree-bytes-reads

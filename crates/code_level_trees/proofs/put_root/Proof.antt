@@ -1,10 +1,10 @@
--- `claim_level_trees::put_root` meets its contract.
+-- `code_level_trees::put_root` meets its contract.
 use Rattle.bytes_numbers.proofs.Stores.{same-put}
 use borrow.Author.Needs.{needs}
-use Rattle.claim_level_trees.proofs.put_root.Statement.{statement}
-use Rattle.claim_level_trees.proofs.put_root.Tie as tie
-use Rattle.claim_level_trees.proofs.put_root.Reads as reads
-use Rattle.claim_level_trees.proofs.put_root.Lts as lts
+use Rattle.code_level_trees.proofs.put_root.Statement.{statement}
+use Rattle.code_level_trees.proofs.put_root.Tie as tie
+use Rattle.code_level_trees.proofs.put_root.Reads as reads
+use Rattle.code_level_trees.proofs.put_root.Lts as lts
 
 sub-load : tie.Need-sub-load
 sub-load c = search needs

@@ -6,14 +6,14 @@ use code_commit::trees::build_level;
 use code_commit::trees::tree_bytes;
 use code_level::level_length;
 ghost use mathlib.Core.Path.{_≡_};
-ghost use Prim.Native.Nat.{_+_, _-_, _≤_};
+ghost use Prim.Native.Nat.{_+_, _-_, _*_, _≤_};
 ghost use lib.ListN.{length};
 ghost use Rattle.theory_laws.specs.Lists.{part};
 ghost use Rattle.theory_field.specs.Words.{words};
 ghost use Rattle.bytes_numbers.specs.helpers.Put.{Put};
 ghost use Rattle.theory_record.specs.Trees.{treesLent, rootsLent};
 ghost use Rattle.theory_record.specs.Build.{levelValues};
-ghost use Rattle.claim_level_trees.specs.helpers.Room.{treeMade, TreeRoom, FirstMade};
+ghost use Rattle.code_level_trees.specs.helpers.Room.{treeMade, Room, TreeRoom, FirstMade};
 ghost use Rattle.theory_record.specs.Scheme.{scheme};
 
 // Level l's tree, built in its place among the trees; the level starts at the half `from`, its tree at the byte `at`.
@@ -68,4 +68,21 @@ pub fn level_trees(
         place = put_root(roots, place, trees, at);
         l += 1;
     }
+}
+
+// The trees of all levels, and their roots.
+pub fn all_trees(
+    n: usize,
+    k: usize,
+    base: &[u8],
+    levels: &[u64],
+    trees: &mut [u8],
+    roots: &mut [u8],
+)
+    requires { ⌜ (Room n k (length (now base)) (length (now levels)) (length (now trees))) × (length (now roots) ≡ 32 * (n + 1)) ⌝ }
+    ensures { λ _. ⌜ now (trees .exit) ≡ treesLent (scheme (now (base .entry)) n k) (levelValues n k (words (now (levels .entry)))) ⌝ }
+    ensures { λ _. ⌜ now (roots .exit) ≡ rootsLent (scheme (now (base .entry)) n k) (levelValues n k (words (now (levels .entry)))) ⌝ }
+{
+    put_tree(n, k, 0, base, levels, 0, trees, 0);
+    level_trees(n, k, base, levels, trees, roots);
 }
