@@ -1,3 +1,12 @@
+-- `code_fold_levels::fold_all` meets its contract.
+use Prim.Native.Nat.{ℕ, _-_}
+use mathlib.Core.Path.{_≡_, refl, sym, _∙_, ap}
+use native.Mathlib.Omega.{arith}
+use lib.ListN.{length}
+use Rattle.theory_laws.specs.Table.{tab}
+use Rattle.code_fold_levels.specs.helpers.Folded.{Folded}
+use Rattle.code_fold_levels.proofs.Folding.{folded-none, folded-more, folded-all}
+use borrow.Author.Needs.{needs}
 use Rattle.code_fold_levels.proofs.fold_all.Statement.{statement}
 use Rattle.code_fold_levels.proofs.fold_all.Tie as tie
 use Rattle.code_fold_levels.proofs.fold_all.Reads as reads
@@ -7,50 +16,73 @@ use Rattle.field_words.proofs.clear.Reads as clear-reads
 use Rattle.field_words.proofs.get.Reads as get-reads
 
 abbrev Inv-loop : tie.InvT-loop
-Inv-loop n k challenges levels₀ half₀ from₀ l₀ levels half from l = ?
+Inv-loop n k challenges levels₀ half₀ from₀ l₀ levels half from l =
+    (length half ≡ length half₀) × (Folded n k challenges levels₀ l from levels)
 
 abbrev μ-loop : tie.MeasureT-loop
-μ-loop n k challenges levels₀ half₀ from₀ l₀ levels half from l = ?
+μ-loop n k challenges levels₀ half₀ from₀ l₀ levels half from l = n - l
 
--- src/lib.rt:94:5
 loop-holds : tie.Need-loop-holds Inv-loop μ-loop
-loop-holds c = ?
+loop-holds c =
+    let start : tie.Start Inv-loop μ-loop = search in
+    (refl, folded-none _ _ _ _ (start .pre .0 .levels-long))
 
--- src/lib.rt:95:13
 get-requires : tie.Need-get-requires Inv-loop μ-loop
-get-requires c κs = ?
+get-requires c κs =
+    let start : tie.Start Inv-loop μ-loop = search in
+    omega (arith, start .pre .1)
 
--- src/lib.rt:96:9
 next-level-requires : tie.Need-next-level-requires Inv-loop μ-loop
-next-level-requires c κs = ?
+next-level-requires c κs =
+    let start : tie.Start Inv-loop μ-loop = search in
+    let loop : tie.At-loop Inv-loop μ-loop = search in
+    let turn : tie.In-loop Inv-loop μ-loop = search in
+    let room = start .pre .0 in
+    let f = loop .loop .inv .1 in (
+      record {
+        room = record { n-most = room .n-most; k-most = room .k-most; levels-long = f .long; half-long = loop .loop .inv .0 ∙ room .half-long };
+        within = f .within;
+        from= = f .from=;
+      },
+      turn .loop-test .taken,
+    )
 
--- src/lib.rt:97:9
 add-l : tie.Need-add-l Inv-loop μ-loop
-add-l c = ?
+add-l c = search needs
 
--- src/lib.rt:94:5
 loop-less : tie.Need-loop-less Inv-loop μ-loop
-loop-less c = ?
+loop-less c = search needs
 
--- src/lib.rt:94:5
 loop-again : tie.Need-loop-again Inv-loop μ-loop
-loop-again c = ?
+loop-again c =
+    let loop : tie.At-loop Inv-loop μ-loop = search in
+    let turn : tie.In-loop Inv-loop μ-loop = search in
+    let got : tie.After-get Inv-loop μ-loop = search in
+    let next : tie.After-next-level Inv-loop μ-loop = search in
+    let run = next .next-level in
+    (search needs, folded-more _ _ _ _ _ (loop .loop .inv .1) (turn .loop-test .taken) (got .get .ensures) (run .ensures .0) (run .ensures .1) (search needs))
 
--- src/lib.rt:99:5
 clear-requires : tie.Need-clear-requires Inv-loop μ-loop
-clear-requires c κs = ?
+clear-requires c κs = search needs
 
--- src/lib.rt:87:1
 same-length : tie.Need-same-length Inv-loop μ-loop
-same-length c = ?
+same-length c =
+    let start : tie.Start Inv-loop μ-loop = search in
+    let loop : tie.At-loop Inv-loop μ-loop = search in
+    loop .loop .inv .1 .long ∙ sym (start .pre .0 .levels-long)
 
--- src/lib.rt:87:1
 same-length-2 : tie.Need-same-length-2 Inv-loop μ-loop
-same-length-2 c = ?
+same-length-2 c =
+    let loop : tie.At-loop Inv-loop μ-loop = search in
+    let cleared : tie.After-clear Inv-loop μ-loop = search in
+    cleared .clear .kept .0 ∙ loop .loop .inv .0
 
--- src/lib.rt:87:1
 returns : tie.Need-returns Inv-loop μ-loop
-returns c = ?
+returns c =
+    let loop : tie.At-loop Inv-loop μ-loop = search in
+    let cleared : tie.After-clear Inv-loop μ-loop = search in
+    let ended : tie.After-loop Inv-loop μ-loop = search in
+    (folded-all _ _ _ _ (loop .loop .inv .1) (ended .loop-test .left), cleared .clear .ensures ∙ ap (λ (m : ℕ). tab m (λ v. 0)) (loop .loop .inv .0))
 
 pub fold-all-spec : {M : Type 1} → statement M
 fold-all-spec =
