@@ -2,27 +2,27 @@
 use Prim.Native.Nat.{ℕ, suc, _+_, _-_, _*_, _^_, _<_, _≤_}
 use mathlib.Core.Path.{_≡_, refl, sym, _∙_, ap}
 use mathlib.Core.Logic.{⊎-elim}
-use mathlib.Core.List.{List}
+use mathlib.Core.List.{List, _++_}
 use native.Mathlib.Nat.{eq-or-lt-of-le}
 use native.Mathlib.Numerals.{add-one}
 use native.Mathlib.Omega.{arith}
-use lib.ListN.{length, take}
+use lib.ListN.{length, take, drop}
+use lib.Seq.{take-at}
 use Rattle.theory_laws.specs.Lists.{flat}
 use Rattle.theory_laws.specs.Table.{at}
-use Rattle.theory_laws.specs.Questions.{onDone}
 use Rattle.theory_field.specs.Words.{words}
 use Rattle.theory_field.proofs.Words.{length-words-even}
 use Rattle.theory_multilinear.specs.Fold.{foldList}
 use Rattle.theory_multilinear.specs.Levels.{level}
 use Rattle.theory_multilinear.proofs.Levels.{length-level}
-use Rattle.theory_code.specs.Questions.{foldNumber}
 use Rattle.theory_record.specs.Widths.{levelLength, total}
 use Rattle.theory_record.specs.Trees.{treeFor, rootFor, levelsLent, treesLent, rootsLent}
 use Rattle.theory_record.specs.Build.{levelStart, levelsLength, levelValues}
 use Rattle.theory_record.specs.Scheme.{Scheme}
 use Rattle.theory_record.proofs.Totals.{endToEnd-ext}
-use Rattle.theory_record.proofs.Offsets.{level-halves, first-length, length-levelValues, levelValues-endToEnd}
-use Rattle.theory_claim.proofs.Levels.{fold-done}
+use Rattle.theory_record.proofs.Offsets.{level-halves, length-levelValues, levelValues-endToEnd, values-of-part}
+use Rattle.field_runs.specs.Runs.{Paired}
+use Rattle.code_codeword.proofs.Lengths.{has-bit}
 use Rattle.code_levels.specs.helpers.Levels.{laid, levelFolded}
 use Rattle.code_levels.proofs.Laying.{laid-before, laid-there, length-fold, levels-laid}
 use Rattle.code_fold_levels.specs.Levels.{foldedLevel}
@@ -30,18 +30,25 @@ use Rattle.code_fold_levels.specs.helpers.Folded.{Folded}
 
 -- ---- one more level
 
--- its fold is done, and what is laid is the fold
-pub next-laid : (n k l by : ℕ) {q room : ℕ} (levels half half′ levels′ : List ℕ) → n ≤ 20 → k ≤ 4 → l < n → room ≡ levelLength n k l
-    → q ≡ foldNumber (n - l) k 0 (2 * levelLength n k l) room
-    → words (take room half′) ≡ onDone q (levelFolded n k l 0 by levels) (words (take room half))
-    → words levels′ ≡ laid n k (l + 1) (words (take (2 * levelLength n k (l + 1)) half′)) (words levels)
+-- a level before the last has pairs
+pub level-paired : (n k l : ℕ) {size halves : ℕ} → l < n → size ≡ levelLength n k l → halves ≡ 2 * size → Paired 0 halves
+unfolding levelLength
+level-paired n k l {halves = halves} h es e = has-bit (n + k - l) 0 halves (omega arith) (e ∙ ap (λ (x : ℕ). 2 * x) es)
+
+-- its fold, in the front of a buffer
+pub front-folded : (n k l by : ℕ) {from size : ℕ} (levels ys zs : List ℕ) → from ≡ 2 * levelStart n k l → size ≡ levelLength n k l → length ys ≡ size
+    → words ys ≡ foldList 0 by (words (take (from + 2 * size - from) (drop from levels)))
+    → words (take (levelLength n k l) (ys ++ zs)) ≡ levelFolded n k l 0 by levels
+front-folded n k l by {size = size} levels ys zs ef es el e =
+    ap (λ (i : ℕ). words (take i (ys ++ zs))) (sym es) ∙ ap words (take-at ys zs size el) ∙ e ∙ ap (foldList 0 by) (values-of-part n k l ef es levels)
+
+-- what is laid from there is the fold
+pub next-laid : (n k l by : ℕ) (levels half levels′ : List ℕ) → l < n → words (take (levelLength n k l) half) ≡ levelFolded n k l 0 by levels
+    → words levels′ ≡ laid n k (l + 1) (words (take (2 * levelLength n k (l + 1)) half)) (words levels)
     → words levels′ ≡ laid n k (suc l) (levelFolded n k l 0 by levels) (words levels)
-next-laid n k l by {q} {room} levels half half′ levels′ hn hk h er eq ef el =
-    let e : room ≡ 2 * levelLength n k (suc l) = er ∙ level-halves n k l (omega arith) in
-    let z : q ≡ 0 = eq ∙ ap (foldNumber (n - l) k 0 (2 * levelLength n k l)) e ∙ fold-done n k l hn hk h in
-    let folded : words (take room half′) ≡ levelFolded n k l 0 by levels = rw z at ef in
-    let new : words levels′ ≡ laid n k (suc l) (words (take (2 * levelLength n k (suc l)) half′)) (words levels) = rw add-one at el in
-    new ∙ ap (λ (vs : List ℕ). laid n k (suc l) vs (words levels)) (ap (λ (i : ℕ). words (take i half′)) (sym e) ∙ folded)
+next-laid n k l by levels half levels′ h ef el =
+    let new : words levels′ ≡ laid n k (suc l) (words (take (2 * levelLength n k (suc l)) half)) (words levels) = rw add-one at el in
+    new ∙ ap (λ (vs : List ℕ). laid n k (suc l) vs (words levels)) (ap (λ (i : ℕ). words (take i half)) (sym (level-halves n k l (omega arith))) ∙ ef)
 
 module _ (n k : ℕ) (challenges old : List ℕ) where
   pub folded-none : length old ≡ 2 * levelsLength n k → Folded n k challenges old 0 0 old

@@ -1,23 +1,23 @@
 // All levels of a committed codeword by its challenges, their trees and their roots, in one call, after eval.rs. The entry is `fold_levels`;
 // the other functions require.
+use code_codeword::folding::fold_into;
 use code_level::level_length;
 use code_level::levels_length;
 use code_level::size_number;
 use code_level::trees_size;
 use code_level_trees::all_trees;
-use code_levels::fold_level;
 use code_levels::lay;
 use field_gf128::Word;
 use field_words::clear;
 use field_words::get;
 ghost use mathlib.Core.Path.{_≡_};
 ghost use Prim.Native.Nat.{suc, _*_, _<_};
-ghost use lib.ListN.{length};
+ghost use lib.ListN.{length, take};
 ghost use Rattle.theory_laws.specs.Questions.{onDone};
 ghost use Rattle.theory_laws.specs.Table.{tab};
 ghost use Rattle.theory_field.specs.Words.{words};
 ghost use Rattle.field_gf128.specs.Word.{word};
-ghost use Rattle.theory_record.specs.Widths.{present};
+ghost use Rattle.theory_record.specs.Widths.{present, levelLength};
 ghost use Rattle.theory_record.specs.Trees.{levelsLent, treesLent, rootsLent};
 ghost use Rattle.theory_record.specs.Build.{levelStart};
 ghost use Rattle.theory_record.specs.Scheme.{scheme};
@@ -62,6 +62,16 @@ fn number(
     0
 }
 
+// Level l, which starts at the half `from`, folded at variable 0 by r into the front of `half`.
+fn fold_front(n: usize, k: usize, l: usize, from: usize, r: Word, levels: &[u64], half: &mut [u64])
+    requires { ⌜ (LevelLent n k l from (length (now levels)) (length (now half))) × (l < n) ⌝ }
+    ensures { λ _. ⌜ words (take (levelLength n k l) (now (half .exit))) ≡ levelFolded n k l 0 (word r) (now (levels .entry)) ⌝ }
+{
+    let size = level_length(n, k, l);
+    let to = from + 2 * size;
+    fold_into(0, r, &levels[from..to], &mut half[..size]);
+}
+
 // Level l + 1, folded from level l, which starts at the half `from`, at variable 0 by r, and laid behind it: the half where it starts.
 fn next_level(
     n: usize,
@@ -76,9 +86,8 @@ fn next_level(
     ensures { λ to. ⌜ to ≡ 2 * levelStart n k (suc l) ⌝ }
     ensures { λ _. ⌜ words (now (levels .exit)) ≡ laid n k (suc l) (levelFolded n k l 0 (word r) (now (levels .entry))) (words (now (levels .entry))) ⌝ }
 {
-    let size = level_length(n, k, l);
-    fold_level(n, k, l, from, n - l, k, 0, r, size, levels, half);
-    let to = from + 2 * size;
+    fold_front(n, k, l, from, r, levels, half);
+    let to = from + 2 * level_length(n, k, l);
     lay(n, k, l + 1, to, half, levels);
     to
 }

@@ -8,22 +8,15 @@ use Rattle.code_fold_levels.proofs.next_level.Statement.{statement}
 use Rattle.code_fold_levels.proofs.next_level.Tie as tie
 use Rattle.code_fold_levels.proofs.next_level.Reads as reads
 use Rattle.code_fold_levels.proofs.next_level.Lts as lts
+use Rattle.code_fold_levels.proofs.fold_front.Reads as fold-front-reads
 use Rattle.code_level.proofs.level_length.Reads as level-length-reads
-use Rattle.code_levels.proofs.fold_level.Reads as fold-level-reads
 use Rattle.code_levels.proofs.lay.Reads as lay-reads
+
+fold-front-requires : tie.Need-fold-front-requires
+fold-front-requires c κs = search needs
 
 level-length-requires : tie.Need-level-length-requires
 level-length-requires c κs = search needs
-
-sub-fold-level : tie.Need-sub-fold-level
-sub-fold-level c = search needs
-
-fold-level-requires : tie.Need-fold-level-requires
-fold-level-requires c κs =
-    let start : tie.Start = search in
-    let sized : tie.After-level-length = search in
-    let w = within (start .pre .0) (sized .level-length .ensures) in
-    (start .pre .0, w .half-le)
 
 mul-to : tie.Need-mul-to
 mul-to c =
@@ -65,22 +58,19 @@ same-length-2 c = search needs
 returns : tie.Need-returns
 returns c =
     let start : tie.Start = search in
+    let folded : tie.After-fold-front = search in
     let sized : tie.After-level-length = search in
-    let folded : tie.After-fold-level = search in
-    let laid : tie.After-lay = search in
-    let lent = start .pre .0 in
-    let e = folded .fold-level .ensures in (
-      rw add-one at (next-from _ _ _ (lent .from=) (sized .level-length .ensures)),
-      next-laid _ _ _ _ _ _ _ _ (lent .room .n-most) (lent .room .k-most) (start .pre .1) (sized .level-length .ensures) (e .0) (e .1 .0) (laid .lay .ensures),
+    let laid : tie.After-lay = search in (
+      rw add-one at (next-from _ _ _ (start .pre .0 .from=) (sized .level-length .ensures)),
+      next-laid _ _ _ _ _ _ _ (start .pre .1) (folded .fold-front .ensures) (laid .lay .ensures),
     )
 
 pub next-level-spec : {M : Type 1} → statement M
 next-level-spec =
     tie.close
     (tie.spec
+    fold-front-requires
     level-length-requires
-    sub-fold-level
-    fold-level-requires
     mul-to
     add-to
     add-lay
