@@ -25,8 +25,11 @@ const fn option(name: &'static str, value: &'static str, means: &'static str) ->
 }
 
 /// Every option, in the order of the help.
-pub const OPTIONS: [Known; 17] = [
+pub const OPTIONS: [Known; 20] = [
     option("--seal", "FOLDER", "the seal, as `seal commit` wrote it"),
+    option("--asked", "FOLDER", "the request that `seal ask` wrote; it has challenges, positions, roots and claim"),
+    option("--answer", "FOLDER", "the holder's answer to a request without positions, as `seal open` wrote it"),
+    option("--by", "TEXT", "who asks: a name that the request has for people"),
     option("--opening", "FOLDER", "the opening that names the challenges and the roots"),
     option("--profile", "NAME", "k and the base domain by a name: default, fastchunk, balanced, compactwrap, deepwrap"),
     option("--k", "K", "k by itself, from 0 to 4, together with --domain"),
@@ -128,6 +131,11 @@ impl Options {
     /// Whether an option without a value is given.
     pub fn has(&self, flag: &str) -> bool {
         self.flags.iter().any(|given| given == flag)
+    }
+
+    /// Whether an option is given, with a value or without one.
+    pub fn given(&self, name: &str) -> bool {
+        self.has(name) || self.value(name).is_some()
     }
 
     fn value(&self, name: &str) -> Option<&OsString> {

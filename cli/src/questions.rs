@@ -1,10 +1,12 @@
-//! What a checker asks: challenges and positions, from the checker's own files or, for trying it out, drawn from a seed text.
+//! What a checker asks: a request, or challenges and positions from the checker's own files or, for trying it out, drawn from a seed text.
 
 use crate::format::Body;
 use crate::lines::{items, most_bytes};
 use crate::options::Options;
 use crate::outcome::Failure;
 use crate::reading::named_text;
+use crate::request::Request;
+use crate::seal::Seal;
 use crate::shape::Shape;
 use dequmlo::Word;
 use std::collections::BTreeSet;
@@ -15,6 +17,32 @@ pub const SEED_WARNING: &str = "the questions come from a seed text: good for tr
 
 /// The most bytes that a file of positions is read for.
 const MOST_POSITIONS: usize = 1 << 20;
+
+/// The request that the options name, which has everything that a checker asks; none where they name none.
+pub fn requested(options: &Options, seal: &Seal) -> Result<Option<Request>, Failure> {
+    let folder = match options.path("--asked") {
+        Some(folder) => folder,
+        None => return Ok(None),
+    };
+    match OTHERS.iter().find(|name| options.given(name)) {
+        Some(name) => Err(Failure(format!(
+            "--asked names all that is asked, and excludes {name}"
+        ))),
+        None => Request::read(&folder, seal).map(Some),
+    }
+}
+
+/// What a request has, when it is given by options.
+const OTHERS: [&str; 8] = [
+    "--challenges",
+    "--seed",
+    "--at",
+    "--positions",
+    "--count",
+    "--roots",
+    "--claim",
+    "--own-questions",
+];
 
 /// The challenges that the options name, and where they come from; none where they name none.
 pub fn challenges(options: &Options, n: usize) -> Result<Option<(Vec<Word>, String)>, Failure> {

@@ -6,7 +6,8 @@ use crate::opening::Opening;
 use crate::options::Options;
 use crate::outcome::{texts, Failure, Outcome, Verdict};
 use crate::progress::Progress;
-use crate::questions::{challenges, positions, SEED_WARNING};
+use crate::questions::{challenges, positions, requested, SEED_WARNING};
+use crate::request::Request;
 use crate::seal::{Seal, SEAL_FOLDER};
 use crate::shape::Shape;
 use crate::table::{read_table, room_for};
@@ -14,8 +15,9 @@ use crate::writing::{beside, Target};
 use dequmlo::{Deposit, Refusal, Word};
 use std::path::Path;
 
-pub const TAKEN: [&str; 9] = [
+pub const TAKEN: [&str; 10] = [
     "--seal",
+    "--asked",
     "--challenges",
     "--seed",
     "--at",
@@ -29,12 +31,12 @@ pub const TAKEN: [&str; 9] = [
 pub fn run(options: &Options) -> Result<Outcome, Failure> {
     options.expect(1, "one FILE", &TAKEN)?;
     let file = &options.operands[0];
+    let seal = Seal::read(&options.needed_path("--seal", SEAL_FOLDER)?)?;
+    let asked = Asked::read(options, &seal)?;
     let folder = options
         .path("--out")
-        .unwrap_or_else(|| beside(file, ".opening"));
+        .unwrap_or_else(|| beside(file, asked.ending()));
     let (target, mut notes) = Target::new(&folder, Kind::Opening, options.has("--force"))?;
-    let seal = Seal::read(&options.needed_path("--seal", SEAL_FOLDER)?)?;
-    let asked = Asked::read(options, &seal.shape)?;
     let table = match read_table(file)? {
         Ok(table) => table.words,
         Err(sentence) => return Ok(Outcome::declined(sentence)),
@@ -48,12 +50,17 @@ pub fn run(options: &Options) -> Result<Outcome, Failure> {
         Ok(None) => return Ok(not_the_file(file)),
         Err(refusal) => return Ok(Outcome::refused(&refusal)),
     };
+    if asked.keeps_other_roots(&opening) {
+        return Ok(Outcome::declined(
+            "the request keeps other roots or another claim than this file has by its challenges, so it follows another answer than this file's".into(),
+        ));
+    }
     notes.extend(target.write(&opening.files(&file.to_string_lossy(), &asked.drawn))?);
     notes.extend(seal.notes);
     if asked.seeded {
         notes.push(SEED_WARNING.into());
     }
-    Ok(told(&opening, target.folder()).notes(notes))
+    Ok(told(&opening, target.folder(), asked.first_round().is_some()).notes(notes))
 }
 
 /// What the checker asked for.
@@ -62,12 +69,35 @@ struct Asked {
     drawn: String,
     seeded: bool,
     positions: Vec<usize>,
+    request: Option<Request>,
 }
 
 impl Asked {
-    fn read(options: &Options, shape: &Shape) -> Result<Asked, Failure> {
+    fn read(options: &Options, seal: &Seal) -> Result<Asked, Failure> {
+        match requested(options, seal)? {
+            Some(request) => Ok(Asked::by_request(request)),
+            None => Asked::by_options(options, &seal.shape),
+        }
+    }
+
+    fn by_request(request: Request) -> Asked {
+        let answered = request.answered.as_ref();
+        Asked {
+            challenges: request.challenges.clone(),
+            drawn: "those of the checker's request".into(),
+            seeded: false,
+            positions: answered.map_or(Vec::new(), |answered| answered.positions.clone()),
+            request: Some(request),
+        }
+    }
+
+    fn by_options(options: &Options, shape: &Shape) -> Result<Asked, Failure> {
         let (challenges, drawn) = challenges(options, shape.n)?.ok_or_else(|| {
-            Failure("`seal open` needs the checker's challenges: --challenges FILE, or --seed TEXT for trying it out".into())
+            Failure(
+                "`seal open` needs the checker's request, --asked FOLDER, or the checker's challenges: --challenges FILE, or --seed TEXT for trying it \
+                 out"
+                    .into(),
+            )
         })?;
         let positions = positions(options, shape)?.ok_or_else(|| {
             Failure(
@@ -79,6 +109,27 @@ impl Asked {
             drawn,
             seeded: options.text("--seed")?.is_some(),
             positions,
+            request: None,
+        })
+    }
+
+    /// The request, where it has no positions yet.
+    fn first_round(&self) -> Option<&Request> {
+        self.request
+            .as_ref()
+            .filter(|request| request.answered.is_none())
+    }
+
+    /// How the name of the folder ends that is written beside the file.
+    fn ending(&self) -> &'static str {
+        self.first_round().map_or(".opening", |_| ".answer")
+    }
+
+    /// Whether the request keeps roots or a claim that are not this opening's.
+    fn keeps_other_roots(&self, opening: &Opening) -> bool {
+        let answered = self.request.as_ref().and_then(|r| r.answered.as_ref());
+        answered.map_or(false, |kept| {
+            kept.roots != opening.roots || kept.claim != opening.claim
         })
     }
 }
@@ -117,11 +168,16 @@ fn not_the_file(file: &Path) -> Outcome {
     ))
 }
 
-fn told(opening: &Opening, folder: &Path) -> Outcome {
+fn told(opening: &Opening, folder: &Path, is_answer: bool) -> Outcome {
     let positions = opening.queries.iter().map(|(p, _)| Json::number(*p));
     let count = opening.queries.len();
     let noun = if count == 1 { "position" } else { "positions" };
-    let sentence = format!("opened {count} {noun} into {}", folder.display());
+    let shown = folder.display();
+    let sentence = if is_answer {
+        format!("wrote the answer, with roots, claim and tail, into {shown}; send that folder to the checker, who then draws the positions")
+    } else {
+        format!("opened {count} {noun} into {shown}")
+    };
     Outcome::new(Verdict::Done, sentence)
         .say()
         .found("opening", Json::text(folder.display()))
