@@ -14,7 +14,7 @@ struct Command {
     takes: &'static [&'static str],
 }
 
-const COMMANDS: [Command; 10] = [
+const COMMANDS: [Command; 11] = [
     Command {
         name: "commit",
         usage: "seal commit FILE [--profile NAME | --k K --domain TEXT] [--out FOLDER] [--force]",
@@ -43,6 +43,12 @@ const COMMANDS: [Command; 10] = [
         does: "Checks an opening by the checker's own request, or challenges and positions. For trying it out: --seed TEXT [--count N], which draws both.\n    \
                --own-questions checks by those that the holder chose instead: that is never an acceptance, and ends with 3.",
         takes: &commands::check::TAKEN,
+    },
+    Command {
+        name: "show",
+        usage: "seal show OPENING",
+        does: "Shows which bytes of the file an opening has, as text and as hexadecimal digits. It checks nothing.",
+        takes: &commands::show::TAKEN,
     },
     Command {
         name: "tail",

@@ -9,10 +9,12 @@ mod console;
 mod drawing;
 mod folder;
 mod format;
+mod found;
 mod help;
 mod hex;
 mod json;
 mod lines;
+mod opened;
 mod opening;
 mod options;
 mod outcome;
@@ -53,6 +55,7 @@ fn run(options: &Options) -> Result<Outcome, Failure> {
         "ask" => commands::ask::run(options),
         "open" => commands::open::run(options),
         "check" => commands::check::run(options),
+        "show" => commands::show::run(options),
         "tail" => commands::tail::run(options),
         "compare" => commands::compare::run(options),
         "explain" => commands::explain::run(options),

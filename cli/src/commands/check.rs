@@ -1,15 +1,16 @@
 //! `seal check`: the records of an opening at the checker's positions, and its tail, under the office's root and the checker's challenges.
 
-use crate::json::Json;
+use crate::found::{Answer, Extent, Found, Item};
+use crate::opened::Opened;
 use crate::options::Options;
-use crate::outcome::{answer, lines_of, texts, Failure, Outcome, Verdict};
+use crate::outcome::{Failure, Outcome};
 use crate::questions::{challenges, positions, requested, SEED_WARNING};
 use crate::request::{Answered, Request};
 use crate::seal::{Seal, SEAL_FOLDER};
 use crate::shape::Shape;
 use crate::shown::{changed_note, some_of, Record, Shown};
 use crate::statement::{checker_s_own, claim, misfits, roots, statement, Roots};
-use dequmlo::{Refusal, Statement, Word};
+use dequmlo::{Statement, Word};
 
 pub const TAKEN: [&str; 11] = [
     "--seal",
@@ -52,10 +53,17 @@ pub fn run(options: &Options) -> Result<Outcome, Failure> {
         None => claim(options, &shown)?,
     };
     let mut found = Found::default();
-    found.doubles(&shown);
+    doubles(&mut found, &shown);
     match statement(&seal, &roots, &words) {
-        Ok(statement) => found.all(&statement, &shown, &positions, claim)?,
-        Err(refusal) => found.refused_whole(&refusal),
+        Ok(statement) => checked(
+            &mut found,
+            &seal.shape,
+            &statement,
+            &shown,
+            &positions,
+            claim,
+        )?,
+        Err(refusal) => found.add(Item::Opening, Answer::Refused(refusal)),
     }
     found.notes.extend(seal.notes.iter().cloned());
     found.notes.extend(misfits(&seal, &shown, &roots, &words));
@@ -63,12 +71,12 @@ pub fn run(options: &Options) -> Result<Outcome, Failure> {
     if options.text("--seed")?.is_some() {
         found.notes.push(SEED_WARNING.into());
     }
-    Ok(found.outcome(
-        &asked,
-        &shown.unchecked(&positions),
-        positions.len(),
-        &seal.shape,
-    ))
+    Ok(found.outcome(&Extent {
+        own: asked.left_to_the_holder(),
+        unchecked: &shown.unchecked(&positions),
+        checked: positions.len(),
+        shape: &seal.shape,
+    }))
 }
 
 /// What the checker asks; what is none is left to the opening, where that was said.
@@ -163,151 +171,52 @@ impl Asked {
     }
 }
 
-/// What was found so far.
-#[derive(Default)]
-struct Found {
-    lines: Vec<String>,
-    notes: Vec<String>,
-    records: Vec<Json>,
-    tail: Option<Json>,
-    first: Option<Refusal>,
-    accepted: usize,
-    refused: usize,
-}
-
-impl Found {
-    fn all(
-        &mut self,
-        statement: &Statement,
-        shown: &Shown,
-        positions: &[usize],
-        claim: Word,
-    ) -> Result<(), Failure> {
-        for position in positions {
-            let name = format!("position {position}");
-            let mut fields = vec![("position", Json::number(*position))];
-            fields.extend(match shown.record(*position)? {
-                Record::Found(record) => {
-                    self.answered(&name, statement.check_query(*position, &record))
-                }
-                Record::Missing => self.declined(
-                    &name,
-                    "the opening has no record at this position; ask the holder for it",
-                ),
-                Record::NotAFile(what) => {
-                    self.declined(&name, &format!("{what}; ask the holder for the file"))
-                }
-            });
-            self.records.push(Json::Object(fields));
-        }
-        if positions.is_empty() {
-            self.declined(
-                "records",
-                "the opening shows no place of the deposit; ask the holder for positions",
-            );
-        }
-        let tail = self.answered("tail", statement.check_tail(claim, &shown.tail));
-        self.tail = Some(Json::Object(tail));
-        Ok(())
-    }
-
-    /// Two files for one position: which of them the holder means is not for the checker to guess.
-    fn doubles(&mut self, shown: &Shown) {
-        for (position, names) in shown.doubles() {
-            let sentence = format!(
-                "the opening has {} files for it: {}; ask the holder for one",
-                names.len(),
-                some_of(&names)
-            );
-            self.declined(&format!("position {position}"), &sentence);
-        }
-    }
-
-    fn answered(&mut self, name: &str, answered: Result<(), Refusal>) -> Vec<(&'static str, Json)> {
-        match answered {
-            Ok(()) => {
-                self.accepted += 1;
-                self.lines.push(format!("{name}: accepted"));
-                answer(true, None, "accepted")
+/// Has the library check each record that was asked for, and the tail.
+fn checked(
+    found: &mut Found,
+    shape: &Shape,
+    statement: &Statement,
+    shown: &Shown,
+    positions: &[usize],
+    claim: Word,
+) -> Result<(), Failure> {
+    for position in positions {
+        let answer = match shown.record(*position)? {
+            Record::Found(record) => match statement.check_query(*position, &record) {
+                Ok(()) => Answer::Accepted(Opened::of(shape, *position, record.bytes())),
+                Err(refusal) => Answer::Refused(refusal),
+            },
+            Record::Missing => Answer::Declined(
+                "the opening has no record at this position; ask the holder for it".into(),
+            ),
+            Record::NotAFile(what) => {
+                Answer::Declined(format!("{what}; ask the holder for the file"))
             }
-            Err(refusal) => {
-                self.refused += 1;
-                self.first.get_or_insert(refusal);
-                let mut lines = lines_of(&refusal).into_iter();
-                self.lines
-                    .push(format!("{name}: {}", lines.next().unwrap_or_default()));
-                self.lines.extend(lines);
-                answer(false, Some(&refusal), refusal.sentence())
-            }
-        }
-    }
-
-    fn declined(&mut self, name: &str, sentence: &str) -> Vec<(&'static str, Json)> {
-        self.refused += 1;
-        self.lines.push(format!("{name}: refused: {sentence}"));
-        answer(false, None, sentence)
-    }
-
-    /// A refusal before any record is read.
-    fn refused_whole(&mut self, refusal: &Refusal) {
-        self.answered("opening", Err(*refusal));
-    }
-
-    fn outcome(
-        self,
-        asked: &Asked,
-        unchecked: &[String],
-        checked: usize,
-        shape: &Shape,
-    ) -> Outcome {
-        let own = asked.left_to_the_holder();
-        let (verdict, sentence) = self.verdict(own, checked, shape);
-        let not_checked =
-            (!unchecked.is_empty()).then(|| format!("not checked: {}", some_of(unchecked)));
-        let said = format!("verdict: {sentence}");
-        Outcome::new(verdict, sentence)
-            .refusal(self.first)
-            .lines(self.lines)
-            .lines(not_checked)
-            .notes(self.notes)
-            .lines([said])
-            .found("records", Json::List(self.records))
-            .found("tail", self.tail.unwrap_or(Json::Null))
-            .found("not_checked", texts(unchecked))
-            .found("own_questions", own.map_or(Json::Null, Json::text))
-            .found("positions_checked", Json::number(checked))
-            .found("positions_of_a_full_check", Json::number(shape.queries()))
-    }
-
-    fn verdict(&self, own: Option<&str>, checked: usize, shape: &Shape) -> (Verdict, String) {
-        let records = if checked == 1 {
-            "1 record".into()
-        } else {
-            format!("{checked} records")
         };
-        let fewer = fewer(checked, shape);
-        match own {
-            _ if self.refused > 0 => (
-                Verdict::Refused,
-                format!("refused: {} refused, {} accepted", self.refused, self.accepted),
-            ),
-            Some(what) => (
-                Verdict::OwnQuestions,
-                format!("sound, but by the holder's own questions: the holder chose the {what}. {records} and the tail were checked{fewer}. This is no acceptance"),
-            ),
-            None => (Verdict::Accepted, format!("accepted: {records} and the tail{fewer}")),
-        }
+        found.add(Item::Record(*position), answer);
     }
+    if positions.is_empty() {
+        found.declined(
+            Item::Records,
+            "the opening shows no place of the deposit; ask the holder for positions",
+        );
+    }
+    let tail = statement.check_tail(claim, &shown.tail);
+    found.add(
+        Item::Tail,
+        tail.map_or_else(Answer::Refused, |()| Answer::Accepted(None)),
+    );
+    Ok(())
 }
 
-/// What a verdict says where fewer positions were checked than the profile has queries.
-fn fewer(checked: usize, shape: &Shape) -> String {
-    let full = shape.queries();
-    if checked >= full {
-        return String::new();
-    }
-    match shape.profile() {
-        Some((name, _)) => format!(", fewer than the {full} positions of the profile {name}"),
-        None => format!(", fewer than the {full} positions of a full check"),
+/// Two files for one position: which of them the holder means is not for the checker to guess.
+fn doubles(found: &mut Found, shown: &Shown) {
+    for (position, names) in shown.doubles() {
+        let sentence = format!(
+            "the opening has {} files for it: {}; ask the holder for one",
+            names.len(),
+            some_of(&names)
+        );
+        found.declined(Item::Doubles(position), sentence);
     }
 }

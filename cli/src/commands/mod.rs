@@ -7,4 +7,5 @@ pub mod compare;
 pub mod demo;
 pub mod explain;
 pub mod open;
+pub mod show;
 pub mod tail;
