@@ -173,7 +173,10 @@ impl Found {
             ),
             Some(what) => (
                 Verdict::OwnQuestions,
-                format!("sound, but by the holder's own questions: the holder chose the {what}. {records} and the tail were checked{fewer}. This is no acceptance"),
+                format!(
+                    "sound, but by the holder's own questions: the holder chose the {what}. {records} and the tail were checked{fewer}. This is no \
+                     acceptance"
+                ),
             ),
             None => (Verdict::Accepted, format!("accepted: {records} and the tail{fewer}")),
         }

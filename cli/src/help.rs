@@ -38,8 +38,8 @@ const COMMANDS: [Command; 11] = [
     },
     Command {
         name: "check",
-        usage: "seal check OPENING --seal FOLDER --asked FOLDER\n\
-                seal check OPENING --seal FOLDER --challenges FILE (--at P,P,.. | --positions FILE) [--roots FILE] [--claim WORD]",
+        usage: "seal check OPENING --seal FOLDER --asked FOLDER [--report FILE]\n\
+                seal check OPENING --seal FOLDER --challenges FILE (--at P,P,.. | --positions FILE) [--roots FILE] [--claim WORD] [--report FILE]",
         does: "Checks an opening by the checker's own request, or challenges and positions. For trying it out: --seed TEXT [--count N], which draws both.\n    \
                --own-questions checks by those that the holder chose instead: that is never an acceptance, and ends with 3.",
         takes: &commands::check::TAKEN,

@@ -9,6 +9,9 @@ use std::ffi::OsStr;
 /// Where the group of a and b on level 0 begins in a record: behind the level count, the words a, b, c and the group's own count.
 const GROUP: usize = 4 + 3 * 16 + 4;
 
+/// How many zeros at the end of a text are shown one by one.
+const FEW_ZEROS: usize = 3;
+
 /// The bytes of a line of hexadecimal digits.
 const LINE: usize = 16;
 
@@ -69,7 +72,7 @@ impl Opened {
         let mut parts = Vec::new();
         if let Some(last) = bytes.len().checked_sub(1) {
             let fill = if length.is_none() && self.may_be_behind_the_end() {
-                ", and zeros for those behind its end, if it ends before"
+                " (zeros where it ends before)"
             } else {
                 ""
             };
@@ -96,6 +99,14 @@ impl Opened {
 
 /// Bytes as text on one line: UTF-8 as far as they are that, and nothing that a terminal acts on.
 pub fn as_text(bytes: &[u8]) -> String {
+    let zeros = bytes.iter().rev().take_while(|b| **b == 0).count();
+    if zeros > FEW_ZEROS {
+        let (bytes, zeros) = (
+            &bytes[..bytes.len() - zeros],
+            format!("({zeros} bytes of zero)"),
+        );
+        return format!("{} {zeros}", as_text(bytes)).trim_start().into();
+    }
     let text = String::from_utf8_lossy(bytes);
     let on_one_line = text.replace('\n', "\\n").replace('\t', "\\t");
     shown_name(OsStr::new(&on_one_line))
@@ -162,7 +173,7 @@ mod tests {
         assert_eq!(said(23), "bytes 256 to 383 of the file");
         assert_eq!(
             said(31),
-            "bytes 384 to 511 of the file, and zeros for those behind its end, if it ends before"
+            "bytes 384 to 511 of the file (zeros where it ends before)"
         );
     }
 
@@ -227,6 +238,9 @@ mod tests {
             "план\\n\\u{202e}\\u{1b}"
         );
         assert_eq!(as_text(b"\xff"), "\u{fffd}");
+        assert_eq!(as_text(&[0; 128]), "(128 bytes of zero)");
+        assert_eq!(as_text(b"end.\n\0\0\0\0"), "end.\\n (4 bytes of zero)");
+        assert_eq!(as_text(b"a\0"), "a\\u{0}");
         let lines = as_digits(32, b"a ground plan, and\n");
         assert_eq!(
             lines[0],

@@ -95,6 +95,11 @@ pub fn shown_name(name: &OsStr) -> String {
         .collect()
 }
 
+/// A path as it is shown, by the same rule.
+pub fn shown_path(path: &Path) -> String {
+    shown_name(path.as_os_str())
+}
+
 /// Whether a file lies in a folder, links followed.
 pub fn lies_in(path: &Path, folder: &Path) -> bool {
     match (path.canonicalize(), folder.canonicalize()) {

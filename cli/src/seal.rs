@@ -11,12 +11,16 @@ use crate::folder::{Kind, Named, SUMMARY};
 use crate::format::{all_known, signature, Body};
 use crate::lines::{self, most_bytes, one};
 use crate::outcome::Failure;
-use crate::reading::text_inside;
+use crate::reading::{inside, shown_name, text_inside};
 use crate::shape::{Shape, PARAMETERS};
 use dequmlo::{Root, Sizes};
+use std::ffi::OsStr;
 use std::path::Path;
 
 pub const ROOT: &str = "root.txt";
+
+/// More than a summary has whose file's name is as long as a name can be.
+const MOST_OF_A_SUMMARY: usize = 16_384;
 
 /// The folder that `--seal` names, for what is said where it is missing.
 pub const SEAL_FOLDER: &str = "the folder that `seal commit` wrote";
@@ -25,6 +29,8 @@ pub struct Seal {
     pub shape: Shape,
     pub sizes: Sizes,
     pub root: Root,
+    /// What its summary says of the file, where its check line says that the summary is as it was written.
+    pub summary: Option<String>,
     /// Whether its own check lines say that it is as it was written.
     pub vouched: bool,
     /// What a verdict under this seal has to say of it.
@@ -94,9 +100,22 @@ fn parts(folder: &Path) -> Result<Seal, Failure> {
         shape: parameters.shape,
         sizes: parameters.sizes,
         root,
+        summary: lines.as_ref().and_then(|lines| summary(folder, lines)),
         vouched: lines.is_some(),
         notes,
     })
+}
+
+/// The line of a summary that says what the seal stands for.
+fn summary(folder: &Path, lines: &CheckLines) -> Option<String> {
+    let bytes = inside(folder, SUMMARY, MOST_OF_A_SUMMARY).ok()?;
+    let text = String::from_utf8_lossy(&bytes);
+    let line = text
+        .lines()
+        .find(|line| line.starts_with("It stands for"))?;
+    lines
+        .agree(SUMMARY, &bytes)
+        .then(|| shown_name(OsStr::new(line)))
 }
 
 /// Fails unless the check line of a file is that of its content.

@@ -46,7 +46,7 @@ fn the_bytes_that_are_shown_are_the_file_s() {
         0,
         &[
             "position 9: accepted; it shows bytes 128 to 255 of the file\n",
-            "position 187: accepted; it shows bytes 2944 to 3071 of the file, and zeros for those behind its end, if it ends before\n",
+            "position 187: accepted; it shows bytes 2944 to 3071 of the file (zeros where it ends before)\n",
         ],
     );
 }

@@ -1,18 +1,24 @@
 //! `seal check`: the records of an opening at the checker's positions, and its tail, under the office's root and the checker's challenges.
 
+use crate::clock;
 use crate::found::{Answer, Extent, Found, Item};
-use crate::opened::Opened;
+use crate::json::Json;
+use crate::opened::{as_text, Opened};
 use crate::options::Options;
 use crate::outcome::{Failure, Outcome};
 use crate::questions::{challenges, positions, requested, SEED_WARNING};
+use crate::reading::shown_path;
+use crate::report::{page, Subject};
 use crate::request::{Answered, Request};
 use crate::seal::{Seal, SEAL_FOLDER};
 use crate::shape::Shape;
 use crate::shown::{changed_note, some_of, Record, Shown};
 use crate::statement::{checker_s_own, claim, misfits, roots, statement, Roots};
-use dequmlo::{Statement, Word};
+use crate::writing::{make, may_be_made};
+use dequmlo::{Root, Statement, Word};
+use std::path::PathBuf;
 
-pub const TAKEN: [&str; 11] = [
+pub const TAKEN: [&str; 12] = [
     "--seal",
     "--asked",
     "--challenges",
@@ -23,38 +29,103 @@ pub const TAKEN: [&str; 11] = [
     "--roots",
     "--claim",
     "--own-questions",
+    "--report",
     "--json",
 ];
 
 pub fn run(options: &Options) -> Result<Outcome, Failure> {
     options.expect(1, "one OPENING", &TAKEN)?;
-    checker_s_own(options, &options.operands[0])?;
-    let seal = Seal::read(&options.needed_path("--seal", SEAL_FOLDER)?)?;
+    let opening = &options.operands[0];
+    checker_s_own(options, opening)?;
+    let report = options.path("--report");
+    if let Some(report) = &report {
+        may_be_made(report, opening)?;
+    }
+    let folder = options.needed_path("--seal", SEAL_FOLDER)?;
+    let seal = Seal::read(&folder)?;
     let asked = Asked::read(options, &seal)?;
+    let Examined {
+        found,
+        positions,
+        unchecked,
+        roots,
+        challenges,
+    } = examined(options, &seal, &asked)?;
+    let extent = Extent {
+        own: asked.left_to_the_holder(),
+        unchecked: &unchecked,
+        checked: positions.len(),
+        shape: &seal.shape,
+    };
+    if let Some(report) = &report {
+        let subject = Subject {
+            seal: &seal,
+            seal_name: shown_path(&folder),
+            opening_name: shown_path(opening),
+            date: clock::now(),
+            asked: asked.told(options)?,
+            roots: &roots,
+            challenges: &challenges,
+        };
+        let page = page(&subject, &found, &extent);
+        make(report, page.as_bytes()).map_err(|Failure(what)| {
+            let (_, sentence) = found.verdict(&extent);
+            Failure(format!("{what}. The check itself ended: {sentence}"))
+        })?;
+    }
+    let report = report.map(|path| path.display().to_string());
+    let written = report
+        .as_ref()
+        .map(|path| format!("the report is in {path}"));
+    Ok(found
+        .outcome(&extent)
+        .lines(written)
+        .found("report", report.map_or(Json::Null, Json::text)))
+}
+
+/// What was found of an opening, and what it was checked by.
+struct Examined {
+    found: Found,
+    positions: Vec<usize>,
+    unchecked: Vec<String>,
+    roots: Vec<Root>,
+    challenges: Vec<Word>,
+}
+
+fn examined(options: &Options, seal: &Seal, asked: &Asked) -> Result<Examined, Failure> {
+    let mut found = Found::default();
     let expected = asked
         .positions
         .as_ref()
         .map_or(seal.shape.queries(), Vec::len);
-    let shown = match Shown::read(&options.operands[0], &seal, expected)? {
+    let shown = match Shown::read(&options.operands[0], seal, expected)? {
         Ok(shown) => shown,
-        Err(sentence) => return Ok(Outcome::declined(sentence)),
+        Err(sentence) => {
+            found.declined(Item::Opening, sentence);
+            return Ok(Examined {
+                found,
+                positions: Vec::new(),
+                unchecked: Vec::new(),
+                roots: vec![seal.root],
+                challenges: asked.challenges.clone().unwrap_or_default(),
+            });
+        }
     };
     let roots = match asked.answered() {
         Some(answered) => Roots {
             all: answered.roots.clone(),
             kept: true,
         },
-        None => roots(options, &seal, &shown)?,
+        None => roots(options, seal, &shown)?,
     };
-    let words = asked.challenges_for(&shown)?;
+    let challenges = asked.challenges_for(&shown)?;
     let positions = asked.positions.clone().unwrap_or_else(|| shown.positions());
     let claim = match asked.answered() {
         Some(answered) => answered.claim,
         None => claim(options, &shown)?,
     };
-    let mut found = Found::default();
     doubles(&mut found, &shown);
-    match statement(&seal, &roots, &words) {
+    match statement(seal, &roots, &challenges) {
         Ok(statement) => checked(
             &mut found,
             &seal.shape,
@@ -66,17 +137,20 @@ pub fn run(options: &Options) -> Result<Outcome, Failure> {
         Err(refusal) => found.add(Item::Opening, Answer::Refused(refusal)),
     }
     found.notes.extend(seal.notes.iter().cloned());
-    found.notes.extend(misfits(&seal, &shown, &roots, &words));
+    found
+        .notes
+        .extend(misfits(seal, &shown, &roots, &challenges));
     found.notes.extend(changed_note(&shown.changed()));
     if options.text("--seed")?.is_some() {
         found.notes.push(SEED_WARNING.into());
     }
-    Ok(found.outcome(&Extent {
-        own: asked.left_to_the_holder(),
-        unchecked: &shown.unchecked(&positions),
-        checked: positions.len(),
-        shape: &seal.shape,
-    }))
+    Ok(Examined {
+        unchecked: shown.unchecked(&positions),
+        found,
+        positions,
+        roots: roots.all,
+        challenges,
+    })
 }
 
 /// What the checker asks; what is none is left to the opening, where that was said.
@@ -139,6 +213,34 @@ impl Asked {
     /// The roots and the claim that the request keeps.
     fn answered(&self) -> Option<&Answered> {
         self.request.as_ref()?.answered.as_ref()
+    }
+
+    /// Who asked what and when, in words.
+    fn told(&self, options: &Options) -> Result<Vec<String>, Failure> {
+        if let Some(request) = &self.request {
+            return Ok(request.told());
+        }
+        let from =
+            |name: &str, path: PathBuf| format!("the checker's {name}: from {}", shown_path(&path));
+        let seed = options.text("--seed")?;
+        let drawn = |name: &str| match &seed {
+            Some(seed) => format!(
+                "the checker's {name}: drawn from the seed text {}",
+                as_text(seed.as_bytes())
+            ),
+            None => format!("the {name}: the holder's own"),
+        };
+        let challenges = options
+            .path("--challenges")
+            .map(|path| from("challenges", path));
+        let positions = match (options.path("--positions"), options.text("--at")?) {
+            (Some(path), _) => Some(from("positions", path)),
+            (None, at) => at.map(|_| "the checker's positions: given by name".into()),
+        };
+        Ok(vec![
+            challenges.unwrap_or_else(|| drawn("challenges")),
+            positions.unwrap_or_else(|| drawn("positions")),
+        ])
     }
 
     fn in_range(&self, shape: &Shape) -> Result<(), Failure> {

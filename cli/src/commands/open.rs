@@ -7,6 +7,7 @@ use crate::options::Options;
 use crate::outcome::{texts, Failure, Outcome, Verdict};
 use crate::progress::Progress;
 use crate::questions::{challenges, positions, requested, SEED_WARNING};
+use crate::reading::shown_path;
 use crate::request::Request;
 use crate::seal::{Seal, SEAL_FOLDER};
 use crate::shape::Shape;
@@ -55,7 +56,7 @@ pub fn run(options: &Options) -> Result<Outcome, Failure> {
             "the request keeps other roots or another claim than this file has by its challenges, so it follows another answer than this file's".into(),
         ));
     }
-    notes.extend(target.write(&opening.files(&file.to_string_lossy(), &asked.drawn))?);
+    notes.extend(target.write(&opening.files(&shown_path(file), &asked.drawn))?);
     notes.extend(seal.notes);
     if asked.seeded {
         notes.push(SEED_WARNING.into());
