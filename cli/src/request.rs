@@ -17,10 +17,11 @@ use crate::format::{all_known, marked, signature, Body};
 use crate::lines::{self, items, most_bytes, one};
 use crate::opening::{CHALLENGES, CLAIM, ROOTS};
 use crate::outcome::Failure;
-use crate::reading::{inside, text_inside, Unread};
+use crate::reading::{inside, shown_name, text_inside, Unread};
 use crate::seal::{Seal, ROOT};
 use crate::shape::{Shape, PARAMETERS};
 use dequmlo::{Root, Word};
+use std::ffi::OsStr;
 use std::path::Path;
 
 const ASKED: &str = "asked.txt";
@@ -106,7 +107,9 @@ impl Request {
                 self.shape.positions()
             )
         }));
-        told
+        told.iter()
+            .map(|line| shown_name(OsStr::new(line)))
+            .collect()
     }
 
     /// What is wrong with the numbers of a request that no `seal ask` wrote.
