@@ -3,6 +3,7 @@
 
 use crate::format::{FORMAT, PROGRAM};
 use crate::found::{Answer, Extent, Found, Item};
+use crate::hex;
 use crate::opened::as_text;
 use crate::outcome::Verdict;
 use crate::picture::picture;
@@ -171,7 +172,7 @@ fn row(item: Item, answer: &Answer, length: Option<u128>) -> String {
             let text = if bytes.is_empty() {
                 String::new()
             } else {
-                format!("<br>as text: <code>{}</code>", escaped(&as_text(&bytes)))
+                format!("<br>{}", shown(&bytes))
             };
             let said = format!("it shows {}{text}", escaped(&opened.sentence(length)));
             ("accepted", "✓ accepted", said)
@@ -191,6 +192,21 @@ fn row(item: Item, answer: &Answer, length: Option<u128>) -> String {
         "<tr class=\"{class}\"><td class=\"place\">{}</td><td class=\"mark\">{mark}</td><td>{said}</td></tr>\n",
         item.name()
     )
+}
+
+/// Bytes as text, or as digits where they are none: one odd character in eight.
+fn shown(bytes: &[u8]) -> String {
+    let end = bytes
+        .iter()
+        .rposition(|b| *b != 0)
+        .map_or(0, |last| last + 1);
+    let text = String::from_utf8_lossy(&bytes[..end]);
+    let is_odd = |c: &char| *c == '\u{fffd}' || c.is_control() && !c.is_whitespace();
+    if 8 * text.chars().filter(is_odd).count() > text.chars().count() {
+        format!("in hexadecimal digits: <code>{}</code>", hex::write(bytes))
+    } else {
+        format!("as text: <code>{}</code>", escaped(&as_text(bytes)))
+    }
 }
 
 fn unchecked(extent: &Extent) -> Option<String> {
@@ -233,7 +249,23 @@ fn escaped(text: &str) -> String {
 
 #[cfg(test)]
 mod tests {
-    use super::escaped;
+    use super::{escaped, shown};
+
+    #[test]
+    fn text_is_shown_as_text_and_the_rest_in_digits() {
+        assert_eq!(
+            shown("план & разрез\n".as_bytes()),
+            "as text: <code>план &amp; разрез\\n</code>"
+        );
+        assert_eq!(shown(&[0; 16]), "as text: <code>(16 bytes of zero)</code>");
+        // A cut character at each end is still a text.
+        let cut = "ж план и разрез ж".as_bytes();
+        assert!(shown(&cut[1..cut.len() - 1]).starts_with("as text: "));
+        assert_eq!(
+            shown(&[0x89, 0xff, 1, 2]),
+            "in hexadecimal digits: <code>89ff0102</code>"
+        );
+    }
 
     #[test]
     fn nothing_that_is_escaped_is_markup() {
