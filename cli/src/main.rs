@@ -6,6 +6,7 @@ mod check_lines;
 mod commands;
 mod console;
 mod folder;
+mod format;
 mod help;
 mod hex;
 mod json;
@@ -52,10 +53,8 @@ fn run(options: &Options) -> Result<Outcome, Failure> {
         "compare" => commands::compare::run(options),
         "explain" => commands::explain::run(options),
         "demo" => commands::demo::run(options),
-        "help" | "-h" => help::run(options),
+        "help" => help::run(options),
         "version" | "--version" | "-V" => help::version(options),
-        other => Err(Failure(format!(
-            "there is no command `{other}`; `seal help` lists them"
-        ))),
+        other => Err(help::no_such_command(other)),
     }
 }

@@ -1,5 +1,6 @@
 //! What a checker asks: challenges and positions, from the checker's own files or, for trying it out, drawn from a seed text.
 
+use crate::format::Body;
 use crate::lines::{items, most_bytes};
 use crate::options::Options;
 use crate::outcome::Failure;
@@ -47,7 +48,9 @@ pub fn positions(options: &Options, shape: &Shape) -> Result<Option<Vec<usize>>,
             return Err(Failure("--at and --positions exclude each other".into()))
         }
         (Some(text), None) => text.replace(',', " "),
-        (None, Some(path)) => named_text(&path, MOST_POSITIONS)?,
+        (None, Some(path)) => Body::of(&path, &named_text(&path, MOST_POSITIONS)?)?
+            .text
+            .into(),
         (None, None) => return drawn(options, shape, count),
     };
     if count.is_some() {

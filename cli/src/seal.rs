@@ -1,4 +1,5 @@
-//! A seal: a small folder with the parameters, the root, their check lines, and a summary for a person.
+//! A seal: a small folder with the parameters, the root, their check lines, and a summary for a person. The first two begin with the line of
+//! their format (format.rs).
 //!
 //!     parameters.txt   n, k and the base domain (shape.rs)
 //!     root.txt         64 hexadecimal digits
@@ -7,7 +8,8 @@
 
 use crate::check_lines::{with_check_lines, CheckLines, CHECK};
 use crate::folder::{Kind, Named, SUMMARY};
-use crate::lines::{most_bytes, one};
+use crate::format::{all_known, signature, Body};
+use crate::lines::{self, most_bytes, one};
 use crate::outcome::Failure;
 use crate::reading::text_inside;
 use crate::shape::{Shape, PARAMETERS};
@@ -38,6 +40,7 @@ impl Seal {
                 folder.display()
             )));
         }
+        all_known(folder, &[PARAMETERS, ROOT])?;
         parts(folder).map_err(|Failure(what)| {
             Failure(format!(
                 "the seal in {} is damaged or cannot be read, so nothing was checked and nothing is said of an opening: {what}. Take the seal from a copy \
@@ -53,25 +56,28 @@ impl Seal {
         let summary = format!(
             "{}\n\nIt stands for the file {file} of {bytes} bytes, as a table of {} words (n = {n}, k = {k}), under the base \
              domain {}.\nRoot: {root}\n\nWhoever keeps this root can check that what a holder shows later is what was deposited:\n\
-             `seal open` makes what is shown, `seal check` checks it.\n",
+             `seal open` makes what is shown, `seal check` checks it.\n\n{}",
             Kind::Seal.heading(),
             1usize << n,
             shape.shown_domain(),
+            signature()
         );
         with_check_lines(vec![
-            (PARAMETERS.into(), shape.text().into_bytes()),
-            (ROOT.into(), root_text(root).into_bytes()),
+            (PARAMETERS.into(), shape.file()),
+            (ROOT.into(), lines::file(&[root])),
             (SUMMARY.into(), summary.into_bytes()),
         ])
     }
 }
 
 fn parts(folder: &Path) -> Result<Seal, Failure> {
-    let (shape, sizes, untidy_shape) = Shape::read(folder)?;
+    let parameters = Shape::read(folder)?;
+    let path = folder.join(ROOT);
     let text = text_inside(folder, ROOT, most_bytes(1, 64))?;
-    let root: Root = one(&folder.join(ROOT), &text)?;
+    let root: Root = one(&path, &text)?;
+    let written = Body::of(&path, &text)?.written(&lines::text(&[root]));
     let mut notes = Vec::new();
-    for (name, untidy) in [(PARAMETERS, untidy_shape), (ROOT, text != root_text(&root))] {
+    for (name, untidy) in [(PARAMETERS, parameters.untidy), (ROOT, text != written)] {
         if untidy {
             notes.push(format!("the seal's {name} has blanks, line ends or capital digits that `seal commit` does not write; its content counts"));
         }
@@ -79,22 +85,18 @@ fn parts(folder: &Path) -> Result<Seal, Failure> {
     let lines = CheckLines::read(folder, 8)?;
     match &lines {
         Some(lines) => {
-            agreed(lines, PARAMETERS, &shape.text())?;
-            agreed(lines, ROOT, &root_text(&root))?;
+            agreed(lines, PARAMETERS, &parameters.written)?;
+            agreed(lines, ROOT, &written)?;
         }
         None => notes.push(format!("the seal has no {CHECK}, as an earlier version wrote it: damage to the seal itself cannot be told from a wrong opening")),
     }
     Ok(Seal {
-        shape,
-        sizes,
+        shape: parameters.shape,
+        sizes: parameters.sizes,
         root,
         vouched: lines.is_some(),
         notes,
     })
-}
-
-fn root_text(root: &Root) -> String {
-    format!("{root}\n")
 }
 
 /// Fails unless the check line of a file is that of its content.

@@ -173,8 +173,8 @@ fn of_two_runs_into_one_folder_one_wins() {
         assert_eq!(statuses, [0, 2], "{runs:?}");
         let (won, lost) = if runs[0].status == 0 { (0, 1) } else { (1, 0) };
         runs[lost].says(2, &["another run wrote new in the meantime"]);
-        let root = desk.text("new/root.txt");
-        runs[won].says(0, &[root.trim()]);
+        let root = desk.value("new/root.txt");
+        runs[won].says(0, &[&root]);
         assert_eq!(
             desk.names("new"),
             ["check.txt", "parameters.txt", "root.txt", "summary.txt"]

@@ -10,7 +10,7 @@ use crate::shown::{changed_note, some_of, Record, Shown};
 use crate::statement::{checker_s_own, claim, misfits, roots, statement};
 use dequmlo::{Refusal, Statement, Word};
 
-const TAKEN: [&str; 10] = [
+pub const TAKEN: [&str; 10] = [
     "--seal",
     "--challenges",
     "--seed",

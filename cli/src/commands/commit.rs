@@ -12,7 +12,7 @@ use crate::writing::{beside, Target};
 use dequmlo::{Deposit, Parameters, Root};
 use std::path::Path;
 
-const TAKEN: [&str; 6] = ["--profile", "--k", "--domain", "--out", "--force", "--json"];
+pub const TAKEN: [&str; 6] = ["--profile", "--k", "--domain", "--out", "--force", "--json"];
 
 pub fn run(options: &Options) -> Result<Outcome, Failure> {
     options.expect(1, "one FILE", &TAKEN)?;

@@ -3,6 +3,7 @@
 
 use crate::check_lines::with_check_lines;
 use crate::folder::{Kind, Named, SUMMARY};
+use crate::format::signature;
 use crate::json::Json;
 use crate::options::Options;
 use crate::outcome::{lines_of, Failure, Outcome, Verdict};
@@ -14,7 +15,7 @@ use crate::statement::{roots, statement};
 use crate::writing::{beside, Target};
 use dequmlo::{Collision, QueryRecord, Refusal, Statement};
 
-const TAKEN: [&str; 8] = [
+pub const TAKEN: [&str; 8] = [
     "--seal",
     "--opening",
     "--at",
@@ -122,8 +123,9 @@ fn broken(options: &Options, collision: &Collision) -> Outcome {
 
 fn messages(collision: &Collision) -> Vec<Named> {
     let summary = format!(
-        "{}: {BROKEN}.\n\nfirst.message and second.message differ and have the same BLAKE3 digest.\n",
-        Kind::Collision.heading()
+        "{}: {BROKEN}.\n\nfirst.message and second.message differ and have the same BLAKE3 digest.\n\n{}",
+        Kind::Collision.heading(),
+        signature()
     );
     with_check_lines(vec![
         ("first.message".into(), collision.first.clone()),

@@ -14,7 +14,7 @@ use crate::writing::{beside, Target};
 use dequmlo::{Deposit, Refusal, Word};
 use std::path::Path;
 
-const TAKEN: [&str; 9] = [
+pub const TAKEN: [&str; 9] = [
     "--seal",
     "--challenges",
     "--seed",

@@ -9,7 +9,7 @@ use crate::statement::{checker_s_own, claim, roots, statement};
 use dequmlo::tree::fold_tree_width;
 use dequmlo::{TailRecord, Word};
 
-const TAKEN: [&str; 4] = ["--seal", "--roots", "--claim", "--json"];
+pub const TAKEN: [&str; 4] = ["--seal", "--roots", "--claim", "--json"];
 
 pub fn run(options: &Options) -> Result<Outcome, Failure> {
     options.expect(1, "one OPENING", &TAKEN)?;

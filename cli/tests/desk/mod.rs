@@ -9,6 +9,9 @@ use std::process::Command;
 /// The words of a check by the checker's own questions, for what `Desk::opened` made.
 pub const CHECK: &str = "check plan.txt.opening --seal plan.txt.seal --seed dice --at 7,0,127";
 
+/// The line that a text file begins with.
+pub const FORMAT: &str = "format 1\n";
+
 /// A folder for one test, empty at its start.
 pub struct Desk(pub PathBuf);
 
@@ -30,11 +33,17 @@ impl Desk {
         desk
     }
 
-    /// The same as version 0.1.0 left it, without check lines.
+    /// The same as version 0.1.0 left it, without check lines and without the line of the format.
     pub fn old(name: &str) -> Desk {
         let desk = Desk::opened(name);
-        let _ = fs::remove_file(desk.path("plan.txt.seal/check.txt"));
-        let _ = fs::remove_file(desk.path("plan.txt.opening/check.txt"));
+        for folder in ["plan.txt.seal", "plan.txt.opening"] {
+            let _ = fs::remove_file(desk.path(folder).join("check.txt"));
+            for file in desk.names(folder).iter().filter(|n| n.ends_with(".txt")) {
+                let path = format!("{folder}/{file}");
+                let text = desk.text(&path);
+                desk.write(&path, text.strip_prefix(FORMAT).unwrap_or(&text).as_bytes());
+            }
+        }
         desk
     }
 
@@ -52,6 +61,11 @@ impl Desk {
 
     pub fn text(&self, name: &str) -> String {
         String::from_utf8(self.read(name)).unwrap()
+    }
+
+    /// The one value of a text file, which stands in its last line.
+    pub fn value(&self, name: &str) -> String {
+        self.text(name).lines().last().unwrap().into()
     }
 
     /// Changes one bit of a byte.
