@@ -11,6 +11,7 @@ The last line is the verdict on all of it. --try tries this file on the values o
 Exit status: 0 yes, 1 no, 2 nothing could be checked.
 """
 import argparse
+import collections
 import functools
 import re
 import struct
@@ -45,14 +46,7 @@ QUESTIONS = {
 
 
 class No(Exception):
-    """A question that was answered with no."""
-
-    def __init__(self, number, level=None):
-        self.number, self.level = number, level
-
-    def __str__(self):
-        level = "" if self.level is None else f" at level {self.level}"
-        return f"{self.number}{level}: {QUESTIONS[self.number]}"
+    """A question that was answered with no: its number, its level where it has one, and the question."""
 
 
 class CannotCheck(Exception):
@@ -61,11 +55,11 @@ class CannotCheck(Exception):
 
 def ask(number, yes, level=None):
     if not yes:
-        raise No(number, level)
+        at_level = "" if level is None else f" at level {level}"
+        raise No(f"{number}{at_level}: {QUESTIONS[number]}")
 
 
 # 2. The field. A word is held as its 16 bytes, lowest first.
-
 
 def folded(a, b, r):
     """SPECIFICATION 6.4: a + r × (a + b), the product being that of 2.2: the sum of r × x^i over the set bits i of a + b."""
@@ -260,26 +254,28 @@ def check_tail(base, n, k, root, claim, record):
     ask(31, groups[0][0][0] == claim)
 
 
-# The files of a seal and of an opening.
+# 15. The files of a seal and of an opening.
 
 
 def content(path, most=2 ** 20):
     """A file's first bytes, one more than `most` at the most."""
-    try:
-        if not Path(path).is_file():
-            raise CannotCheck(f"there is no file {path}")
-        with open(path, "rb") as file:
-            return file.read(most + 1)
-    except OSError as error:
-        raise CannotCheck(f"cannot read {path}: {error.strerror}")
+    if not Path(path).is_file():
+        raise CannotCheck(f"there is no file {path}")
+    with open(path, "rb") as file:
+        return file.read(most + 1)
+
+
+def written(path):
+    """The lines of a text as they were written, without the blanks and empty lines that SPECIFICATION 15.2 passes over."""
+    return [line.rstrip() for line in content(path).decode("utf-8", "replace").rstrip().splitlines()]
 
 
 def lines(path):
-    """The lines of a text, without the blanks and empty lines that mail programs add at ends."""
-    try:
-        return [line.strip() for line in content(path).decode().rstrip().splitlines()]
-    except UnicodeDecodeError:
-        raise CannotCheck(f"{path} is not text")
+    """The lines of a text behind its format."""
+    found = written(path)
+    if found[:1] != ["format 1"] and "".join(found[:1]).startswith("format "):
+        raise CannotCheck(f"{path} is of {found[0]}, and this file knows format 1 alone")
+    return found[found[:1] == ["format 1"] :]
 
 
 def hexadecimal(path, text, size):
@@ -307,11 +303,12 @@ def parameters(path):
 
 
 def undamaged(seal):
-    """Ends here where a file of the seal is not the one whose digest its check lines have."""
+    """Ends here where a file of the seal is not the one whose digest its check lines have (SPECIFICATION 15.5)."""
     check = seal / "check.txt"
-    for line in lines(check) if check.exists() else []:
-        found, _, name = line.partition("  ")
-        if name in ("parameters.txt", "root.txt") and digest("".join(line + "\n" for line in lines(seal / name)).encode()).hex() != found:
+    then = {line[66:]: line[:64] for line in written(check)} if check.exists() else {}
+    for name in ("parameters.txt", "root.txt") if check.exists() else ():
+        text = "".join(line + "\n" for line in written(seal / name))
+        if digest((text.lower() if name == "root.txt" else text).encode()).hex() != then.get(name):
             raise CannotCheck(f"the seal is damaged: {name} and its line in check.txt do not agree")
 
 
@@ -345,7 +342,12 @@ def check_opening(asked):
     claim = word("the claim", asked.claim or "".join(lines(opening / "claim.txt")))
     query_bytes, tail_bytes = record_bytes(n, k)
     tail = content(opening / "tail.record", tail_bytes)
-    yes = True
+    meant = [re.fullmatch(r"query-\+?0*([0-9]+)\.record", path.name) for path in opening.iterdir()]
+    files = collections.Counter(int(found.group(1)) for found in meant if found)
+    doubles = sorted(position for position in files if files[position] > 1)
+    for position in doubles:
+        print(f"position {position}: no: the opening has {files[position]} files for it")
+    yes = not doubles
     for position in asked.at:
         path = opening / f"query-{position}.record"
         if path.exists():
@@ -359,7 +361,6 @@ def check_opening(asked):
 
 # 12. Values on which this file can be tried.
 
-EMPTY = "af1349b9f5f9a1a6a0404dea36dcc9499bcb25c9adc112b7cc9a93cae41f3262"
 OF_3073 = "7124b49501012f81cc7f11ca069ec9226cecb8a2c850cfe644e327d22d3e1cd3"
 ROOT_0 = "0669330e9f8271b8709da61c36482c788924e6026d5792c2f7e4fa50d61a51f3"
 ROOT_1 = "da293e0d68ec957f29e0f182a5808a566e7b12a855c63c2ab68aec541043a7f5"
@@ -372,7 +373,7 @@ TAIL = "01000000" + LAST + "00000000"
 
 def try_this_file():
     """Whether SPECIFICATION 12.3 and 12.4 come out as they stand there."""
-    yes = digest(b"").hex() == EMPTY and digest(bytes(i % 251 for i in range(3073))).hex() == OF_3073
+    yes = digest(bytes(i % 251 for i in range(3073))).hex() == OF_3073
     roots = [bytes.fromhex(ROOT_0), bytes.fromhex(ROOT_1)]
     yes &= answered("12.4, the query record", check_query, b"d", 1, 1, 2, [word("12.4", "%032x" % 2)], roots, bytes.fromhex(QUERY))
     return answered("12.4, the tail record", check_tail, b"d", 1, 1, roots[1], word("12.4", "%032x" % 0x1D), bytes.fromhex(TAIL)) and yes
@@ -381,14 +382,14 @@ def try_this_file():
 def main():
     parser = argparse.ArgumentParser(description=__doc__, formatter_class=argparse.RawDescriptionHelpFormatter)
     parser.add_argument("OPENING")
-    parser.add_argument("--seal", required=True)
-    parser.add_argument("--challenges", required=True)
+    for name in ("--seal", "--challenges"):
+        parser.add_argument(name, required=True)
     parser.add_argument("--at", required=True, type=lambda text: sorted({int(position) for position in text.split(",")}))
     parser.add_argument("--roots")
     parser.add_argument("--claim")
     try:
         yes = try_this_file() if sys.argv[1:] == ["--try"] else check_opening(parser.parse_args())
-    except CannotCheck as why:
+    except (CannotCheck, OSError) as why:
         print(f"nothing was checked: {why}", file=sys.stderr)
         return 2
     print("yes" if yes else "no")

@@ -38,20 +38,30 @@ fn both(desk: &Desk, status: i32, positions: &[usize], more: &str) -> Answers {
         listed(positions)
     );
     let program = desk.run(&format!("check {words}"));
-    let witness = Run::of(
-        Command::new("python3")
-            .arg(concat!(
-                env!("CARGO_MANIFEST_DIR"),
-                "/../tools/check_seal.py"
-            ))
-            .args(words.split_whitespace())
-            .current_dir(&desk.0),
-    );
+    let witness = witness(desk, &words);
     program.says(status, &[]);
     witness.says(status, &[]);
     let said = answers(&program, "accepted", "refused");
     assert_eq!(said, answers(&witness, "yes", "no"), "{more}");
     said
+}
+
+/// Runs tools/check_seal.py with the words of a line.
+fn witness(desk: &Desk, words: &str) -> Run {
+    let file = concat!(env!("CARGO_MANIFEST_DIR"), "/../tools/check_seal.py");
+    let mut command = Command::new("python3");
+    command
+        .arg(file)
+        .args(words.split_whitespace())
+        .current_dir(&desk.0);
+    Run::of(&mut command)
+}
+
+/// A text of values with another one in the place of the one of this number; its first line is the format.
+fn with_value(text: &str, number: usize, value: &str) -> String {
+    let mut lines: Vec<&str> = text.lines().collect();
+    lines[number + 1] = value;
+    lines.join("\n") + "\n"
 }
 
 fn answers(run: &Run, yes: &str, no: &str) -> Answers {
@@ -140,10 +150,7 @@ const DAMAGES: [(u32, fn(&mut Level)); 12] = [
 
 #[test]
 fn the_witness_gives_the_values_of_the_specification() {
-    let tried = Run::of(Command::new("python3").args([
-        concat!(env!("CARGO_MANIFEST_DIR"), "/../tools/check_seal.py"),
-        "--try",
-    ]));
+    let tried = witness(&Desk::new("witness-values"), "--try");
     tried.says(
         0,
         &["12.4, the query record: yes", "12.4, the tail record: yes"],
@@ -239,15 +246,14 @@ fn the_witness_on_other_challenges_than_the_holder_s() {
     let desk = opened("witness-challenges", &[7, 200]);
     let sound = desk.text("challenges.txt");
     for level in LEVELS {
-        let mut lines: Vec<String> = sound.lines().map(String::from).collect();
-        lines[level] = format!("{:032x}", 5);
-        desk.write("challenges.txt", (lines.join("\n") + "\n").as_bytes());
+        let changed = with_value(&sound, level, &format!("{:032x}", 5));
+        desk.write("challenges.txt", changed.as_bytes());
         let said = both(&desk, 1, &[7, 200], "");
         assert_eq!(said["position 7"], format!("26 at level {level}"));
         assert_eq!(said["tail"], "yes");
     }
     // One challenge less is the checker's own mistake.
-    desk.write("challenges.txt", &sound.as_bytes()[33..]);
+    desk.write("challenges.txt", &sound.as_bytes()[..sound.len() - 33]);
     both(&desk, 2, &[7], "");
 }
 
@@ -257,11 +263,7 @@ fn the_witness_on_other_roots() {
     let name = "plan.txt.opening/roots.txt";
     let sound = desk.text(name);
     desk.write("kept", sound.as_bytes());
-    let changed = |level: usize| {
-        let mut lines: Vec<String> = sound.lines().map(String::from).collect();
-        lines[level] = "ab".repeat(32);
-        lines.join("\n") + "\n"
-    };
+    let changed = |level: usize| with_value(&sound, level, &"ab".repeat(32));
     // Level 0's root is the office's own, so that what the opening says of it does not count.
     desk.write(name, changed(0).as_bytes());
     both(&desk, 0, &[7], "");
@@ -280,6 +282,12 @@ fn the_witness_on_other_roots() {
     }
     desk.write("other", changed(0).as_bytes());
     both(&desk, 2, &[7], "--roots other");
+    // One root less in the opening: the length is refused, by the program before it looks at a position.
+    desk.write(name, &sound.as_bytes()[..sound.len() - 65]);
+    let words = "plan.txt.opening --seal plan.txt.seal --challenges challenges.txt --at 7";
+    desk.run(&format!("check {words}"))
+        .says(1, &["opening: refused, 5: "]);
+    witness(&desk, words).says(1, &["position 7: no, 5: ", "tail: no, 5: "]);
 }
 
 #[test]
@@ -334,12 +342,51 @@ fn the_witness_numbers_each_damage_of_the_tail() {
 }
 
 #[test]
+fn the_witness_accepts_what_earlier_versions_wrote() {
+    let desk = Desk::new("witness-fixtures");
+    let fixtures = concat!(env!("CARGO_MANIFEST_DIR"), "/tests/fixtures/v1");
+    for version in ["0.1.0", "0.2.0", "0.3.0"] {
+        let folder = format!("{fixtures}/{version}");
+        fs::copy(
+            format!("{folder}/plan.txt.opening/challenges.txt"),
+            desk.path("challenges.txt"),
+        )
+        .unwrap();
+        let opening = format!("{folder}/plan.txt.opening --seal {folder}/plan.txt.seal");
+        let words = format!("{opening} --challenges challenges.txt --at 0,7,127");
+        witness(&desk, &words).says(0, &["position 127: yes\ntail: yes\nyes\n"]);
+    }
+}
+
+#[test]
+fn the_witness_on_another_format_and_on_two_files_for_a_position() {
+    let desk = opened("witness-folder", &[3, 7]);
+    let file = |name: &str| desk.path("plan.txt.opening").join(name);
+    fs::copy(file("query-3.record"), file("query-003.record")).unwrap();
+    both(&desk, 1, &[7], "");
+    fs::remove_file(file("query-003.record")).unwrap();
+    both(&desk, 0, &[7], "");
+    for name in ["plan.txt.seal/root.txt", "plan.txt.opening/roots.txt"] {
+        let sound = desk.text(name);
+        desk.write(name, sound.replacen("format 1", "format 2", 1).as_bytes());
+        both(&desk, 2, &[7], "");
+        desk.write(name, sound.as_bytes());
+    }
+}
+
+#[test]
 fn the_witness_takes_no_damaged_seal() {
     let desk = opened("witness-seal", &[7]);
     for name in ["parameters.txt", "root.txt"] {
         let name = format!("plan.txt.seal/{name}");
         let sound = desk.text(&name);
-        desk.write(&name, sound.replacen('2', "3", 1).as_bytes());
+        let end = sound.len() - 2;
+        let other = if sound.as_bytes()[end] == b'0' {
+            "1"
+        } else {
+            "0"
+        };
+        desk.write(&name, format!("{}{other}\n", &sound[..end]).as_bytes());
         both(&desk, 2, &[7], "");
         desk.write(&name, sound.replace('\n', " \r\n").as_bytes());
         both(&desk, 0, &[7], "");
