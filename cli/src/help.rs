@@ -14,7 +14,7 @@ struct Command {
     takes: &'static [&'static str],
 }
 
-const COMMANDS: [Command; 9] = [
+const COMMANDS: [Command; 10] = [
     Command {
         name: "commit",
         usage: "seal commit FILE [--profile NAME | --k K --domain TEXT] [--out FOLDER] [--force]",
@@ -39,6 +39,12 @@ const COMMANDS: [Command; 9] = [
         usage: "seal tail OPENING --seal FOLDER [--roots FILE] [--claim WORD]",
         does: "Checks the tail record alone, and lists the last level. Without --roots, roots that were kept, it ends with 3.",
         takes: &commands::tail::TAKEN,
+    },
+    Command {
+        name: "verify",
+        usage: "seal verify FILE --seal FOLDER [--opening FOLDER]",
+        does: "Says whether a file is still the one that was sealed. Where it is not and an opening shows old words, says where it first differs.",
+        takes: &commands::verify::TAKEN,
     },
     Command {
         name: "compare",

@@ -11,6 +11,7 @@ mod help;
 mod hex;
 mod json;
 mod lines;
+mod old_words;
 mod opening;
 mod options;
 mod outcome;
@@ -50,6 +51,7 @@ fn run(options: &Options) -> Result<Outcome, Failure> {
         "open" => commands::open::run(options),
         "check" => commands::check::run(options),
         "tail" => commands::tail::run(options),
+        "verify" => commands::verify::run(options),
         "compare" => commands::compare::run(options),
         "explain" => commands::explain::run(options),
         "demo" => commands::demo::run(options),

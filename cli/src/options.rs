@@ -27,7 +27,7 @@ const fn option(name: &'static str, value: &'static str, means: &'static str) ->
 /// Every option, in the order of the help.
 pub const OPTIONS: [Known; 17] = [
     option("--seal", "FOLDER", "the seal, as `seal commit` wrote it"),
-    option("--opening", "FOLDER", "the opening that names the challenges and the roots"),
+    option("--opening", "FOLDER", "the opening that names the challenges and the roots, or that shows words of the sealed file"),
     option("--profile", "NAME", "k and the base domain by a name: default, fastchunk, balanced, compactwrap, deepwrap"),
     option("--k", "K", "k by itself, from 0 to 4, together with --domain"),
     option("--domain", "TEXT", "the base domain by itself, at most 200 bytes, together with --k"),

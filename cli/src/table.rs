@@ -13,6 +13,17 @@ pub struct Table {
     pub words: Vec<Word>,
 }
 
+impl Table {
+    /// Word p of the file itself, with zeros behind its end, wherever its table has the length.
+    pub fn file_word(&self, place: usize) -> Word {
+        let of_file = (self.bytes + 15) / 16;
+        match self.words.get(place) {
+            Some(word) if place < of_file => *word,
+            _ => Word(0),
+        }
+    }
+}
+
 /// The table of a file; a sentence where the file is too large, of which then no more is read than shows that.
 pub fn read_table(path: &Path) -> Result<Result<Table, String>, Failure> {
     let bytes = named(path, MOST_BYTES)?;

@@ -199,6 +199,14 @@ fn the_witness_on_records_that_do_not_read_whole() {
     let cut = |size: usize| sound[..size].to_vec();
     let counted = |count: u32| [&count.to_le_bytes(), &sound[4..]].concat();
     let fewer = record(&levels(&sound)[..5]);
+    // Seven levels, of which no more is read than six and a byte.
+    let longer = record(
+        &[levels(&sound), levels(&sound)]
+            .into_iter()
+            .flatten()
+            .take(7)
+            .collect::<Vec<_>>(),
+    );
     let damaged = [
         (cut(sound.len() - 1), "14"),
         (cut(0), "14"),
@@ -206,7 +214,7 @@ fn the_witness_on_records_that_do_not_read_whole() {
         (counted(u32::MAX), "14"),
         (counted(5), "14"),
         ([&sound[..], &[0]].concat(), "14"),
-        ([&sound[..], &sound[4..]].concat(), "14"),
+        (longer, "14"),
         (fewer, "15"),
         (vec![0; 4], "15"),
     ];

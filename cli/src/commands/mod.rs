@@ -7,3 +7,4 @@ pub mod demo;
 pub mod explain;
 pub mod open;
 pub mod tail;
+pub mod verify;
