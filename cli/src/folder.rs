@@ -2,6 +2,7 @@
 //! from before there were check lines by its parameters and its summary.
 
 use crate::check_lines::{CheckLines, CHECK};
+use crate::manifest::MANIFEST;
 use crate::opening::record_position;
 use crate::reading::{inside, listed, reason, shown_name};
 use std::ffi::OsStr;
@@ -67,6 +68,7 @@ impl Kind {
             self.files().contains(&name)
                 || name == CHECK
                 || self == Kind::Opening && record_position(name).is_some()
+                || [Kind::Seal, Kind::Opening].contains(&self) && name == MANIFEST
         };
         name.to_str().map_or(false, known)
     }

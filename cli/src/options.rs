@@ -25,7 +25,7 @@ const fn option(name: &'static str, value: &'static str, means: &'static str) ->
 }
 
 /// Every option, in the order of the help.
-pub const OPTIONS: [Known; 17] = [
+pub const OPTIONS: [Known; 20] = [
     option("--seal", "FOLDER", "the seal, as `seal commit` wrote it"),
     option("--opening", "FOLDER", "the opening that names the challenges and the roots, or that shows words of the sealed file"),
     option("--profile", "NAME", "k and the base domain by a name: default, fastchunk, balanced, compactwrap, deepwrap"),
@@ -34,6 +34,9 @@ pub const OPTIONS: [Known; 17] = [
     option("--challenges", "FILE", "the checker's challenges, n words, one to a line"),
     option("--at", "P,P,..", "the checker's positions"),
     option("--positions", "FILE", "the checker's positions in a file, with blanks or line ends between them"),
+    option("--offset", "B,B,..", "bytes of the file, from 0, in place of positions: the words that hold them"),
+    option("--file", "PATH", "the file of a project, by its path below the project's folder"),
+    option("--part", "I", "the part of a large file of a project, from 1, where no offset says it"),
     option("--seed", "TEXT", "for trying it out: draws challenges and positions from a text, which whoever knows it can do too"),
     option("--count", "N", "how many positions are drawn; where nothing is drawn, 0 for none"),
     option("--roots", "FILE", "the roots of all levels that the checker kept, in place of the opening's"),
@@ -135,6 +138,11 @@ impl Options {
             .iter()
             .find(|(n, _)| n == name)
             .map(|(_, value)| value)
+    }
+
+    /// Whether an option with a value is given.
+    pub fn has_value(&self, name: &str) -> bool {
+        self.value(name).is_some()
     }
 
     pub fn path(&self, name: &str) -> Option<PathBuf> {

@@ -3,15 +3,18 @@
 use crate::json::Json;
 use crate::options::Options;
 use crate::outcome::{answer, lines_of, texts, Failure, Outcome, Verdict};
+use crate::part::{asked_seal, Part};
 use crate::questions::{challenges, positions, SEED_WARNING};
-use crate::seal::{Seal, SEAL_FOLDER};
 use crate::shape::Shape;
 use crate::shown::{changed_note, some_of, Record, Shown};
 use crate::statement::{checker_s_own, claim, misfits, roots, statement};
 use dequmlo::{Refusal, Statement, Word};
 
-pub const TAKEN: [&str; 10] = [
+pub const TAKEN: [&str; 13] = [
     "--seal",
+    "--file",
+    "--part",
+    "--offset",
     "--challenges",
     "--seed",
     "--at",
@@ -26,7 +29,10 @@ pub const TAKEN: [&str; 10] = [
 pub fn run(options: &Options) -> Result<Outcome, Failure> {
     options.expect(1, "one OPENING", &TAKEN)?;
     checker_s_own(options, &options.operands[0])?;
-    let seal = Seal::read(&options.needed_path("--seal", SEAL_FOLDER)?)?;
+    let seal = match asked_seal(options, Some(&options.operands[0]))? {
+        Ok(seal) => seal,
+        Err(refused) => return Ok(refused),
+    };
     let asked = Asked::read(options, &seal.shape)?;
     let expected = asked
         .positions
@@ -41,6 +47,7 @@ pub fn run(options: &Options) -> Result<Outcome, Failure> {
     let positions = asked.positions.clone().unwrap_or_else(|| shown.positions());
     let claim = claim(options, &shown)?;
     let mut found = Found::default();
+    found.lines.extend(seal.part.iter().flat_map(Part::lines));
     found.doubles(&shown);
     match statement(&seal, &roots, &words) {
         Ok(statement) => found.all(&statement, &shown, &positions, claim)?,

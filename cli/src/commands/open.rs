@@ -5,17 +5,23 @@ use crate::json::Json;
 use crate::opening::Opening;
 use crate::options::Options;
 use crate::outcome::{texts, Failure, Outcome, Verdict};
+use crate::part::{asked_seal, Part};
 use crate::progress::Progress;
+use crate::project::file_path;
 use crate::questions::{challenges, positions, SEED_WARNING};
-use crate::seal::{Seal, SEAL_FOLDER};
+use crate::reading::{shown_name, stretch, unreadable};
+use crate::seal::Seal;
 use crate::shape::Shape;
-use crate::table::{read_table, room_for};
+use crate::table::{read_table, room_for, table_of};
 use crate::writing::{beside, Target};
 use dequmlo::{Deposit, Refusal, Word};
 use std::path::Path;
 
-pub const TAKEN: [&str; 9] = [
+pub const TAKEN: [&str; 12] = [
     "--seal",
+    "--file",
+    "--part",
+    "--offset",
     "--challenges",
     "--seed",
     "--at",
@@ -33,22 +39,44 @@ pub fn run(options: &Options) -> Result<Outcome, Failure> {
         .path("--out")
         .unwrap_or_else(|| beside(file, ".opening"));
     let (target, mut notes) = Target::new(&folder, Kind::Opening, options.has("--force"))?;
-    let seal = Seal::read(&options.needed_path("--seal", SEAL_FOLDER)?)?;
+    let seal = match asked_seal(options, None)? {
+        Ok(seal) => seal,
+        Err(refused) => return Ok(refused),
+    };
     let asked = Asked::read(options, &seal.shape)?;
-    let table = match read_table(file)? {
-        Ok(table) => table.words,
+    if file.is_dir() && seal.part.is_none() {
+        return Err(Failure(format!(
+            "{} is a folder: --file PATH says which file of the project is opened",
+            file.display()
+        )));
+    }
+    let (read, path) = match &seal.part {
+        None => (read_table(file)?.map(|table| table.words), file.clone()),
+        Some(part) => {
+            let path = file_path(file, &part.path);
+            (read_part(&path, part)?, path)
+        }
+    };
+    let table = match read {
+        Ok(table) => table,
         Err(sentence) => return Ok(Outcome::declined(sentence)),
     };
+    let not_the_file = || Ok(Outcome::declined(another_file(&path)));
     if table.len() != seal.sizes.table_words {
-        return Ok(not_the_file(file));
+        return not_the_file();
     }
     room_for(&seal.shape)?;
     let opening = match opened(&seal, &table, &asked) {
         Ok(Some(opening)) => opening,
-        Ok(None) => return Ok(not_the_file(file)),
+        Ok(None) => return not_the_file(),
         Err(refusal) => return Ok(Outcome::refused(&refusal)),
     };
-    notes.extend(target.write(&opening.files(&file.to_string_lossy(), &asked.drawn))?);
+    let name = match &seal.part {
+        None => file.to_string_lossy().into_owned(),
+        Some(part) => part.name(),
+    };
+    let manifest = seal.part.map(|part| part.manifest);
+    notes.extend(target.write(&opening.files(&name, &asked.drawn, manifest))?);
     notes.extend(seal.notes);
     if asked.seeded {
         notes.push(SEED_WARNING.into());
@@ -83,6 +111,13 @@ impl Asked {
     }
 }
 
+/// The table of a part of a project's file, as the file is now: with a byte more where it does not end with the part.
+fn read_part(path: &Path, part: &Part) -> Result<Result<Vec<Word>, String>, Failure> {
+    let more = usize::from(part.is_last());
+    let bytes = stretch(path, part.start, part.bytes + more).map_err(|e| unreadable(path, e))?;
+    Ok(table_of(&bytes).map_err(|_| another_file(path)))
+}
+
 /// The opening of a table; none where its root is not the seal's.
 fn opened(seal: &Seal, table: &[Word], asked: &Asked) -> Result<Option<Opening>, Refusal> {
     let progress = Progress::start();
@@ -110,11 +145,11 @@ fn opened(seal: &Seal, table: &[Word], asked: &Asked) -> Result<Option<Opening>,
     }))
 }
 
-fn not_the_file(file: &Path) -> Outcome {
-    Outcome::declined(format!(
+fn another_file(path: &Path) -> String {
+    format!(
         "{} is not the file that was sealed: its root is another",
-        file.display()
-    ))
+        shown_name(path.as_os_str())
+    )
 }
 
 fn told(opening: &Opening, folder: &Path) -> Outcome {

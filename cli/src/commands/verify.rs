@@ -1,5 +1,7 @@
-//! `seal verify`: whether a file is still the one that was sealed, and where it first differs as far as an opening shows the old words.
+//! `seal verify`: whether a file is still the one that was sealed, and where it first differs as far as an opening shows the old words. A
+//! folder is a project (verify_folder.rs).
 
+use crate::commands::verify_folder;
 use crate::folder::SUMMARY;
 use crate::json::Json;
 use crate::old_words::shown_words;
@@ -19,10 +21,13 @@ pub const TAKEN: [&str; 3] = ["--seal", "--opening", "--json"];
 const MOST_SUMMARY: usize = 1 << 16;
 
 pub fn run(options: &Options) -> Result<Outcome, Failure> {
-    options.expect(1, "one FILE", &TAKEN)?;
+    options.expect(1, "one FILE or FOLDER", &TAKEN)?;
     let file = &options.operands[0];
     let folder = options.needed_path("--seal", SEAL_FOLDER)?;
     let seal = Seal::read(&folder)?;
+    if file.is_dir() {
+        return verify_folder::run(file, &folder, seal);
+    }
     // A file that is too large for any seal is not the one that was sealed.
     let table = read_table(file)?.ok();
     let same = match &table {
