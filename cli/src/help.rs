@@ -14,7 +14,7 @@ struct Command {
     takes: &'static [&'static str],
 }
 
-const COMMANDS: [Command; 10] = [
+const COMMANDS: [Command; 11] = [
     Command {
         name: "commit",
         usage: "seal commit FILE|FOLDER [--profile NAME | --k K --domain TEXT] [--out FOLDER] [--force]",
@@ -22,16 +22,26 @@ const COMMANDS: [Command; 10] = [
         takes: &commands::commit::TAKEN,
     },
     Command {
+        name: "ask",
+        usage: "seal ask --seal FOLDER [--by TEXT] [--out FOLDER] [--force]\n\
+                seal ask --seal FOLDER --asked FOLDER --answer FOLDER [--count N] [--out FOLDER] [--force]",
+        does: "Draws what a checker asks, by the system's randomness, into a folder to send. First the challenges; then, when the holder has answered\n    \
+               with its roots, the positions: N of them, or as many as the profile has.",
+        takes: &commands::ask::TAKEN,
+    },
+    Command {
         name: "open",
-        usage: "seal open FILE --seal FOLDER (--challenges FILE | --seed TEXT) (--at P,P,.. | --positions FILE | --count N) [--out FOLDER] [--force]",
-        does: "Builds the records that a checker asked for, into the folder FILE.opening.\n    \
+        usage: "seal open FILE --seal FOLDER --asked FOLDER [--out FOLDER] [--force]\n\
+                seal open FILE --seal FOLDER (--challenges FILE | --seed TEXT) (--at P,P,.. | --positions FILE | --count N) [--out FOLDER] [--force]",
+        does: "Builds what a checker asked for: into FILE.answer while the request has no positions, then into FILE.opening.\n    \
                Of a project: seal open FOLDER --file PATH --offset B,B,.. with the rest as above.",
         takes: &commands::open::TAKEN,
     },
     Command {
         name: "check",
-        usage: "seal check OPENING --seal FOLDER --challenges FILE (--at P,P,.. | --positions FILE) [--roots FILE] [--claim WORD]",
-        does: "Checks an opening by the checker's own challenges and positions. For trying it out: --seed TEXT [--count N], which draws both.\n    \
+        usage: "seal check OPENING --seal FOLDER --asked FOLDER\n\
+                seal check OPENING --seal FOLDER --challenges FILE (--at P,P,.. | --positions FILE) [--roots FILE] [--claim WORD]",
+        does: "Checks an opening by the checker's own request, or challenges and positions. For trying it out: --seed TEXT [--count N], which draws both.\n    \
                Of a project's opening, --file PATH and --offset B,B,.. say what is asked about; its manifest is checked first.\n    \
                --own-questions checks by those that the holder chose instead: that is never an acceptance, and ends with 3.",
         takes: &commands::check::TAKEN,

@@ -3,8 +3,10 @@
 //! questions.
 
 mod check_lines;
+mod clock;
 mod commands;
 mod console;
+mod drawing;
 mod folder;
 mod format;
 mod help;
@@ -21,6 +23,7 @@ mod progress;
 mod project;
 mod questions;
 mod reading;
+mod request;
 mod seal;
 mod shape;
 mod shown;
@@ -51,6 +54,7 @@ fn run(options: &Options) -> Result<Outcome, Failure> {
     }
     match options.command.as_str() {
         "commit" => commands::commit::run(options),
+        "ask" => commands::ask::run(options),
         "open" => commands::open::run(options),
         "check" => commands::check::run(options),
         "tail" => commands::tail::run(options),

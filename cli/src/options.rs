@@ -25,8 +25,11 @@ const fn option(name: &'static str, value: &'static str, means: &'static str) ->
 }
 
 /// Every option, in the order of the help.
-pub const OPTIONS: [Known; 20] = [
+pub const OPTIONS: [Known; 23] = [
     option("--seal", "FOLDER", "the seal, as `seal commit` wrote it"),
+    option("--asked", "FOLDER", "the request that `seal ask` wrote; it has challenges, positions, roots and claim"),
+    option("--answer", "FOLDER", "the holder's answer to a request without positions, as `seal open` wrote it"),
+    option("--by", "TEXT", "who asks: a name that the request has for people"),
     option("--opening", "FOLDER", "the opening that names the challenges and the roots, or that shows words of the sealed file"),
     option("--profile", "NAME", "k and the base domain by a name: default, fastchunk, balanced, compactwrap, deepwrap"),
     option("--k", "K", "k by itself, from 0 to 4, together with --domain"),
@@ -133,16 +136,16 @@ impl Options {
         self.flags.iter().any(|given| given == flag)
     }
 
+    /// Whether an option is given, with a value or without one.
+    pub fn given(&self, name: &str) -> bool {
+        self.has(name) || self.value(name).is_some()
+    }
+
     fn value(&self, name: &str) -> Option<&OsString> {
         self.named
             .iter()
             .find(|(n, _)| n == name)
             .map(|(_, value)| value)
-    }
-
-    /// Whether an option with a value is given.
-    pub fn has_value(&self, name: &str) -> bool {
-        self.value(name).is_some()
     }
 
     pub fn path(&self, name: &str) -> Option<PathBuf> {

@@ -111,10 +111,11 @@ pub fn asked_seal(
     let folder = options.needed_path("--seal", SEAL_FOLDER)?;
     let seal = Seal::read(&folder)?;
     if options.path("--file").is_none() {
-        return match opening.filter(|opening| opening.join(MANIFEST).exists()) {
-            Some(opening) => Err(Failure(format!(
-                "{} is an opening of a project: --file PATH says which file of it is asked about",
-                opening.display()
+        let mut folders = [Some(&*folder), opening].into_iter().flatten();
+        return match folders.find(|folder| folder.join(MANIFEST).exists()) {
+            Some(folder) => Err(Failure(format!(
+                "{} is a project's: --file PATH says which file of the project is asked about",
+                folder.display()
             ))),
             None => Ok(Ok(seal)),
         };

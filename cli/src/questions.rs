@@ -1,4 +1,4 @@
-//! What a checker asks: challenges and positions, from the checker's own files or, for trying it out, drawn from a seed text.
+//! What a checker asks: a request, or challenges and positions from the checker's own files or, for trying it out, drawn from a seed text.
 
 use crate::format::Body;
 use crate::lines::{items, most_bytes};
@@ -6,6 +6,8 @@ use crate::manifest::PART;
 use crate::options::Options;
 use crate::outcome::Failure;
 use crate::reading::named_text;
+use crate::request::Request;
+use crate::seal::Seal;
 use crate::shape::Shape;
 use dequmlo::Word;
 use std::collections::BTreeSet;
@@ -16,6 +18,33 @@ pub const SEED_WARNING: &str = "the questions come from a seed text: good for tr
 
 /// The most bytes that a file of positions is read for.
 const MOST_POSITIONS: usize = 1 << 20;
+
+/// The request that the options name, which has everything that a checker asks; none where they name none.
+pub fn requested(options: &Options, seal: &Seal) -> Result<Option<Request>, Failure> {
+    let folder = match options.path("--asked") {
+        Some(folder) => folder,
+        None => return Ok(None),
+    };
+    match OTHERS.iter().find(|name| options.given(name)) {
+        Some(name) => Err(Failure(format!(
+            "--asked names all that is asked, and excludes {name}"
+        ))),
+        None => Request::read(&folder, seal).map(Some),
+    }
+}
+
+/// What a request has, when it is given by options.
+const OTHERS: [&str; 9] = [
+    "--challenges",
+    "--seed",
+    "--at",
+    "--positions",
+    "--offset",
+    "--count",
+    "--roots",
+    "--claim",
+    "--own-questions",
+];
 
 /// The challenges that the options name, and where they come from; none where they name none.
 pub fn challenges(options: &Options, n: usize) -> Result<Option<(Vec<Word>, String)>, Failure> {
@@ -86,11 +115,11 @@ pub fn offsets(options: &Options) -> Result<Option<Vec<u64>>, Failure> {
 fn places(options: &Options, shape: &Shape, offsets: &[u64]) -> Result<Vec<usize>, Failure> {
     if let Some(name) = ["--at", "--positions", "--count"]
         .iter()
-        .find(|name| options.has_value(name))
+        .find(|name| options.given(name))
     {
         return Err(Failure(format!("--offset excludes {name}")));
     }
-    let is_part = options.has_value("--file");
+    let is_part = options.given("--file");
     let words = 1u64 << shape.n;
     let mut positions = BTreeSet::new();
     for offset in offsets {

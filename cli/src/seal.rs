@@ -18,7 +18,7 @@ use crate::shape::{Shape, PARAMETERS};
 use dequmlo::{Root, Sizes};
 use std::path::Path;
 
-const ROOT: &str = "root.txt";
+pub const ROOT: &str = "root.txt";
 
 /// The folder that `--seal` names, for what is said where it is missing.
 pub const SEAL_FOLDER: &str = "the folder that `seal commit` wrote";

@@ -92,11 +92,22 @@ fn kept(version: &str) -> std::path::PathBuf {
         .join(version)
 }
 
+/// The names of the folders in a folder.
+fn folders(folder: &Path) -> Vec<String> {
+    fs::read_dir(folder)
+        .unwrap()
+        .map(|entry| entry.unwrap())
+        .filter(|entry| entry.file_type().unwrap().is_dir())
+        .map(|entry| entry.file_name().into_string().unwrap())
+        .collect()
+}
+
 /// A desk with the files that a version made.
 fn desk_of(version: &str) -> Desk {
     let desk = Desk::new(&format!("kept-{version}"));
     fs::copy(kept(version).join("plan.txt"), desk.path("plan.txt")).unwrap();
-    for folder in ["plan.txt.seal", "plan.txt.opening"] {
+    for folder in folders(&kept(version)) {
+        let folder = folder.as_str();
         desk.folder(folder);
         for entry in fs::read_dir(kept(version).join(folder)).unwrap() {
             let name = entry.unwrap().file_name();
@@ -112,11 +123,7 @@ fn desk_of(version: &str) -> Desk {
 
 #[test]
 fn what_earlier_versions_made_is_accepted() {
-    let versions = fs::read_dir(kept("")).unwrap();
-    let mut versions: Vec<String> = versions
-        .map(|entry| entry.unwrap().file_name().into_string().unwrap())
-        .collect();
-    versions.sort();
+    let versions = folders(&kept(""));
     for known in ["0.1.0", "0.2.0", "0.3.0"] {
         assert!(versions.iter().any(|v| v == known), "{known} is missing");
     }
@@ -130,6 +137,15 @@ fn what_earlier_versions_made_is_accepted() {
             .says(0, &[]);
         desk.run(&CHECK.replace("plan.txt.opening", "again"))
             .says(0, &["verdict: accepted"]);
+        // Requests came with version 0.3.0.
+        if version != "0.1.0" && version != "0.2.0" {
+            desk.run("check asked.opening --seal plan.txt.seal --asked plan.txt.asked")
+                .says(0, &["verdict: accepted: 3 records and the tail"]);
+            desk.run("open plan.txt --seal plan.txt.seal --asked plan.txt.asked --out asked.again")
+                .says(0, &["opened 3 positions"]);
+            desk.run("ask --seal plan.txt.seal --asked plan.txt.asked --answer plan.txt.answer --out more")
+                .says(0, &["drew 40 positions"]);
+        }
         // A damaged one is still told from a sound one.
         desk.damage("plan.txt.opening/query-7.record", 60);
         desk.check()
@@ -150,7 +166,7 @@ fn the_version_and_the_help_of_every_command() {
         assert_eq!(desk.run(words).out, all.out);
     }
     let commands = [
-        "commit", "open", "check", "tail", "compare", "explain", "demo", "help", "version",
+        "commit", "ask", "open", "check", "tail", "compare", "explain", "demo", "help", "version",
     ];
     for command in commands {
         let help = desk.run(&format!("help {command}"));

@@ -158,6 +158,15 @@ fn json_is_one_object_whatever_happens() {
             0,
             "open plan.txt --seal plan.txt.seal --seed dice --at 7 --out a",
         ),
+        (0, "ask --seal plan.txt.seal"),
+        (
+            0,
+            "open plan.txt --seal plan.txt.seal --asked plan.txt.asked",
+        ),
+        (
+            0,
+            "ask --seal plan.txt.seal --asked plan.txt.asked --answer plan.txt.answer",
+        ),
         (0, CHECK),
         (1, "check a --seal plan.txt.seal --seed dice --at 8"),
         (

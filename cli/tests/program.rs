@@ -348,7 +348,10 @@ fn wrong_use() {
             "commit plan.txt --out a --profile large",
             "there is no profile large; there are default,",
         ),
-        (open, "needs the checker's challenges"),
+        (
+            open,
+            "needs the checker's request, --asked FOLDER, or the checker's challenges",
+        ),
         (
             &format!("{open} --challenges plan.txt.opening/challenges.txt"),
             "needs the checker's positions",

@@ -207,6 +207,45 @@ fn a_file_is_opened_and_checked_through_the_manifest() {
 }
 
 #[test]
+fn a_checker_asks_about_a_file_in_two_rounds() {
+    let desk = sealed("project-request");
+    let of = "--seal house.seal --file plan.txt";
+    desk.run("ask --seal house.seal").says(
+        2,
+        &["house.seal is a project's: --file PATH says which file"],
+    );
+    desk.run(&format!("ask {of}"))
+        .says(0, &["drew 6 challenges into house.asked"]);
+    desk.run(&format!("open house {of} --asked house.asked"))
+        .says(0, &["into house.answer"]);
+    desk.run(&format!(
+        "ask {of} --asked house.asked --answer house.answer"
+    ))
+    .says(0, &["drew 40 positions"]);
+    desk.run(&format!("open house {of} --asked house.asked"))
+        .says(0, &["opened 40 positions into house.opening"]);
+    let check = format!("check house.opening {of} --asked house.asked");
+    desk.run(&check).says(
+        0,
+        &[
+            "manifest: accepted",
+            "verdict: accepted: 40 records and the tail\n",
+        ],
+    );
+    desk.run(&format!("{check} --offset 3")).says(
+        2,
+        &["--asked names all that is asked, and excludes --offset"],
+    );
+    desk.run(&check.replace("plan.txt", "empty"))
+        .says(2, &["house.asked"]);
+    let manifest = desk
+        .text("house.opening/manifest.txt")
+        .replace("file 0", "file 1");
+    desk.write("house.opening/manifest.txt", manifest.as_bytes());
+    desk.run(&check).says(1, &["refused: manifest: "]);
+}
+
+#[test]
 fn a_refusal_says_whether_the_manifest_or_a_record_failed() {
     let desk = sealed("project-refusals");
     desk.run(OPEN).says(0, &[]);
@@ -310,7 +349,7 @@ fn what_is_asked_about_must_be_there() {
             "--at 3 --part 2",
             "the file has no part 2; it has 1",
         ),
-        (" --file plan.txt", "", " --file PATH says which file"),
+        (" --file plan.txt", "", ": --file PATH says which file"),
     ] {
         for line in [&*format!("{OPEN} --out other"), CHECK] {
             desk.run(&line.replace(from, to)).says(2, &[said]);

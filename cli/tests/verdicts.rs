@@ -65,7 +65,7 @@ fn a_file_of_the_opening_is_not_the_checker_s_own() {
         .says(
             2,
             &[&format!(
-                "lies in the opening, so it is the holder's; {name} takes the checker's own file"
+                "lies in the opening, so it is the holder's; {name} takes the checker's own"
             )],
         );
     }

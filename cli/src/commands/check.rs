@@ -4,17 +4,20 @@ use crate::json::Json;
 use crate::options::Options;
 use crate::outcome::{answer, lines_of, texts, Failure, Outcome, Verdict};
 use crate::part::{asked_seal, Part};
-use crate::questions::{challenges, positions, SEED_WARNING};
+use crate::questions::{challenges, positions, requested, SEED_WARNING};
+use crate::request::{Answered, Request};
+use crate::seal::Seal;
 use crate::shape::Shape;
 use crate::shown::{changed_note, some_of, Record, Shown};
-use crate::statement::{checker_s_own, claim, misfits, roots, statement};
+use crate::statement::{checker_s_own, claim, misfits, roots, statement, Roots};
 use dequmlo::{Refusal, Statement, Word};
 
-pub const TAKEN: [&str; 13] = [
+pub const TAKEN: [&str; 14] = [
     "--seal",
     "--file",
     "--part",
     "--offset",
+    "--asked",
     "--challenges",
     "--seed",
     "--at",
@@ -33,7 +36,7 @@ pub fn run(options: &Options) -> Result<Outcome, Failure> {
         Ok(seal) => seal,
         Err(refused) => return Ok(refused),
     };
-    let asked = Asked::read(options, &seal.shape)?;
+    let asked = Asked::read(options, &seal)?;
     let expected = asked
         .positions
         .as_ref()
@@ -42,10 +45,19 @@ pub fn run(options: &Options) -> Result<Outcome, Failure> {
         Ok(shown) => shown,
         Err(sentence) => return Ok(Outcome::declined(sentence)),
     };
-    let roots = roots(options, &seal, &shown)?;
+    let roots = match asked.answered() {
+        Some(answered) => Roots {
+            all: answered.roots.clone(),
+            kept: true,
+        },
+        None => roots(options, &seal, &shown)?,
+    };
     let words = asked.challenges_for(&shown)?;
     let positions = asked.positions.clone().unwrap_or_else(|| shown.positions());
-    let claim = claim(options, &shown)?;
+    let claim = match asked.answered() {
+        Some(answered) => answered.claim,
+        None => claim(options, &shown)?,
+    };
     let mut found = Found::default();
     found.lines.extend(seal.part.iter().flat_map(Part::lines));
     found.doubles(&shown);
@@ -71,20 +83,46 @@ pub fn run(options: &Options) -> Result<Outcome, Failure> {
 struct Asked {
     challenges: Option<Vec<Word>>,
     positions: Option<Vec<usize>>,
+    request: Option<Request>,
 }
 
 impl Asked {
-    fn read(options: &Options, shape: &Shape) -> Result<Asked, Failure> {
+    fn read(options: &Options, seal: &Seal) -> Result<Asked, Failure> {
+        match requested(options, seal)? {
+            Some(request) => Asked::by_request(request),
+            None => Asked::by_options(options, &seal.shape),
+        }
+    }
+
+    fn by_request(request: Request) -> Result<Asked, Failure> {
+        let answered = request.answered.as_ref().ok_or_else(|| {
+            Failure(
+                "the request has no positions yet, so there is nothing to check: draw them with `seal ask --seal FOLDER --asked FOLDER --answer ANSWER` \
+                 when the holder has answered with its roots"
+                    .into(),
+            )
+        })?;
+        let asked = Asked {
+            challenges: Some(request.challenges.clone()),
+            positions: Some(answered.positions.clone()),
+            request: Some(request.clone()),
+        };
+        asked.in_range(&request.shape)?;
+        Ok(asked)
+    }
+
+    fn by_options(options: &Options, shape: &Shape) -> Result<Asked, Failure> {
         let asked = Asked {
             challenges: challenges(options, shape.n)?.map(|(words, _)| words),
             positions: positions(options, shape)?,
+            request: None,
         };
         let own = options.has("--own-questions");
         match asked.left_to_the_holder() {
             Some(what) if !own => {
                 return Err(Failure(format!(
-                    "`seal check` needs the checker's own {what}: --challenges FILE, and --at P,P,.. or --positions FILE. (--own-questions checks \
-                     by those that the holder chose, and is never an acceptance)"
+                    "`seal check` needs the checker's own {what}: --asked FOLDER, or --challenges FILE, and --at P,P,.. or --positions FILE. \
+                     (--own-questions checks by those that the holder chose, and is never an acceptance)"
                 )))
             }
             None if own => {
@@ -96,6 +134,11 @@ impl Asked {
         }
         asked.in_range(shape)?;
         Ok(asked)
+    }
+
+    /// The roots and the claim that the request keeps.
+    fn answered(&self) -> Option<&Answered> {
+        self.request.as_ref()?.answered.as_ref()
     }
 
     fn in_range(&self, shape: &Shape) -> Result<(), Failure> {

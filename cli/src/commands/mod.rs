@@ -1,5 +1,6 @@
 //! The commands, one to a module.
 
+pub mod ask;
 pub mod check;
 pub mod commit;
 pub mod commit_folder;

@@ -8,8 +8,9 @@ use crate::outcome::{texts, Failure, Outcome, Verdict};
 use crate::part::{asked_seal, Part};
 use crate::progress::Progress;
 use crate::project::file_path;
-use crate::questions::{challenges, positions, SEED_WARNING};
+use crate::questions::{challenges, positions, requested, SEED_WARNING};
 use crate::reading::{shown_name, stretch, unreadable};
+use crate::request::Request;
 use crate::seal::Seal;
 use crate::shape::Shape;
 use crate::table::{read_table, room_for, table_of};
@@ -17,11 +18,12 @@ use crate::writing::{beside, Target};
 use dequmlo::{Deposit, Refusal, Word};
 use std::path::Path;
 
-pub const TAKEN: [&str; 12] = [
+pub const TAKEN: [&str; 13] = [
     "--seal",
     "--file",
     "--part",
     "--offset",
+    "--asked",
     "--challenges",
     "--seed",
     "--at",
@@ -35,15 +37,15 @@ pub const TAKEN: [&str; 12] = [
 pub fn run(options: &Options) -> Result<Outcome, Failure> {
     options.expect(1, "one FILE", &TAKEN)?;
     let file = &options.operands[0];
-    let folder = options
-        .path("--out")
-        .unwrap_or_else(|| beside(file, ".opening"));
-    let (target, mut notes) = Target::new(&folder, Kind::Opening, options.has("--force"))?;
     let seal = match asked_seal(options, None)? {
         Ok(seal) => seal,
         Err(refused) => return Ok(refused),
     };
-    let asked = Asked::read(options, &seal.shape)?;
+    let asked = Asked::read(options, &seal)?;
+    let folder = options
+        .path("--out")
+        .unwrap_or_else(|| beside(file, asked.ending()));
+    let (target, mut notes) = Target::new(&folder, Kind::Opening, options.has("--force"))?;
     if file.is_dir() && seal.part.is_none() {
         return Err(Failure(format!(
             "{} is a folder: --file PATH says which file of the project is opened",
@@ -71,6 +73,11 @@ pub fn run(options: &Options) -> Result<Outcome, Failure> {
         Ok(None) => return not_the_file(),
         Err(refusal) => return Ok(Outcome::refused(&refusal)),
     };
+    if asked.keeps_other_roots(&opening) {
+        return Ok(Outcome::declined(
+            "the request keeps other roots or another claim than this file has by its challenges, so it follows another answer than this file's".into(),
+        ));
+    }
     let name = match &seal.part {
         None => file.to_string_lossy().into_owned(),
         Some(part) => part.name(),
@@ -81,7 +88,7 @@ pub fn run(options: &Options) -> Result<Outcome, Failure> {
     if asked.seeded {
         notes.push(SEED_WARNING.into());
     }
-    Ok(told(&opening, target.folder()).notes(notes))
+    Ok(told(&opening, target.folder(), asked.first_round().is_some()).notes(notes))
 }
 
 /// What the checker asked for.
@@ -90,12 +97,35 @@ struct Asked {
     drawn: String,
     seeded: bool,
     positions: Vec<usize>,
+    request: Option<Request>,
 }
 
 impl Asked {
-    fn read(options: &Options, shape: &Shape) -> Result<Asked, Failure> {
+    fn read(options: &Options, seal: &Seal) -> Result<Asked, Failure> {
+        match requested(options, seal)? {
+            Some(request) => Ok(Asked::by_request(request)),
+            None => Asked::by_options(options, &seal.shape),
+        }
+    }
+
+    fn by_request(request: Request) -> Asked {
+        let answered = request.answered.as_ref();
+        Asked {
+            challenges: request.challenges.clone(),
+            drawn: "those of the checker's request".into(),
+            seeded: false,
+            positions: answered.map_or(Vec::new(), |answered| answered.positions.clone()),
+            request: Some(request),
+        }
+    }
+
+    fn by_options(options: &Options, shape: &Shape) -> Result<Asked, Failure> {
         let (challenges, drawn) = challenges(options, shape.n)?.ok_or_else(|| {
-            Failure("`seal open` needs the checker's challenges: --challenges FILE, or --seed TEXT for trying it out".into())
+            Failure(
+                "`seal open` needs the checker's request, --asked FOLDER, or the checker's challenges: --challenges FILE, or --seed TEXT for trying it \
+                 out"
+                    .into(),
+            )
         })?;
         let positions = positions(options, shape)?.ok_or_else(|| {
             Failure(
@@ -107,6 +137,27 @@ impl Asked {
             drawn,
             seeded: options.text("--seed")?.is_some(),
             positions,
+            request: None,
+        })
+    }
+
+    /// The request, where it has no positions yet.
+    fn first_round(&self) -> Option<&Request> {
+        self.request
+            .as_ref()
+            .filter(|request| request.answered.is_none())
+    }
+
+    /// How the name of the folder ends that is written beside the file.
+    fn ending(&self) -> &'static str {
+        self.first_round().map_or(".opening", |_| ".answer")
+    }
+
+    /// Whether the request keeps roots or a claim that are not this opening's.
+    fn keeps_other_roots(&self, opening: &Opening) -> bool {
+        let answered = self.request.as_ref().and_then(|r| r.answered.as_ref());
+        answered.map_or(false, |kept| {
+            kept.roots != opening.roots || kept.claim != opening.claim
         })
     }
 }
@@ -152,11 +203,16 @@ fn another_file(path: &Path) -> String {
     )
 }
 
-fn told(opening: &Opening, folder: &Path) -> Outcome {
+fn told(opening: &Opening, folder: &Path, is_answer: bool) -> Outcome {
     let positions = opening.queries.iter().map(|(p, _)| Json::number(*p));
     let count = opening.queries.len();
     let noun = if count == 1 { "position" } else { "positions" };
-    let sentence = format!("opened {count} {noun} into {}", folder.display());
+    let shown = folder.display();
+    let sentence = if is_answer {
+        format!("wrote the answer, with roots, claim and tail, into {shown}; send that folder to the checker, who then draws the positions")
+    } else {
+        format!("opened {count} {noun} into {shown}")
+    };
     Outcome::new(Verdict::Done, sentence)
         .say()
         .found("opening", Json::text(folder.display()))

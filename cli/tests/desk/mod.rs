@@ -9,6 +9,10 @@ use std::process::Command;
 /// The words of a check by the checker's own questions, for what `Desk::opened` made.
 pub const CHECK: &str = "check plan.txt.opening --seal plan.txt.seal --seed dice --at 7,0,127";
 
+/// The words that open and check by a request, for what `Desk::asked` made.
+pub const OPEN_ASKED: &str = "open plan.txt --seal plan.txt.seal --asked plan.txt.asked";
+pub const CHECK_ASKED: &str = "check plan.txt.opening --seal plan.txt.seal --asked plan.txt.asked";
+
 /// The line that a text file begins with.
 pub const FORMAT: &str = "format 1\n";
 
@@ -30,6 +34,26 @@ impl Desk {
         assert_eq!(desk.run("commit plan.txt").status, 0);
         let open = "open plan.txt --seal plan.txt.seal --seed dice --at 7,0,127";
         assert_eq!(desk.run(open).status, 0);
+        desk
+    }
+
+    /// A desk with a sealed file, a request that was answered and has three positions, and the opening of these.
+    pub fn asked(name: &str) -> Desk {
+        let desk = Desk::answered(name);
+        let ask =
+            "ask --seal plan.txt.seal --asked plan.txt.asked --answer plan.txt.answer --count 3";
+        assert_eq!(desk.run(ask).status, 0);
+        assert_eq!(desk.run(OPEN_ASKED).status, 0);
+        desk
+    }
+
+    /// A desk with a sealed file, a request without positions, and the answer to it.
+    pub fn answered(name: &str) -> Desk {
+        let desk = Desk::new(name);
+        desk.write("plan.txt", &plan());
+        assert_eq!(desk.run("commit plan.txt").status, 0);
+        assert_eq!(desk.run("ask --seal plan.txt.seal").status, 0);
+        assert_eq!(desk.run(OPEN_ASKED).status, 0);
         desk
     }
 
@@ -82,6 +106,29 @@ impl Desk {
 
     pub fn folder(&self, name: &str) {
         fs::create_dir(self.path(name)).unwrap();
+    }
+
+    /// A folder with the files of another.
+    pub fn copy(&self, from: &str, to: &str) {
+        self.folder(to);
+        for name in self.names(from) {
+            fs::copy(self.path(from).join(&name), self.path(to).join(&name)).unwrap();
+        }
+    }
+
+    /// Writes the check lines of a folder anew, as somebody who changes it on purpose does.
+    pub fn vouch(&self, folder: &str) {
+        let digest = |name: &String| {
+            let bytes = self.read(&format!("{folder}/{name}"));
+            dequmlo::Root(dequmlo::digest(&bytes).unwrap())
+        };
+        let lines: String = self
+            .names(folder)
+            .iter()
+            .filter(|name| *name != "check.txt")
+            .map(|name| format!("{}  {name}\n", digest(name)))
+            .collect();
+        self.write(&format!("{folder}/check.txt"), lines.as_bytes());
     }
 
     pub fn names(&self, folder: &str) -> Vec<String> {
