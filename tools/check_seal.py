@@ -6,9 +6,7 @@
 
 Challenges, positions and --roots, roots that were kept, are the checker's own; --claim is a value that is expected. A line for each position and one for
 the tail: `yes`, or `no` with the number of the first question that was answered with no (SPECIFICATION 8.2), its level where it has one, and the question.
-The last line is the verdict on all of it. --try tries this file on the values of SPECIFICATION 12.
-
-Exit status: 0 yes, 1 no, 2 nothing could be checked.
+The last line is the verdict on all of it. --try tries this file on the values of SPECIFICATION 12. Exit status: 0 yes, 1 no, 2 nothing could be checked.
 """
 import argparse
 import collections
@@ -302,16 +300,6 @@ def parameters(path):
     return int(n), int(k), text.encode() if text else bytes.fromhex(digits)
 
 
-def undamaged(seal):
-    """Ends here where a file of the seal is not the one whose digest its check lines have (SPECIFICATION 15.5)."""
-    check = seal / "check.txt"
-    then = {line[66:]: line[:64] for line in written(check)} if check.exists() else {}
-    for name in ("parameters.txt", "root.txt") if check.exists() else ():
-        text = "".join(line + "\n" for line in written(seal / name))
-        if digest((text.lower() if name == "root.txt" else text).encode()).hex() != then.get(name):
-            raise CannotCheck(f"the seal is damaged: {name} and its line in check.txt do not agree")
-
-
 def answered(name, check, *given):
     """Prints what a check answers. Whether it is yes."""
     try:
@@ -323,16 +311,24 @@ def answered(name, check, *given):
     return True
 
 
-def check_opening(asked):
-    """Prints an answer for each position and one for the tail. Whether all are yes."""
-    opening, seal = Path(asked.OPENING), Path(asked.seal)
-    undamaged(seal)
-    n, k, base = parameters(seal / "parameters.txt")
+def read_seal(folder):
+    """The base domain, n, k and the root. A seal whose check lines are not those of its files is damaged (SPECIFICATION 15.5)."""
+    check = folder / "check.txt"
+    then = {line[66:]: line[:64] for line in written(check)} if check.exists() else None
+    for name in ("parameters.txt", "root.txt"):
+        text = "".join(line + "\n" for line in written(folder / name))
+        if then is not None and digest((text.lower() if name == "root.txt" else text).encode()).hex() != then.get(name):
+            raise CannotCheck(f"the seal is damaged: {name} and its line in check.txt do not agree")
+    n, k, base = parameters(folder / "parameters.txt")
+    return base, n, k, digests(folder / "root.txt")[0]
+
+
+def check_opening(asked, base, n, k, root):
+    """Prints an answer for each position and one for the tail. Whether all are yes. Level 0's root is the office's, whatever the opening says."""
+    opening = Path(asked.OPENING)
     challenges = [word(asked.challenges, line) for line in lines(asked.challenges)]
-    # Level 0's root is the office's own, whatever the opening says.
-    root, roots = digests(seal / "root.txt")[0], digests(asked.roots or opening / "roots.txt")
-    try:
-        # What the checker itself brings.
+    roots = digests(asked.roots or opening / "roots.txt")
+    try:  # What the checker itself brings.
         ask(4, 1 <= n <= 20 and k <= 4)
         ask(5, len(challenges) == n and (not asked.roots or len(roots) == n + 1 and roots[0] == root))
         ask(11, all(position < 2 ** (n + k) for position in asked.at))
@@ -366,29 +362,32 @@ ROOT_0 = "0669330e9f8271b8709da61c36482c788924e6026d5792c2f7e4fa50d61a51f3"
 ROOT_1 = "da293e0d68ec957f29e0f182a5808a566e7b12a855c63c2ab68aec541043a7f5"
 A, B, C = "489a8bcfc565532d361c653a2ab6a572", "449a8bcfc565532d361c653a2ab6a572", "509a8bcfc565532d361c653a2ab6a572"
 LAST = "02000000 1d000000000000000000000000000000" + C
-SIBLING = "6623d25b5b1154c90c456a3387fc71b22ddd13ed2e66c679bdbdd170b6b4143d"
-QUERY = "01000000" + A + B + C + "02000000" + A + B + LAST + "01000000" + SIBLING + "00000000"
-TAIL = "01000000" + LAST + "00000000"
+PATH = "01000000 6623d25b5b1154c90c456a3387fc71b22ddd13ed2e66c679bdbdd170b6b4143d"
+QUERY = bytes.fromhex("01000000" + A + B + C + "02000000" + A + B + LAST + PATH + "00000000")
 
 
 def try_this_file():
     """Whether SPECIFICATION 12.1, 12.3 and 12.4 come out as they stand there, as far as a check needs them."""
     yes = digest(bytes(i % 251 for i in range(3073))).hex() == OF_3073 and folded(bytes(16), bytes(15) + b"\x80", b"\2" + bytes(15))[0] == 0x87
-    roots = [bytes.fromhex(ROOT_0), bytes.fromhex(ROOT_1)]
-    yes &= answered("12.4, the query record", check_query, b"d", 1, 1, 2, [word("12.4", "%032x" % 2)], roots, bytes.fromhex(QUERY))
-    return answered("12.4, the tail record", check_tail, b"d", 1, 1, roots[1], word("12.4", "%032x" % 0x1D), bytes.fromhex(TAIL)) and yes
+    roots, tail = [bytes.fromhex(ROOT_0), bytes.fromhex(ROOT_1)], bytes.fromhex("01000000" + LAST + "00000000")
+    yes &= answered("12.4, the query record", check_query, b"d", 1, 1, 2, [b"\2" + bytes(15)], roots, QUERY)
+    return answered("12.4, the tail record", check_tail, b"d", 1, 1, roots[1], b"\x1d" + bytes(15), tail) and yes
 
 
 def main():
     parser = argparse.ArgumentParser(description=__doc__, formatter_class=argparse.RawDescriptionHelpFormatter)
     parser.add_argument("OPENING")
-    for name in ("--seal", "--challenges"):
-        parser.add_argument(name, required=True)
+    parser.add_argument("--seal", required=True)
+    parser.add_argument("--challenges", required=True)
     parser.add_argument("--at", required=True, type=lambda text: sorted({int(position) for position in text.split(",")}))
     parser.add_argument("--roots")
     parser.add_argument("--claim")
     try:
-        yes = try_this_file() if sys.argv[1:] == ["--try"] else check_opening(parser.parse_args())
+        if sys.argv[1:] == ["--try"]:
+            yes = try_this_file()
+        else:
+            asked = parser.parse_args()
+            yes = check_opening(asked, *read_seal(Path(asked.seal)))
     except (CannotCheck, OSError) as why:
         print(f"nothing was checked: {why}", file=sys.stderr)
         return 2

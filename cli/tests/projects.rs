@@ -506,3 +506,46 @@ fn a_large_file_is_sealed_in_parts() {
     desk.run(VERIFY)
         .says(1, &["changed: large, first in bytes 0 to 16777199"]);
 }
+
+/// 2,000 files of 300 MB in all and names in many scripts, and one file of 100 MB: sealed, verified, opened and checked. By hand, since it takes
+/// long: `cargo test --test projects -- --ignored --nocapture`, which says how long each step took.
+#[test]
+#[ignore = "takes long, and 800 MB of disk"]
+fn a_project_of_many_files_and_one_of_100_mb() {
+    let desk = Desk::new("project-large");
+    let timed = |what: &str, line: &str| {
+        let start = std::time::Instant::now();
+        let run = desk.run(line);
+        println!("{what}: {:.1} s", start.elapsed().as_secs_f64());
+        run
+    };
+    for i in 0..2000 {
+        let (name, _) = NAMES[i % NAMES.len()];
+        let path = [
+            format!("{:02}/", i % 37).as_bytes(),
+            name,
+            format!(" {i}").as_bytes(),
+        ]
+        .concat();
+        // From empty ones to some of 450 KB, 300 MB in all.
+        put(&desk, "many", &path, &noise(i * i * 9 / 80, i as u64));
+    }
+    timed("2,000 files, commit", "commit many")
+        .says(0, &["sealed the project many: 2000 files, 2997"]);
+    timed("2,000 files, verify", "verify many --seal many.seal").says(0, &["yes: "]);
+    put(&desk, "one", b"large", &noise(100_000_000, 7));
+    timed("100 MB, commit", "commit one").says(0, &["1 file, 100000000 bytes in 6 parts"]);
+    let on = "--seal one.seal --file large --seed dice --offset 99999999";
+    timed("100 MB, open", &format!("open one {on}")).says(0, &["opened 1 position"]);
+    timed("100 MB, check", &format!("check one.opening {on}")).says(
+        0,
+        &[
+            "part 6 of 6, bytes 83886000 to 99999999",
+            "verdict: accepted",
+        ],
+    );
+    desk.damage("one/large", 50_000_000);
+    timed("100 MB, verify", "verify one --seal one.seal")
+        .says(1, &["changed: large, first in bytes 33554400 to 50331599"]);
+    fs::remove_dir_all(&desk.0).unwrap();
+}

@@ -5,7 +5,9 @@ mod desk;
 
 use desk::{Desk, Run};
 use std::collections::BTreeMap;
+use std::ffi::OsStr;
 use std::fs;
+use std::os::unix::ffi::OsStrExt;
 use std::process::Command;
 
 /// The levels at which records are damaged: the first, one in the middle, and the last. A deposit of 64 words has six.
@@ -48,11 +50,17 @@ fn both(desk: &Desk, status: i32, positions: &[usize], more: &str) -> Answers {
 
 /// Runs tools/check_seal.py with the words of a line.
 fn witness(desk: &Desk, words: &str) -> Run {
-    let file = concat!(env!("CARGO_MANIFEST_DIR"), "/../tools/check_seal.py");
+    python(desk, "check_seal.py", words.split_whitespace())
+}
+
+/// Runs a file of tools/.
+fn python<W: AsRef<OsStr>>(desk: &Desk, file: &str, words: impl IntoIterator<Item = W>) -> Run {
+    let tools = concat!(env!("CARGO_MANIFEST_DIR"), "/../tools");
     let mut command = Command::new("python3");
     command
-        .arg(file)
-        .args(words.split_whitespace())
+        .arg(format!("{tools}/{file}"))
+        .args(words)
+        .env("PYTHONDONTWRITEBYTECODE", "1")
         .current_dir(&desk.0);
     Run::of(&mut command)
 }
@@ -399,5 +407,138 @@ fn the_witness_takes_no_damaged_seal() {
         desk.write(&name, sound.replace('\n', " \r\n").as_bytes());
         both(&desk, 0, &[7], "");
         desk.write(&name, sound.as_bytes());
+    }
+}
+
+/// Runs the program and tools/check_project.py on an opening of a project, which must end with this status and say the same of each record.
+fn both_on_a_file(desk: &Desk, status: i32, path: &[u8], offset: &str) -> [Run; 2] {
+    let words = "house.opening --seal house.seal --challenges challenges.txt --offset";
+    let words = words.split_whitespace().map(OsStr::new);
+    let more = [offset.as_bytes(), b"--file", path].map(OsStr::from_bytes);
+    let words: Vec<&OsStr> = words.chain(more).collect();
+    let program = desk.seal([&[OsStr::new("check")], &words[..]].concat());
+    let witness = python(desk, "check_project.py", words);
+    program.says(status, &[]);
+    witness.says(status, &[]);
+    assert_eq!(
+        answers(&program, "accepted", "refused"),
+        answers(&witness, "yes", "no")
+    );
+    [program, witness]
+}
+
+#[test]
+fn the_witness_checks_a_file_of_a_project() {
+    let desk = Desk::new("witness-project");
+    desk.folder("house");
+    let paths: [&[u8]; 7] = [
+        b"two\nlines",
+        b"end ",
+        b"\xff\xc3\xa9\xc3",
+        b"back\\5c",
+        "план 平面図".as_bytes(),
+        b"empty",
+        b"a b",
+    ];
+    for (i, path) in paths.iter().enumerate() {
+        let file = desk.path("house").join(OsStr::from_bytes(path));
+        fs::write(file, &desk::plan()[..(i * 150) % 750]).unwrap();
+    }
+    for (profile, path, offset) in [
+        ("balanced", paths[4], "599,0"),
+        ("deepwrap", paths[2], "17"),
+        ("default", paths[1], "0"),
+    ] {
+        desk.run(&format!("commit house --profile {profile} --force"))
+            .says(0, &[]);
+        let open =
+            format!("open house --seal house.seal --seed dice --force --offset {offset} --file");
+        let words = open
+            .split(' ')
+            .map(OsStr::new)
+            .chain([OsStr::from_bytes(path)]);
+        desk.seal(words).says(0, &[]);
+        fs::copy(
+            desk.path("house.opening/challenges.txt"),
+            desk.path("challenges.txt"),
+        )
+        .unwrap();
+        let [program, witness] = both_on_a_file(&desk, 0, path, offset);
+        program.says(0, &["manifest: accepted"]);
+        witness.says(0, &["manifest: yes\n", "tail: yes\nyes\n"]);
+    }
+
+    // The last opening, with one thing or another changed.
+    let (path, record) = (paths[1], "house.opening/query-0.record");
+    desk.damage(record, 60);
+    let [_, witness] = both_on_a_file(&desk, 1, path, "0");
+    witness.says(1, &["manifest: yes\n", "position 0: no, 18 at level 0: "]);
+    desk.damage(record, 60);
+    both_on_a_file(&desk, 2, b"end", "0");
+    both_on_a_file(&desk, 2, path, "150");
+    let sound = desk.text("house.opening/manifest.txt");
+    for other in [
+        sound.replacen("file 150", "file 151", 1),
+        sound.replacen('0', "1", 20),
+        sound.replace("end\\20", "end "),
+        format!("{sound}\n"),
+        sound[..sound.len() - 1].into(),
+        String::new(),
+    ] {
+        desk.write("house.opening/manifest.txt", other.as_bytes());
+        let [program, witness] = both_on_a_file(&desk, 1, path, "0");
+        program.says(1, &["refused: manifest: "]);
+        witness.says(1, &["manifest: no: "]);
+    }
+    fs::remove_file(desk.path("house.opening/manifest.txt")).unwrap();
+    both_on_a_file(&desk, 1, path, "0");
+}
+
+/// Texts that a seal stands for and that are no manifests, or are.
+#[test]
+fn the_witness_knows_a_manifest_by_its_form() {
+    let desk = Desk::new("witness-forms");
+    desk.folder("house");
+    desk.write("house/b", &desk::plan());
+    desk.run("commit house").says(0, &[]);
+    let sound = desk.text("house.seal/manifest.txt");
+    let part = sound.lines().last().unwrap();
+    let twice = format!("file 960 b\n{part}\n");
+    for (text, status) in [
+        (sound.clone(), 0),
+        (
+            sound.replace("file 960 b", &format!("file 0 a\\0a\n{part}\nfile 960 b")),
+            0,
+        ),
+        (
+            sound.replace("file 960 b", &format!("file 0 c\n{part}\nfile 960 b")),
+            1,
+        ),
+        (sound.replace("960 b", "0960 b"), 1),
+        (sound.replace("960 b", "960 \\62"), 1),
+        (sound.replace("960 b", "960 ./b"), 1),
+        (format!("{sound}{twice}"), 1),
+        (format!("{sound}{part}\n"), 1),
+        (sound.replace("format 1\n", ""), 1),
+        (format!("{sound} "), 1),
+        (sound.replace('\n', "\r\n"), 1),
+    ] {
+        for folder in ["house.seal", "house.opening"] {
+            let _ = fs::remove_dir_all(desk.path(folder));
+        }
+        desk.write("manifest.txt", text.as_bytes());
+        desk.run("commit manifest.txt --out house.seal")
+            .says(0, &[]);
+        // What is opened is the file by itself, under the root that the text names for it.
+        desk.run("commit house/b --out one --force").says(0, &[]);
+        desk.run("open house/b --seal one --seed dice --at 3 --out house.opening")
+            .says(0, &[]);
+        fs::copy(
+            desk.path("house.opening/challenges.txt"),
+            desk.path("challenges.txt"),
+        )
+        .unwrap();
+        desk.write("house.opening/manifest.txt", text.as_bytes());
+        both_on_a_file(&desk, status, b"b", "50");
     }
 }
