@@ -134,15 +134,13 @@ pub fn manifest_of(
             });
         }
     });
-    let roots = work.roots()?;
-    let entry = |(path, bytes), parts| Entry { path, bytes, parts };
-    let parts = files.iter().map(|(_, bytes)| part_count(*bytes));
-    let mut roots = roots.into_iter();
-    let parts: Vec<Vec<Root>> = parts.map(|n| roots.by_ref().take(n).collect()).collect();
-    let entries = files.into_iter().zip(parts);
-    Ok(Manifest(
-        entries.map(|(file, parts)| entry(file, parts)).collect(),
-    ))
+    let mut roots = work.roots()?.into_iter();
+    let entry = |(path, bytes)| Entry {
+        path,
+        bytes,
+        parts: roots.by_ref().take(part_count(bytes)).collect(),
+    };
+    Ok(Manifest(files.into_iter().map(entry).collect()))
 }
 
 /// The parts that are to be committed, and the roots of those that are.
@@ -198,5 +196,23 @@ impl<'a> Work<'a> {
         let mut roots = self.done.into_inner().expect("no part ends with a fault")?;
         roots.sort_by_key(|(job, _)| *job);
         Ok(roots.into_iter().map(|(_, root)| root).collect())
+    }
+}
+
+#[cfg(test)]
+mod tests {
+    use super::part_of_file;
+    use crate::manifest::PART;
+
+    #[test]
+    fn a_file_that_grew_or_shrank_since_it_was_listed_is_not_read() {
+        let path = std::env::temp_dir().join(format!("seal-part-{}", std::process::id()));
+        std::fs::write(&path, b"plans").unwrap();
+        assert_eq!(part_of_file(&path, 5, 0).unwrap(), b"plans");
+        for bytes in [0, 4, 6, PART, PART + 1] {
+            let said = part_of_file(&path, bytes, 0).err().unwrap().0;
+            assert!(said.contains("was changed while"), "{said}");
+        }
+        std::fs::remove_file(path).unwrap();
     }
 }

@@ -385,10 +385,15 @@ fn offsets_of_a_file_that_is_sealed_by_itself() {
 fn what_changed_is_missing_or_is_new() {
     let desk = sealed("project-verify");
     desk.run(VERIFY).says(0, &["yes: "]);
+    std::os::unix::fs::symlink("plan.txt", desk.path("house/link")).unwrap();
+    desk.run(VERIFY).says(
+        1,
+        &["no: house is not the project that was sealed\nnew: link, which is a link\n"],
+    );
     desk.damage("house/plan.txt", 500);
     desk.run(VERIFY).says(
         1,
-        &["no: house is not the project that was sealed\nchanged: plan.txt\n"],
+        &["no: house is not the project that was sealed\nchanged: plan.txt\nnew: link"],
     );
     put(&desk, "house", b"b1/new\none", b"");
     put(
@@ -399,7 +404,6 @@ fn what_changed_is_missing_or_is_new() {
     );
     fs::remove_file(desk.path("house/b2/평면도 📐")).unwrap();
     fs::remove_file(desk.path("house/empty")).unwrap();
-    std::os::unix::fs::symlink("plan.txt", desk.path("house/link")).unwrap();
     let run = desk.run(VERIFY);
     run.says(
         1,
