@@ -14,7 +14,7 @@ struct Command {
     takes: &'static [&'static str],
 }
 
-const COMMANDS: [Command; 11] = [
+const COMMANDS: [Command; 12] = [
     Command {
         name: "commit",
         usage: "seal commit FILE|FOLDER [--profile NAME | --k K --domain TEXT] [--out FOLDER] [--force]",
@@ -39,12 +39,18 @@ const COMMANDS: [Command; 11] = [
     },
     Command {
         name: "check",
-        usage: "seal check OPENING --seal FOLDER --asked FOLDER\n\
-                seal check OPENING --seal FOLDER --challenges FILE (--at P,P,.. | --positions FILE) [--roots FILE] [--claim WORD]",
+        usage: "seal check OPENING --seal FOLDER --asked FOLDER [--report FILE]\n\
+                seal check OPENING --seal FOLDER --challenges FILE (--at P,P,.. | --positions FILE) [--roots FILE] [--claim WORD] [--report FILE]",
         does: "Checks an opening by the checker's own request, or challenges and positions. For trying it out: --seed TEXT [--count N], which draws both.\n    \
                Of a project's opening, --file PATH and --offset B,B,.. say what is asked about; its manifest is checked first.\n    \
                --own-questions checks by those that the holder chose instead: that is never an acceptance, and ends with 3.",
         takes: &commands::check::TAKEN,
+    },
+    Command {
+        name: "show",
+        usage: "seal show OPENING",
+        does: "Shows which bytes of the file an opening has, as text and as hexadecimal digits. It checks nothing.",
+        takes: &commands::show::TAKEN,
     },
     Command {
         name: "tail",

@@ -9,20 +9,24 @@ mod console;
 mod drawing;
 mod folder;
 mod format;
+mod found;
 mod help;
 mod hex;
 mod json;
 mod lines;
 mod manifest;
 mod old_words;
+mod opened;
 mod opening;
 mod options;
 mod outcome;
 mod part;
+mod picture;
 mod progress;
 mod project;
 mod questions;
 mod reading;
+mod report;
 mod request;
 mod seal;
 mod shape;
@@ -57,6 +61,7 @@ fn run(options: &Options) -> Result<Outcome, Failure> {
         "ask" => commands::ask::run(options),
         "open" => commands::open::run(options),
         "check" => commands::check::run(options),
+        "show" => commands::show::run(options),
         "tail" => commands::tail::run(options),
         "verify" => commands::verify::run(options),
         "compare" => commands::compare::run(options),

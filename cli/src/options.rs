@@ -25,7 +25,7 @@ const fn option(name: &'static str, value: &'static str, means: &'static str) ->
 }
 
 /// Every option, in the order of the help.
-pub const OPTIONS: [Known; 23] = [
+pub const OPTIONS: [Known; 24] = [
     option("--seal", "FOLDER", "the seal, as `seal commit` wrote it"),
     option("--asked", "FOLDER", "the request that `seal ask` wrote; it has challenges, positions, roots and claim"),
     option("--answer", "FOLDER", "the holder's answer to a request without positions, as `seal open` wrote it"),
@@ -45,6 +45,7 @@ pub const OPTIONS: [Known; 23] = [
     option("--roots", "FILE", "the roots of all levels that the checker kept, in place of the opening's"),
     option("--claim", "WORD", "the terminal claim that is expected, in place of the opening's"),
     option("--own-questions", "", "checks by the holder's own challenges and positions, which is never an acceptance"),
+    option("--report", "FILE", "writes what was found as a page for the archive's file, FILE.html"),
     option("--out", "FOLDER", "where to write, in place of the folder beside the file"),
     option("--force", "", "replaces a folder that holds exactly what this program wrote"),
     option("--json", "", "prints one object for programs"),

@@ -3,6 +3,7 @@
 
 use crate::format::all_known;
 use crate::manifest::{part_place, Manifest, MANIFEST, PART};
+use crate::opened::Opened;
 use crate::options::Options;
 use crate::outcome::{Failure, Outcome};
 use crate::project::{root_of, shown_path};
@@ -29,12 +30,12 @@ pub struct Part {
 }
 
 impl Part {
-    /// What a verdict says before it speaks of records.
-    pub fn lines(&self) -> Vec<String> {
-        vec![
-            "manifest: accepted: its root is the project's".into(),
-            format!("file {}", self.name()),
-        ]
+    /// What a record of this part opens, at its offset in the whole file.
+    pub fn placed(&self, opened: Opened) -> Opened {
+        match self.count {
+            1 => opened,
+            _ => opened.in_part(self.start as usize),
+        }
     }
 
     /// Whether the file ends with this part.
@@ -102,12 +103,24 @@ pub fn manifest_in(
     }
 }
 
+/// That an opening shows another manifest than the project's, in a sentence; with the project's seal.
+pub struct RefusedManifest {
+    pub seal: Seal,
+    pub sentence: String,
+}
+
+impl RefusedManifest {
+    pub fn outcome(self) -> Outcome {
+        Outcome::declined(format!("manifest: {}", self.sentence))
+    }
+}
+
 /// The seal that the options name, or, where `--file` names a file of a project, the seal of the part that is asked about. The manifest is
 /// the one that an opening shows, or else the seal's own; that an opening shows another one is a refusal.
 pub fn asked_seal(
     options: &Options,
     opening: Option<&Path>,
-) -> Result<Result<Seal, Outcome>, Failure> {
+) -> Result<Result<Seal, RefusedManifest>, Failure> {
     let folder = options.needed_path("--seal", SEAL_FOLDER)?;
     let seal = Seal::read(&folder)?;
     if options.path("--file").is_none() {
@@ -121,14 +134,15 @@ pub fn asked_seal(
         };
     }
     let found = manifest_in(opening.unwrap_or(&folder), &seal)?;
+    let refused = |seal, sentence| Ok(Err(RefusedManifest { seal, sentence }));
     match (found, opening) {
         (Ok((manifest, bytes)), _) => part_seal(options, seal, &manifest, bytes).map(Ok),
-        (Err(Unfit::Missing), Some(_)) => Ok(Err(Outcome::declined(format!(
-            "manifest: the opening shows no {MANIFEST}, so no file of a project can be checked; ask the holder for it"
-        )))),
-        (Err(Unfit::Another(what)), Some(_)) => Ok(Err(Outcome::declined(format!(
-            "manifest: the {MANIFEST} that the opening shows is not the project's: {what}. No record was checked; ask the holder for the project's manifest"
-        )))),
+        (Err(Unfit::Missing), Some(_)) => refused(seal, format!(
+            "the opening shows no {MANIFEST}, so no file of a project can be checked; ask the holder for it"
+        )),
+        (Err(Unfit::Another(what)), Some(_)) => refused(seal, format!(
+            "the {MANIFEST} that the opening shows is not the project's: {what}. No record was checked; ask the holder for the project's manifest"
+        )),
         (Err(Unfit::Missing), None) => Err(Failure(format!(
             "{} is no project's seal: it has no {MANIFEST}",
             folder.display()
@@ -167,18 +181,25 @@ fn part_seal(
         n: variables(size),
         ..seal.shape
     };
+    let part = Part {
+        path: entry.path.clone(),
+        start,
+        bytes: size,
+        index,
+        count,
+        manifest: bytes,
+    };
+    let about = format!(
+        "What is asked about is the file {}. The project's root is {}, and the one below is that of the file, or of its part.",
+        part.name(),
+        seal.root
+    );
     Ok(Seal {
+        summary: seal.summary.map(|line| format!("{line} {about}")),
         sizes: Sizes::of(shape.n, shape.k).map_err(|refusal| Failure(refusal.to_string()))?,
         shape,
         root: entry.parts[index],
-        part: Some(Part {
-            path: entry.path.clone(),
-            start,
-            bytes: size,
-            index,
-            count,
-            manifest: bytes,
-        }),
+        part: Some(part),
         ..seal
     })
 }

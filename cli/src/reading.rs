@@ -105,6 +105,11 @@ pub fn shown_name(name: &OsStr) -> String {
         .collect()
 }
 
+/// A path as it is shown, by the same rule.
+pub fn shown_path(path: &Path) -> String {
+    shown_name(path.as_os_str())
+}
+
 /// Whether a file lies in a folder, links followed.
 pub fn lies_in(path: &Path, folder: &Path) -> bool {
     match (path.canonicalize(), folder.canonicalize()) {
@@ -114,10 +119,7 @@ pub fn lies_in(path: &Path, folder: &Path) -> bool {
 }
 
 pub fn unreadable(path: &Path, why: impl fmt::Display) -> Failure {
-    Failure(format!(
-        "cannot read {}: {why}",
-        shown_name(path.as_os_str())
-    ))
+    Failure(format!("cannot read {}: {why}", shown_path(path)))
 }
 
 /// What a folder holds, each name with whether it is a regular file; none where there are more than `most`.

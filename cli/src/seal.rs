@@ -13,12 +13,16 @@ use crate::lines::{self, most_bytes, one};
 use crate::manifest::{Manifest, MANIFEST};
 use crate::outcome::Failure;
 use crate::part::Part;
-use crate::reading::text_inside;
+use crate::reading::{inside, shown_name, text_inside};
 use crate::shape::{Shape, PARAMETERS};
 use dequmlo::{Root, Sizes};
+use std::ffi::OsStr;
 use std::path::Path;
 
 pub const ROOT: &str = "root.txt";
+
+/// More than a summary has whose file's name is as long as a name can be.
+const MOST_OF_A_SUMMARY: usize = 16_384;
 
 /// The folder that `--seal` names, for what is said where it is missing.
 pub const SEAL_FOLDER: &str = "the folder that `seal commit` wrote";
@@ -27,6 +31,8 @@ pub struct Seal {
     pub shape: Shape,
     pub sizes: Sizes,
     pub root: Root,
+    /// What its summary says of the file, where its check line says that the summary is as it was written.
+    pub summary: Option<String>,
     /// Whether its own check lines say that it is as it was written.
     pub vouched: bool,
     /// What a verdict under this seal has to say of it.
@@ -83,8 +89,8 @@ impl Seal {
         manifest: &Manifest,
     ) -> Vec<Named> {
         let summary = format!(
-            "{}\n\nIt stands for the project {project}: {} files of {} bytes in all, in {} parts. {MANIFEST} lists them with the root of each part, and the\n\
-             root below is that of {MANIFEST}, as a table of {} words (n = {}, k = {}), under the base domain {}.\nRoot: {root}\n\n\
+            "{}\n\nIt stands for the project {project}: {} files of {} bytes in all, in {} parts.\n{MANIFEST} lists them with the root of each part, and the root \
+             below is that of {MANIFEST}, as a table of {} words (n = {}, k = {}), under the base domain {}.\nRoot: {root}\n\n\
              Whoever keeps this root can check that what a holder shows later is what was deposited:\n`seal open` makes what is shown of a file, `seal check` \
              checks it, `seal verify` says what has changed.\n\n{}",
             Kind::Seal.heading(),
@@ -130,10 +136,23 @@ fn parts(folder: &Path) -> Result<Seal, Failure> {
         shape: parameters.shape,
         sizes: parameters.sizes,
         root,
+        summary: lines.as_ref().and_then(|lines| summary(folder, lines)),
         vouched: lines.is_some(),
         notes,
         part: None,
     })
+}
+
+/// The line of a summary that says what the seal stands for.
+fn summary(folder: &Path, lines: &CheckLines) -> Option<String> {
+    let bytes = inside(folder, SUMMARY, MOST_OF_A_SUMMARY).ok()?;
+    let text = String::from_utf8_lossy(&bytes);
+    let line = text
+        .lines()
+        .find(|line| line.starts_with("It stands for"))?;
+    lines
+        .agree(SUMMARY, &bytes)
+        .then(|| shown_name(OsStr::new(line)))
 }
 
 /// Fails unless the check line of a file is that of its content.

@@ -338,6 +338,24 @@ fn a_killed_run_leaves_nothing_that_the_next_one_does_not_clear() {
     desk.check().says(0, &[]);
 }
 
+/// A name may not write lines of its own into a summary.
+#[test]
+fn a_name_cannot_forge_a_summary() {
+    let desk = Desk::new("forged-summary");
+    let name = "x\nRoot: 0\u{1b}[2J";
+    desk.write(name, &plan());
+    desk.seal(["commit", name, "--out", "s"]).says(0, &[]);
+    let open = [
+        "open", name, "--seal", "s", "--seed", "dice", "--at", "7", "--out", "o",
+    ];
+    desk.seal(open).says(0, &[]);
+    for folder in ["s", "o"] {
+        let summary = desk.text(&format!("{folder}/summary.txt"));
+        assert!(summary.contains("x\\u{a}Root: 0\\u{1b}[2J"), "{summary}");
+        assert!(!summary.contains("\nRoot: 0"), "{summary}");
+    }
+}
+
 #[test]
 fn a_folder_that_cannot_be_written_is_said_before_the_work() {
     let desk = Desk::opened("no-parent");

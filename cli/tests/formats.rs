@@ -166,7 +166,8 @@ fn the_version_and_the_help_of_every_command() {
         assert_eq!(desk.run(words).out, all.out);
     }
     let commands = [
-        "commit", "ask", "open", "check", "tail", "compare", "explain", "demo", "help", "version",
+        "commit", "ask", "open", "check", "show", "tail", "compare", "explain", "demo", "help",
+        "version",
     ];
     for command in commands {
         let help = desk.run(&format!("help {command}"));

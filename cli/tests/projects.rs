@@ -182,7 +182,8 @@ fn a_file_is_opened_and_checked_through_the_manifest() {
     desk.run(CHECK).says(
         0,
         &[
-            "manifest: accepted: its root is the project's\nfile plan.txt\nposition 0: accepted\nposition 31: accepted\ntail: accepted\n",
+            "manifest: accepted\nposition 0: accepted; it shows bytes 0 to 127 of the file\nposition 31: accepted; it shows bytes 384 to 511 of the file",
+            "note: the file that is asked about is plan.txt\n",
             "verdict: accepted: 2 records and the tail",
         ],
     );
@@ -242,7 +243,7 @@ fn a_checker_asks_about_a_file_in_two_rounds() {
         .text("house.opening/manifest.txt")
         .replace("file 0", "file 1");
     desk.write("house.opening/manifest.txt", manifest.as_bytes());
-    desk.run(&check).says(1, &["refused: manifest: "]);
+    desk.run(&check).says(1, &["manifest: refused: "]);
 }
 
 #[test]
@@ -278,18 +279,18 @@ fn a_refusal_says_whether_the_manifest_or_a_record_failed() {
         run.says(
             1,
             &[
-                "refused: manifest: the manifest.txt that the opening shows is not the project's: ",
+                "manifest: refused: the manifest.txt that the opening shows is not the project's: ",
                 "No record was checked",
             ],
         );
-        run.does_not_say(&["accepted", "position"]);
+        run.does_not_say(&[": accepted", "position"]);
     }
     let newer = sound.replacen("format 1", "format 2", 1);
     desk.write("house.opening/manifest.txt", newer.as_bytes());
     desk.run(CHECK).says(2, &["says that it is of format 2"]);
     fs::remove_file(desk.path("house.opening/manifest.txt")).unwrap();
     desk.run(CHECK)
-        .says(1, &["refused: manifest: the opening shows no manifest.txt"]);
+        .says(1, &["manifest: refused: the opening shows no manifest.txt"]);
     std::os::unix::fs::symlink(
         "../house.seal/manifest.txt",
         desk.path("house.opening/manifest.txt"),
@@ -297,6 +298,40 @@ fn a_refusal_says_whether_the_manifest_or_a_record_failed() {
     .unwrap();
     desk.run(CHECK)
         .says(1, &["manifest: ", "it is a link, not a file"]);
+}
+
+#[test]
+fn a_report_names_the_file_and_a_refused_manifest() {
+    let desk = sealed("project-report");
+    desk.run(OPEN).says(0, &[]);
+    desk.run(&format!("{CHECK} --report page.html --json")).says(
+        0,
+        &["\"manifest\": {\"accepted\": true, \"number\": null, \"level\": null, \"sentence\": \"accepted\", \"ask\": null}"],
+    );
+    let page = desk.text("page.html");
+    for said in [
+        "It stands for the project house: 16 files of 1779 bytes in all, in 16 parts. What is asked about is the file plan.txt. The project's root is",
+        "<td class=\"place\">manifest</td>",
+        "bytes 384 to 511 of the file",
+    ] {
+        let escaped = said.replace("project's", "project&#39;s");
+        assert!(page.contains(said) || page.contains(&escaped), "{said} is not in {page}");
+    }
+    let other = desk
+        .text("house.opening/manifest.txt")
+        .replace("file 0", "file 1");
+    desk.write("house.opening/manifest.txt", other.as_bytes());
+    desk.run(&format!("{CHECK} --report refused.html --json"))
+        .says(
+            1,
+            &[
+                "\"manifest\": {\"accepted\": false, \"number\": null",
+                "\"records\": []",
+            ],
+        );
+    assert!(desk
+        .text("refused.html")
+        .contains("that the opening shows is not the project"));
 }
 
 /// A root that stands for a file is not taken for a project's, though a record of the project could be found in it.
@@ -499,7 +534,7 @@ fn a_large_file_is_sealed_in_parts() {
         .says(0, &[]);
     desk.run(&format!("{check} --offset 16777999")).says(
         0,
-        &["file large, part 2 of 2, bytes 16777200 to 16778199\nposition 49: accepted"],
+        &["position 49: accepted; it shows bytes 16777968 to 16778095 of the file", "note: the file that is asked about is large, part 2 of 2, bytes 16777200 to 16778199\n"],
     );
     desk.run(&format!("{check} --part 2 --at 49")).says(0, &[]);
     desk.run(VERIFY).says(0, &[]);
@@ -544,7 +579,7 @@ fn a_project_of_many_files_and_one_of_100_mb() {
     timed("100 MB, check", &format!("check one.opening {on}")).says(
         0,
         &[
-            "part 6 of 6, bytes 83886000 to 99999999",
+            "part 6 of 6, bytes 83886000 to 99999999\n",
             "verdict: accepted",
         ],
     );

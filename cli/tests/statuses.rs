@@ -88,6 +88,9 @@ fn every_command_ends_with_the_status_that_is_documented() {
             2,
             "check plan.txt.opening --seal plan.txt.seal --asked plan.txt.asked".into(),
         ),
+        (0, "show plan.txt.opening".into()),
+        (0, "show damaged".into()),
+        (2, "show plan.txt".into()),
         (0, "explain".into()),
         (0, "explain 18".into()),
         (2, "explain 34".into()),
@@ -137,7 +140,8 @@ fn the_help_and_the_page_document_every_status() {
         assert!(page.contains(row), "cli/README.md: {row}");
     }
     for command in [
-        "commit", "ask", "open", "check", "tail", "compare", "explain", "demo", "help", "version",
+        "commit", "ask", "open", "check", "show", "tail", "compare", "explain", "demo", "help",
+        "version",
     ] {
         assert!(
             help.contains(&format!("seal {command}")) && page.contains(&format!("`seal {command}")),

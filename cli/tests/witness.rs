@@ -81,7 +81,7 @@ fn answers(run: &Run, yes: &str, no: &str) -> Answers {
             let number = said.strip_prefix(&format!("{no}, "));
             let answer = match number.and_then(|text| text.split_once(": ")) {
                 Some((number, _)) => number,
-                None if said == yes => "yes",
+                None if said.split(';').next() == Some(yes) => "yes",
                 None => "no",
             };
             (name.into(), answer.into())
@@ -487,7 +487,7 @@ fn the_witness_checks_a_file_of_a_project() {
     ] {
         desk.write("house.opening/manifest.txt", other.as_bytes());
         let [program, witness] = both_on_a_file(&desk, 1, path, "0");
-        program.says(1, &["refused: manifest: "]);
+        program.says(1, &["manifest: refused: "]);
         witness.says(1, &["manifest: no: "]);
     }
     fs::remove_file(desk.path("house.opening/manifest.txt")).unwrap();

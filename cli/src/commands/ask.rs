@@ -47,7 +47,7 @@ fn first(options: &Options, folder: &Path) -> Result<Outcome, Failure> {
     let (target, mut notes) = Target::new(&out, Kind::Request, options.has("--force"))?;
     let seal = match asked_seal(options, None)? {
         Ok(seal) => seal,
-        Err(refused) => return Ok(refused),
+        Err(refused) => return Ok(refused.outcome()),
     };
     let request = Request {
         challenges: challenges(&seal.shape)?,
@@ -83,7 +83,7 @@ fn second(options: &Options, asked: &Path, answer: &Path) -> Result<Outcome, Fai
     checker_s_own(options, answer)?;
     let seal = match asked_seal(options, None)? {
         Ok(seal) => seal,
-        Err(refused) => return Ok(refused),
+        Err(refused) => return Ok(refused.outcome()),
     };
     let request = Request::read(asked, &seal)?;
     if request.answered.is_some() && options.path("--out").is_none() {

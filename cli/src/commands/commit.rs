@@ -6,6 +6,7 @@ use crate::json::Json;
 use crate::options::Options;
 use crate::outcome::{Failure, Outcome, Verdict};
 use crate::progress::Progress;
+use crate::reading::shown_path;
 use crate::seal::Seal;
 use crate::shape::Shape;
 use crate::table::{read_table, room_for};
@@ -44,7 +45,7 @@ pub fn run(options: &Options) -> Result<Outcome, Failure> {
         Err(refusal) => return Ok(Outcome::refused(&refusal)),
     };
     drop(progress);
-    let files = Seal::files(&shape, &root, &file.to_string_lossy(), table.bytes);
+    let files = Seal::files(&shape, &root, &shown_path(file), table.bytes);
     notes.extend(target.write(&files)?);
     Ok(told(&shape, &root, file, table.bytes, target.folder()).notes(notes))
 }

@@ -42,7 +42,7 @@ pub fn run(options: &Options) -> Result<Outcome, Failure> {
     )?;
     let seal = match asked_seal(options, Some(&opening))? {
         Ok(seal) => seal,
-        Err(refused) => return Ok(refused),
+        Err(refused) => return Ok(refused.outcome()),
     };
     let position = options
         .number("--at")?

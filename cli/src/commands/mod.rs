@@ -8,6 +8,7 @@ pub mod compare;
 pub mod demo;
 pub mod explain;
 pub mod open;
+pub mod show;
 pub mod tail;
 pub mod verify;
 pub mod verify_folder;

@@ -9,7 +9,7 @@ use crate::part::{asked_seal, Part};
 use crate::progress::Progress;
 use crate::project::file_path;
 use crate::questions::{challenges, positions, requested, SEED_WARNING};
-use crate::reading::{shown_name, stretch, unreadable};
+use crate::reading::{shown_path, stretch, unreadable};
 use crate::request::Request;
 use crate::seal::Seal;
 use crate::shape::Shape;
@@ -39,7 +39,7 @@ pub fn run(options: &Options) -> Result<Outcome, Failure> {
     let file = &options.operands[0];
     let seal = match asked_seal(options, None)? {
         Ok(seal) => seal,
-        Err(refused) => return Ok(refused),
+        Err(refused) => return Ok(refused.outcome()),
     };
     let asked = Asked::read(options, &seal)?;
     let folder = options
@@ -79,7 +79,7 @@ pub fn run(options: &Options) -> Result<Outcome, Failure> {
         ));
     }
     let name = match &seal.part {
-        None => file.to_string_lossy().into_owned(),
+        None => shown_path(file),
         Some(part) => part.name(),
     };
     let manifest = seal.part.map(|part| part.manifest);
@@ -199,7 +199,7 @@ fn opened(seal: &Seal, table: &[Word], asked: &Asked) -> Result<Option<Opening>,
 fn another_file(path: &Path) -> String {
     format!(
         "{} is not the file that was sealed: its root is another",
-        shown_name(path.as_os_str())
+        shown_path(path)
     )
 }
 

@@ -16,7 +16,7 @@ pub fn run(options: &Options) -> Result<Outcome, Failure> {
     checker_s_own(options, &options.operands[0])?;
     let seal = match asked_seal(options, Some(&options.operands[0]))? {
         Ok(seal) => seal,
-        Err(refused) => return Ok(refused),
+        Err(refused) => return Ok(refused.outcome()),
     };
     let shown = match Shown::read(&options.operands[0], &seal, seal.shape.queries())? {
         Ok(shown) => shown,

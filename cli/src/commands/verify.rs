@@ -8,7 +8,6 @@ use crate::old_words::shown_words;
 use crate::options::Options;
 use crate::outcome::{Failure, Outcome, Verdict};
 use crate::progress::Progress;
-use crate::reading::text_inside;
 use crate::seal::{Seal, SEAL_FOLDER};
 use crate::table::{read_table, room_for, Table};
 use dequmlo::{Deposit, Word};
@@ -16,9 +15,6 @@ use std::collections::BTreeMap;
 use std::path::Path;
 
 pub const TAKEN: [&str; 3] = ["--seal", "--opening", "--json"];
-
-/// More bytes than a seal's summary has.
-const MOST_SUMMARY: usize = 1 << 16;
 
 pub fn run(options: &Options) -> Result<Outcome, Failure> {
     options.expect(1, "one FILE or FOLDER", &TAKEN)?;
@@ -40,7 +36,7 @@ pub fn run(options: &Options) -> Result<Outcome, Failure> {
     } else {
         let length = table
             .as_ref()
-            .and_then(|table| another_length(&folder, table));
+            .and_then(|table| another_length(&seal, table));
         differs(options, file, &seal, table.as_ref())?.notes(length)
     };
     Ok(outcome.notes(seal.notes))
@@ -95,9 +91,11 @@ fn differs(
 }
 
 /// What is said where the seal's summary names another length.
-fn another_length(folder: &Path, table: &Table) -> Option<String> {
-    let summary = text_inside(folder, SUMMARY, MOST_SUMMARY).ok()?;
-    let (before, _) = summary.rsplit_once(" bytes, as a table of ")?;
+fn another_length(seal: &Seal, table: &Table) -> Option<String> {
+    let (before, _) = seal
+        .summary
+        .as_ref()?
+        .rsplit_once(" bytes, as a table of ")?;
     let length: usize = before.rsplit(' ').next()?.parse().ok()?;
     let now = table.bytes;
     (length != now).then(|| {
