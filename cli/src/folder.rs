@@ -2,6 +2,7 @@
 //! from before there were check lines by its parameters and its summary.
 
 use crate::check_lines::{CheckLines, CHECK};
+use crate::manifest::MANIFEST;
 use crate::opening::record_position;
 use crate::reading::{inside, listed, reason, shown_name};
 use std::ffi::OsStr;
@@ -72,12 +73,13 @@ impl Kind {
         }
     }
 
-    /// The files that a folder of this kind may have beside them: check lines came later, an opening has records, and a request gets the rest
-    /// with the holder's answer.
+    /// The files that a folder of this kind may have beside them: check lines came later, a project has its manifest, an opening has records,
+    /// and a request gets the rest with the holder's answer.
     fn may_have(self, name: &str) -> bool {
         match self {
             _ if name == CHECK => true,
-            Kind::Opening => record_position(name).is_some(),
+            Kind::Seal => name == MANIFEST,
+            Kind::Opening => name == MANIFEST || record_position(name).is_some(),
             Kind::Request => ["roots.txt", "claim.txt", "positions.txt"].contains(&name),
             _ => false,
         }

@@ -19,6 +19,8 @@ pub enum Item {
     Records,
     /// The opening as a whole.
     Opening,
+    /// The manifest of a project.
+    Manifest,
 }
 
 impl Item {
@@ -28,6 +30,7 @@ impl Item {
             Item::Tail => "tail".into(),
             Item::Records => "records".into(),
             Item::Opening => "opening".into(),
+            Item::Manifest => "manifest".into(),
         }
     }
 }
@@ -140,6 +143,7 @@ impl Found {
         let said = format!("verdict: {sentence}");
         let records = self.fields(|item| matches!(item, Item::Record(_)));
         let tail = self.fields(|item| item == Item::Tail).pop();
+        let manifest = self.fields(|item| item == Item::Manifest).pop();
         Outcome::new(verdict, sentence)
             .refusal(self.first_refusal())
             .lines(self.lines())
@@ -148,6 +152,7 @@ impl Found {
             .lines([said])
             .found("records", Json::List(records))
             .found("tail", tail.unwrap_or(Json::Null))
+            .found("manifest", manifest.unwrap_or(Json::Null))
             .found("not_checked", texts(unchecked))
             .found("own_questions", extent.own.map_or(Json::Null, Json::text))
             .found("positions_checked", Json::number(extent.checked))

@@ -14,11 +14,11 @@ struct Command {
     takes: &'static [&'static str],
 }
 
-const COMMANDS: [Command; 11] = [
+const COMMANDS: [Command; 12] = [
     Command {
         name: "commit",
-        usage: "seal commit FILE [--profile NAME | --k K --domain TEXT] [--out FOLDER] [--force]",
-        does: "Seals a file: its root and parameters go into the folder FILE.seal.",
+        usage: "seal commit FILE|FOLDER [--profile NAME | --k K --domain TEXT] [--out FOLDER] [--force]",
+        does: "Seals a file, or a project of all files below a folder: its root and parameters go into the folder FILE.seal.",
         takes: &commands::commit::TAKEN,
     },
     Command {
@@ -33,7 +33,8 @@ const COMMANDS: [Command; 11] = [
         name: "open",
         usage: "seal open FILE --seal FOLDER --asked FOLDER [--out FOLDER] [--force]\n\
                 seal open FILE --seal FOLDER (--challenges FILE | --seed TEXT) (--at P,P,.. | --positions FILE | --count N) [--out FOLDER] [--force]",
-        does: "Builds what a checker asked for: into FILE.answer while the request has no positions, then into FILE.opening.",
+        does: "Builds what a checker asked for: into FILE.answer while the request has no positions, then into FILE.opening.\n    \
+               Of a project: seal open FOLDER --file PATH --offset B,B,.. with the rest as above.",
         takes: &commands::open::TAKEN,
     },
     Command {
@@ -41,6 +42,7 @@ const COMMANDS: [Command; 11] = [
         usage: "seal check OPENING --seal FOLDER --asked FOLDER [--report FILE]\n\
                 seal check OPENING --seal FOLDER --challenges FILE (--at P,P,.. | --positions FILE) [--roots FILE] [--claim WORD] [--report FILE]",
         does: "Checks an opening by the checker's own request, or challenges and positions. For trying it out: --seed TEXT [--count N], which draws both.\n    \
+               Of a project's opening, --file PATH and --offset B,B,.. say what is asked about; its manifest is checked first.\n    \
                --own-questions checks by those that the holder chose instead: that is never an acceptance, and ends with 3.",
         takes: &commands::check::TAKEN,
     },
@@ -55,6 +57,13 @@ const COMMANDS: [Command; 11] = [
         usage: "seal tail OPENING --seal FOLDER [--roots FILE] [--claim WORD]",
         does: "Checks the tail record alone, and lists the last level. Without --roots, roots that were kept, it ends with 3.",
         takes: &commands::tail::TAKEN,
+    },
+    Command {
+        name: "verify",
+        usage: "seal verify FILE|FOLDER --seal FOLDER [--opening FOLDER]",
+        does: "Says whether a file is still the one that was sealed. Where it is not and an opening shows old words, says where it first differs.\n    \
+               Of a project it lists which files changed, are missing or are new.",
+        takes: &commands::verify::TAKEN,
     },
     Command {
         name: "compare",

@@ -14,12 +14,16 @@ mod help;
 mod hex;
 mod json;
 mod lines;
+mod manifest;
+mod old_words;
 mod opened;
 mod opening;
 mod options;
 mod outcome;
+mod part;
 mod picture;
 mod progress;
+mod project;
 mod questions;
 mod reading;
 mod report;
@@ -59,6 +63,7 @@ fn run(options: &Options) -> Result<Outcome, Failure> {
         "check" => commands::check::run(options),
         "show" => commands::show::run(options),
         "tail" => commands::tail::run(options),
+        "verify" => commands::verify::run(options),
         "compare" => commands::compare::run(options),
         "explain" => commands::explain::run(options),
         "demo" => commands::demo::run(options),

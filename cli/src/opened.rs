@@ -4,10 +4,11 @@
 use crate::reading::shown_name;
 use crate::shape::Shape;
 use dequmlo::tree::fold_tree_width;
+use dequmlo::Word;
 use std::ffi::OsStr;
 
 /// Where the group of a and b on level 0 begins in a record: behind the level count, the words a, b, c and the group's own count.
-const GROUP: usize = 4 + 3 * 16 + 4;
+pub const GROUP: usize = 4 + 3 * 16 + 4;
 
 /// How many zeros at the end of a text are shown one by one.
 const FEW_ZEROS: usize = 3;
@@ -20,6 +21,8 @@ pub struct Opened {
     n: usize,
     place: usize,
     words: Vec<[u8; 16]>,
+    /// Where the table is that of a part of a larger file, the offset at which the part starts.
+    part: Option<usize>,
 }
 
 impl Opened {
@@ -35,7 +38,22 @@ impl Opened {
                 .chunks(16)
                 .map(|word| word.try_into().expect("16 bytes"))
                 .collect(),
+            part: None,
         })
+    }
+
+    /// The same of a part that starts at this offset of its file.
+    pub fn in_part(self, start: usize) -> Opened {
+        Opened {
+            part: Some(start),
+            ..self
+        }
+    }
+
+    /// The place of the first word, and the words.
+    pub fn words(self) -> (usize, Vec<Word>) {
+        let word = |bytes| Word(u128::from_le_bytes(bytes));
+        (self.place, self.words.into_iter().map(word).collect())
     }
 
     /// The words of the table among them: those of block 0.
@@ -60,7 +78,7 @@ impl Opened {
             usize::try_from(length).unwrap_or(usize::MAX)
         });
         bytes.truncate(end.saturating_sub(offset));
-        (offset, bytes)
+        (self.part.unwrap_or(0) + offset, bytes)
     }
 
     /// What is shown, in words.
@@ -81,9 +99,13 @@ impl Opened {
                 offset + last
             ));
         }
+        let whose = match self.part {
+            None => "its length",
+            Some(_) => "the length of its part",
+        };
         parts.extend(
             self.length()
-                .map(|length| format!("its length, {length} bytes")),
+                .map(|length| format!("{whose}, {length} bytes")),
         );
         if parts.is_empty() {
             parts.push("zeros behind the end of the file".into());

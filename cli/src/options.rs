@@ -25,18 +25,21 @@ const fn option(name: &'static str, value: &'static str, means: &'static str) ->
 }
 
 /// Every option, in the order of the help.
-pub const OPTIONS: [Known; 21] = [
+pub const OPTIONS: [Known; 24] = [
     option("--seal", "FOLDER", "the seal, as `seal commit` wrote it"),
     option("--asked", "FOLDER", "the request that `seal ask` wrote; it has challenges, positions, roots and claim"),
     option("--answer", "FOLDER", "the holder's answer to a request without positions, as `seal open` wrote it"),
     option("--by", "TEXT", "who asks: a name that the request has for people"),
-    option("--opening", "FOLDER", "the opening that names the challenges and the roots"),
+    option("--opening", "FOLDER", "the opening that names the challenges and the roots, or that shows words of the sealed file"),
     option("--profile", "NAME", "k and the base domain by a name: default, fastchunk, balanced, compactwrap, deepwrap"),
     option("--k", "K", "k by itself, from 0 to 4, together with --domain"),
     option("--domain", "TEXT", "the base domain by itself, at most 200 bytes, together with --k"),
     option("--challenges", "FILE", "the checker's challenges, n words, one to a line"),
     option("--at", "P,P,..", "the checker's positions"),
     option("--positions", "FILE", "the checker's positions in a file, with blanks or line ends between them"),
+    option("--offset", "B,B,..", "bytes of the file, from 0, in place of positions: the words that hold them"),
+    option("--file", "PATH", "the file of a project, by its path below the project's folder"),
+    option("--part", "I", "the part of a large file of a project, from 1, where no offset says it"),
     option("--seed", "TEXT", "for trying it out: draws challenges and positions from a text, which whoever knows it can do too"),
     option("--count", "N", "how many positions are drawn; where nothing is drawn, 0 for none"),
     option("--roots", "FILE", "the roots of all levels that the checker kept, in place of the opening's"),

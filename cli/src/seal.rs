@@ -10,7 +10,9 @@ use crate::check_lines::{with_check_lines, CheckLines, CHECK};
 use crate::folder::{Kind, Named, SUMMARY};
 use crate::format::{all_known, signature, Body};
 use crate::lines::{self, most_bytes, one};
+use crate::manifest::{Manifest, MANIFEST};
 use crate::outcome::Failure;
+use crate::part::Part;
 use crate::reading::{inside, shown_name, text_inside};
 use crate::shape::{Shape, PARAMETERS};
 use dequmlo::{Root, Sizes};
@@ -35,6 +37,8 @@ pub struct Seal {
     pub vouched: bool,
     /// What a verdict under this seal has to say of it.
     pub notes: Vec<String>,
+    /// Where it is that of a part of a project, which one.
+    pub part: Option<Part>,
 }
 
 impl Seal {
@@ -76,6 +80,38 @@ impl Seal {
     }
 }
 
+impl Seal {
+    /// The files of a project's seal.
+    pub fn project_files(
+        shape: &Shape,
+        root: &Root,
+        project: &str,
+        manifest: &Manifest,
+    ) -> Vec<Named> {
+        let summary = format!(
+            "{}\n\nIt stands for the project {project}: {} files of {} bytes in all, in {} parts.\n{MANIFEST} lists them with the root of each part, and the root \
+             below is that of {MANIFEST}, as a table of {} words (n = {}, k = {}), under the base domain {}.\nRoot: {root}\n\n\
+             Whoever keeps this root can check that what a holder shows later is what was deposited:\n`seal open` makes what is shown of a file, `seal check` \
+             checks it, `seal verify` says what has changed.\n\n{}",
+            Kind::Seal.heading(),
+            manifest.0.len(),
+            manifest.bytes(),
+            manifest.parts(),
+            1usize << shape.n,
+            shape.n,
+            shape.k,
+            shape.shown_domain(),
+            signature()
+        );
+        with_check_lines(vec![
+            (PARAMETERS.into(), shape.file()),
+            (ROOT.into(), lines::file(&[root])),
+            (MANIFEST.into(), manifest.text().into_bytes()),
+            (SUMMARY.into(), summary.into_bytes()),
+        ])
+    }
+}
+
 fn parts(folder: &Path) -> Result<Seal, Failure> {
     let parameters = Shape::read(folder)?;
     let path = folder.join(ROOT);
@@ -103,6 +139,7 @@ fn parts(folder: &Path) -> Result<Seal, Failure> {
         summary: lines.as_ref().and_then(|lines| summary(folder, lines)),
         vouched: lines.is_some(),
         notes,
+        part: None,
     })
 }
 

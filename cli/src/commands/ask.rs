@@ -6,6 +6,7 @@ use crate::folder::Kind;
 use crate::json::Json;
 use crate::options::Options;
 use crate::outcome::{Failure, Outcome, Verdict};
+use crate::part::asked_seal;
 use crate::request::{name_of_a_checker, Answered, Request};
 use crate::seal::{Seal, SEAL_FOLDER};
 use crate::shown::{changed_note, Shown};
@@ -13,8 +14,9 @@ use crate::statement::{checker_s_own, first_difference, statement, Roots};
 use crate::writing::{beside, Target};
 use std::path::{Path, PathBuf};
 
-pub const TAKEN: [&str; 8] = [
-    "--seal", "--asked", "--answer", "--count", "--by", "--out", "--force", "--json",
+pub const TAKEN: [&str; 10] = [
+    "--seal", "--file", "--part", "--asked", "--answer", "--count", "--by", "--out", "--force",
+    "--json",
 ];
 
 pub fn run(options: &Options) -> Result<Outcome, Failure> {
@@ -22,7 +24,7 @@ pub fn run(options: &Options) -> Result<Outcome, Failure> {
     let folder = options.needed_path("--seal", SEAL_FOLDER)?;
     match (options.path("--asked"), options.path("--answer")) {
         (None, None) => first(options, &folder),
-        (Some(asked), Some(answer)) => second(options, &folder, &asked, &answer),
+        (Some(asked), Some(answer)) => second(options, &asked, &answer),
         (Some(_), None) => Err(Failure(
             "`seal ask` draws positions only when the holder's roots are there: give the answer to the request with --answer".into(),
         )),
@@ -43,7 +45,10 @@ fn first(options: &Options, folder: &Path) -> Result<Outcome, Failure> {
     }
     let out = options.path("--out").unwrap_or_else(|| request_of(folder));
     let (target, mut notes) = Target::new(&out, Kind::Request, options.has("--force"))?;
-    let seal = Seal::read(folder)?;
+    let seal = match asked_seal(options, None)? {
+        Ok(seal) => seal,
+        Err(refused) => return Ok(refused.outcome()),
+    };
     let request = Request {
         challenges: challenges(&seal.shape)?,
         root: seal.root,
@@ -69,19 +74,17 @@ fn first(options: &Options, folder: &Path) -> Result<Outcome, Failure> {
 }
 
 /// The positions, for a request that was answered.
-fn second(
-    options: &Options,
-    folder: &Path,
-    asked: &Path,
-    answer: &Path,
-) -> Result<Outcome, Failure> {
+fn second(options: &Options, asked: &Path, answer: &Path) -> Result<Outcome, Failure> {
     if options.text("--by")?.is_some() {
         return Err(Failure(
             "--by is said when the challenges are asked; the request has it already".into(),
         ));
     }
     checker_s_own(options, answer)?;
-    let seal = Seal::read(folder)?;
+    let seal = match asked_seal(options, None)? {
+        Ok(seal) => seal,
+        Err(refused) => return Ok(refused.outcome()),
+    };
     let request = Request::read(asked, &seal)?;
     if request.answered.is_some() && options.path("--out").is_none() {
         return Err(Failure(format!(

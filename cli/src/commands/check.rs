@@ -6,6 +6,7 @@ use crate::json::Json;
 use crate::opened::{as_text, Opened};
 use crate::options::Options;
 use crate::outcome::{Failure, Outcome};
+use crate::part::{asked_seal, RefusedManifest};
 use crate::questions::{challenges, positions, requested, SEED_WARNING};
 use crate::reading::shown_path;
 use crate::report::{page, Subject};
@@ -18,8 +19,11 @@ use crate::writing::{make, may_be_made};
 use dequmlo::{Root, Statement, Word};
 use std::path::PathBuf;
 
-pub const TAKEN: [&str; 12] = [
+pub const TAKEN: [&str; 15] = [
     "--seal",
+    "--file",
+    "--part",
+    "--offset",
     "--asked",
     "--challenges",
     "--seed",
@@ -42,15 +46,24 @@ pub fn run(options: &Options) -> Result<Outcome, Failure> {
         may_be_made(report, opening)?;
     }
     let folder = options.needed_path("--seal", SEAL_FOLDER)?;
-    let seal = Seal::read(&folder)?;
-    let asked = Asked::read(options, &seal)?;
+    let (seal, asked, examined) = match asked_seal(options, Some(opening))? {
+        Ok(seal) => {
+            let asked = Asked::read(options, &seal)?;
+            let examined = examined(options, &seal, &asked)?;
+            (seal, asked, examined)
+        }
+        Err(RefusedManifest { seal, sentence }) => {
+            let examined = Examined::refused(&seal, Item::Manifest, sentence);
+            (seal, Asked::default(), examined)
+        }
+    };
     let Examined {
         found,
         positions,
         unchecked,
         roots,
         challenges,
-    } = examined(options, &seal, &asked)?;
+    } = examined;
     let extent = Extent {
         own: asked.left_to_the_holder(),
         unchecked: &unchecked,
@@ -92,6 +105,21 @@ struct Examined {
     challenges: Vec<Word>,
 }
 
+impl Examined {
+    /// What is found where nothing of the opening is looked at.
+    fn refused(seal: &Seal, item: Item, sentence: String) -> Examined {
+        let mut found = Found::default();
+        found.declined(item, sentence);
+        Examined {
+            found,
+            positions: Vec::new(),
+            unchecked: Vec::new(),
+            roots: vec![seal.root],
+            challenges: Vec::new(),
+        }
+    }
+}
+
 fn examined(options: &Options, seal: &Seal, asked: &Asked) -> Result<Examined, Failure> {
     let mut found = Found::default();
     let expected = asked
@@ -100,16 +128,7 @@ fn examined(options: &Options, seal: &Seal, asked: &Asked) -> Result<Examined, F
         .map_or(seal.shape.queries(), Vec::len);
     let shown = match Shown::read(&options.operands[0], seal, expected)? {
         Ok(shown) => shown,
-        Err(sentence) => {
-            found.declined(Item::Opening, sentence);
-            return Ok(Examined {
-                found,
-                positions: Vec::new(),
-                unchecked: Vec::new(),
-                roots: vec![seal.root],
-                challenges: asked.challenges.clone().unwrap_or_default(),
-            });
-        }
+        Err(sentence) => return Ok(Examined::refused(seal, Item::Opening, sentence)),
     };
     let roots = match asked.answered() {
         Some(answered) => Roots {
@@ -124,16 +143,14 @@ fn examined(options: &Options, seal: &Seal, asked: &Asked) -> Result<Examined, F
         Some(answered) => answered.claim,
         None => claim(options, &shown)?,
     };
+    if let Some(part) = &seal.part {
+        found.add(Item::Manifest, Answer::Accepted(None));
+        let note = format!("the file that is asked about is {}", part.name());
+        found.notes.push(note);
+    }
     doubles(&mut found, &shown);
     match statement(seal, &roots, &challenges) {
-        Ok(statement) => checked(
-            &mut found,
-            &seal.shape,
-            &statement,
-            &shown,
-            &positions,
-            claim,
-        )?,
+        Ok(statement) => checked(&mut found, seal, &statement, &shown, &positions, claim)?,
         Err(refusal) => found.add(Item::Opening, Answer::Refused(refusal)),
     }
     found.notes.extend(seal.notes.iter().cloned());
@@ -154,6 +171,7 @@ fn examined(options: &Options, seal: &Seal, asked: &Asked) -> Result<Examined, F
 }
 
 /// What the checker asks; what is none is left to the opening, where that was said.
+#[derive(Default)]
 struct Asked {
     challenges: Option<Vec<Word>>,
     positions: Option<Vec<usize>>,
@@ -220,6 +238,12 @@ impl Asked {
         if let Some(request) = &self.request {
             return Ok(request.told());
         }
+        if let Some(path) = options.path("--asked") {
+            let path = shown_path(&path);
+            return Ok(vec![format!(
+                "the checker's request {path}, which was not looked at"
+            )]);
+        }
         let from =
             |name: &str, path: PathBuf| format!("the checker's {name}: from {}", shown_path(&path));
         let seed = options.text("--seed")?;
@@ -233,9 +257,10 @@ impl Asked {
         let challenges = options
             .path("--challenges")
             .map(|path| from("challenges", path));
-        let positions = match (options.path("--positions"), options.text("--at")?) {
-            (Some(path), _) => Some(from("positions", path)),
-            (None, at) => at.map(|_| "the checker's positions: given by name".into()),
+        let by_name = options.given("--at") || options.given("--offset");
+        let positions = match options.path("--positions") {
+            Some(path) => Some(from("positions", path)),
+            None => by_name.then(|| "the checker's positions: given by name".into()),
         };
         Ok(vec![
             challenges.unwrap_or_else(|| drawn("challenges")),
@@ -273,10 +298,19 @@ impl Asked {
     }
 }
 
+/// What an accepted record opens, at its offset in the file.
+fn opened(seal: &Seal, position: usize, record: &[u8]) -> Option<Opened> {
+    let opened = Opened::of(&seal.shape, position, record)?;
+    match &seal.part {
+        None => Some(opened),
+        Some(part) => Some(part.placed(opened)),
+    }
+}
+
 /// Has the library check each record that was asked for, and the tail.
 fn checked(
     found: &mut Found,
-    shape: &Shape,
+    seal: &Seal,
     statement: &Statement,
     shown: &Shown,
     positions: &[usize],
@@ -285,7 +319,7 @@ fn checked(
     for position in positions {
         let answer = match shown.record(*position)? {
             Record::Found(record) => match statement.check_query(*position, &record) {
-                Ok(()) => Answer::Accepted(Opened::of(shape, *position, record.bytes())),
+                Ok(()) => Answer::Accepted(opened(seal, *position, record.bytes())),
                 Err(refusal) => Answer::Refused(refusal),
             },
             Record::Missing => Answer::Declined(

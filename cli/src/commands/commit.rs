@@ -1,5 +1,6 @@
-//! `seal commit`: a file's root and parameters, as a seal.
+//! `seal commit`: a file's root and parameters, as a seal. A folder is a project (commit_folder.rs).
 
+use crate::commands::commit_folder;
 use crate::folder::Kind;
 use crate::json::Json;
 use crate::options::Options;
@@ -16,8 +17,12 @@ use std::path::Path;
 pub const TAKEN: [&str; 6] = ["--profile", "--k", "--domain", "--out", "--force", "--json"];
 
 pub fn run(options: &Options) -> Result<Outcome, Failure> {
-    options.expect(1, "one FILE", &TAKEN)?;
+    options.expect(1, "one FILE or FOLDER", &TAKEN)?;
     let file = &options.operands[0];
+    if file.is_dir() {
+        let (k, domain) = parameters(options)?;
+        return commit_folder::run(options, k, domain);
+    }
     let folder = options
         .path("--out")
         .unwrap_or_else(|| beside(file, ".seal"));

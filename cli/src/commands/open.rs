@@ -5,19 +5,24 @@ use crate::json::Json;
 use crate::opening::Opening;
 use crate::options::Options;
 use crate::outcome::{texts, Failure, Outcome, Verdict};
+use crate::part::{asked_seal, Part};
 use crate::progress::Progress;
+use crate::project::file_path;
 use crate::questions::{challenges, positions, requested, SEED_WARNING};
-use crate::reading::shown_path;
+use crate::reading::{shown_path, stretch, unreadable};
 use crate::request::Request;
-use crate::seal::{Seal, SEAL_FOLDER};
+use crate::seal::Seal;
 use crate::shape::Shape;
-use crate::table::{read_table, room_for};
+use crate::table::{read_table, room_for, table_of};
 use crate::writing::{beside, Target};
 use dequmlo::{Deposit, Refusal, Word};
 use std::path::Path;
 
-pub const TAKEN: [&str; 10] = [
+pub const TAKEN: [&str; 13] = [
     "--seal",
+    "--file",
+    "--part",
+    "--offset",
     "--asked",
     "--challenges",
     "--seed",
@@ -32,23 +37,40 @@ pub const TAKEN: [&str; 10] = [
 pub fn run(options: &Options) -> Result<Outcome, Failure> {
     options.expect(1, "one FILE", &TAKEN)?;
     let file = &options.operands[0];
-    let seal = Seal::read(&options.needed_path("--seal", SEAL_FOLDER)?)?;
+    let seal = match asked_seal(options, None)? {
+        Ok(seal) => seal,
+        Err(refused) => return Ok(refused.outcome()),
+    };
     let asked = Asked::read(options, &seal)?;
     let folder = options
         .path("--out")
         .unwrap_or_else(|| beside(file, asked.ending()));
     let (target, mut notes) = Target::new(&folder, Kind::Opening, options.has("--force"))?;
-    let table = match read_table(file)? {
-        Ok(table) => table.words,
+    if file.is_dir() && seal.part.is_none() {
+        return Err(Failure(format!(
+            "{} is a folder: --file PATH says which file of the project is opened",
+            file.display()
+        )));
+    }
+    let (read, path) = match &seal.part {
+        None => (read_table(file)?.map(|table| table.words), file.clone()),
+        Some(part) => {
+            let path = file_path(file, &part.path);
+            (read_part(&path, part)?, path)
+        }
+    };
+    let table = match read {
+        Ok(table) => table,
         Err(sentence) => return Ok(Outcome::declined(sentence)),
     };
+    let not_the_file = || Ok(Outcome::declined(another_file(&path)));
     if table.len() != seal.sizes.table_words {
-        return Ok(not_the_file(file));
+        return not_the_file();
     }
     room_for(&seal.shape)?;
     let opening = match opened(&seal, &table, &asked) {
         Ok(Some(opening)) => opening,
-        Ok(None) => return Ok(not_the_file(file)),
+        Ok(None) => return not_the_file(),
         Err(refusal) => return Ok(Outcome::refused(&refusal)),
     };
     if asked.keeps_other_roots(&opening) {
@@ -56,7 +78,12 @@ pub fn run(options: &Options) -> Result<Outcome, Failure> {
             "the request keeps other roots or another claim than this file has by its challenges, so it follows another answer than this file's".into(),
         ));
     }
-    notes.extend(target.write(&opening.files(&shown_path(file), &asked.drawn))?);
+    let name = match &seal.part {
+        None => shown_path(file),
+        Some(part) => part.name(),
+    };
+    let manifest = seal.part.map(|part| part.manifest);
+    notes.extend(target.write(&opening.files(&name, &asked.drawn, manifest))?);
     notes.extend(seal.notes);
     if asked.seeded {
         notes.push(SEED_WARNING.into());
@@ -135,6 +162,13 @@ impl Asked {
     }
 }
 
+/// The table of a part of a project's file, as the file is now: with a byte more where it does not end with the part.
+fn read_part(path: &Path, part: &Part) -> Result<Result<Vec<Word>, String>, Failure> {
+    let more = usize::from(part.is_last());
+    let bytes = stretch(path, part.start, part.bytes + more).map_err(|e| unreadable(path, e))?;
+    Ok(table_of(&bytes).map_err(|_| another_file(path)))
+}
+
 /// The opening of a table; none where its root is not the seal's.
 fn opened(seal: &Seal, table: &[Word], asked: &Asked) -> Result<Option<Opening>, Refusal> {
     let progress = Progress::start();
@@ -162,11 +196,11 @@ fn opened(seal: &Seal, table: &[Word], asked: &Asked) -> Result<Option<Opening>,
     }))
 }
 
-fn not_the_file(file: &Path) -> Outcome {
-    Outcome::declined(format!(
+fn another_file(path: &Path) -> String {
+    format!(
         "{} is not the file that was sealed: its root is another",
-        file.display()
-    ))
+        shown_path(path)
+    )
 }
 
 fn told(opening: &Opening, folder: &Path, is_answer: bool) -> Outcome {

@@ -4,6 +4,7 @@ use crate::folder::SUMMARY;
 use crate::format::all_known;
 use crate::hex;
 use crate::json::Json;
+use crate::manifest::MANIFEST;
 use crate::opened::{as_digits, as_text, Opened};
 use crate::opening::{record_name, record_position};
 use crate::options::Options;
@@ -58,10 +59,14 @@ pub fn run(options: &Options) -> Result<Outcome, Failure> {
     let places = records
         .iter()
         .map(|(p, opened)| json(*p, opened.as_ref(), length));
+    let in_a_part = folder.join(MANIFEST).exists().then(|| {
+        "this is an opening of a project: the offsets are counted from the start of the file, or of the part of it that the summary names".into()
+    });
     Ok(Outcome::new(Verdict::Done, sentence)
         .lines(first_line(folder))
         .say()
         .lines(lines)
+        .notes(in_a_part)
         .found("places", Json::List(places.collect())))
 }
 
