@@ -496,6 +496,37 @@ fn a_changed_file_is_not_opened() {
         .says(2, &["the seal in house.seal is damaged: its manifest.txt"]);
 }
 
+/// The commands of cli/README.md, as they stand there.
+#[test]
+fn the_page_s_commands_do_what_it_says() {
+    let desk = Desk::new("project-page");
+    put(&desk, "house", b"plans/north.dwg", &noise(5000, 3));
+    // 5,000 bytes are 313 words, and so n = 9.
+    let challenges: String = (1..10).map(|word| format!("{word:032x}\n")).collect();
+    desk.write("FILE", challenges.as_bytes());
+    let page = include_str!("../README.md");
+    let (_, section) = page.split_once("## A project is a folder\n").unwrap();
+    let lines = section
+        .lines()
+        .map_while(|line| line.strip_prefix("    seal "));
+    let said: Vec<String> = lines
+        .map(|line| desk.run(line.split('#').next().unwrap()))
+        .map(|run| {
+            assert_eq!(run.status, 0, "{run:?}");
+            run.out
+        })
+        .collect();
+    for (said, expected) in said.iter().zip([
+        "sealed the project house: 1 file",
+        "yes: house is the project that was sealed, 1 file of 5000 bytes",
+        "opened 1 position into house.opening",
+        "position 294: accepted; it shows bytes 4608 to 4735 of the file",
+    ]) {
+        assert!(said.contains(expected), "{expected} is not in {said}");
+    }
+    assert_eq!(said.len(), 4);
+}
+
 /// A project that version 0.3.0 sealed and opened is kept for ever, and every later version must accept it.
 #[test]
 fn what_the_first_version_made_of_a_project_is_accepted() {
