@@ -5,6 +5,7 @@ mod desk;
 use desk::{Desk, CHECK, FORMAT};
 use std::fs;
 use std::path::Path;
+use std::process::Command;
 
 /// The texts that a check reads, and the summaries.
 const MARKED: [&str; 6] = [
@@ -105,19 +106,12 @@ fn folders(folder: &Path) -> Vec<String> {
 /// A desk with the files that a version made.
 fn desk_of(version: &str) -> Desk {
     let desk = Desk::new(&format!("kept-{version}"));
-    fs::copy(kept(version).join("plan.txt"), desk.path("plan.txt")).unwrap();
-    for folder in folders(&kept(version)) {
-        let folder = folder.as_str();
-        desk.folder(folder);
-        for entry in fs::read_dir(kept(version).join(folder)).unwrap() {
-            let name = entry.unwrap().file_name();
-            fs::copy(
-                kept(version).join(folder).join(&name),
-                desk.path(folder).join(&name),
-            )
-            .unwrap();
-        }
-    }
+    let copied = Command::new("cp")
+        .arg("-r")
+        .arg(kept(version).join("."))
+        .arg(&desk.0)
+        .status();
+    assert!(copied.unwrap().success());
     desk
 }
 
@@ -137,14 +131,10 @@ fn what_earlier_versions_made_is_accepted() {
             .says(0, &[]);
         desk.run(&CHECK.replace("plan.txt.opening", "again"))
             .says(0, &["verdict: accepted"]);
-        // Requests came with version 0.3.0.
+        // Requests and projects came with version 0.3.0.
         if version != "0.1.0" && version != "0.2.0" {
-            desk.run("check asked.opening --seal plan.txt.seal --asked plan.txt.asked")
-                .says(0, &["verdict: accepted: 3 records and the tail"]);
-            desk.run("open plan.txt --seal plan.txt.seal --asked plan.txt.asked --out asked.again")
-                .says(0, &["opened 3 positions"]);
-            desk.run("ask --seal plan.txt.seal --asked plan.txt.asked --answer plan.txt.answer --out more")
-                .says(0, &["drew 40 positions"]);
+            requests_are_accepted(&desk);
+            projects_are_accepted(&desk);
         }
         // A damaged one is still told from a sound one.
         desk.damage("plan.txt.opening/query-7.record", 60);
@@ -152,6 +142,38 @@ fn what_earlier_versions_made_is_accepted() {
             .says(1, &["position 7: refused, 18 at level 0"]);
         desk.run("commit plan.txt --force").says(0, &[]);
     }
+}
+
+fn requests_are_accepted(desk: &Desk) {
+    desk.run("check asked.opening --seal plan.txt.seal --asked plan.txt.asked")
+        .says(0, &["verdict: accepted: 3 records and the tail"]);
+    desk.run("open plan.txt --seal plan.txt.seal --asked plan.txt.asked --out asked.again")
+        .says(0, &["opened 3 positions"]);
+    desk.run("ask --seal plan.txt.seal --asked plan.txt.asked --answer plan.txt.answer --out more")
+        .says(0, &["drew 40 positions"]);
+}
+
+fn projects_are_accepted(desk: &Desk) {
+    let of = "--seal house.seal --file plans/north.txt";
+    desk.run("verify house --seal house.seal")
+        .says(0, &["yes: house is the project that was sealed"]);
+    desk.run(&format!(
+        "check house.opening {of} --offset 100 --seed dice"
+    ))
+    .says(0, &["manifest: accepted", "verdict: accepted: 1 record"]);
+    desk.run(&format!(
+        "check house.asked.opening {of} --asked house.asked"
+    ))
+    .says(0, &["verdict: accepted: 3 records"]);
+    desk.run(&format!(
+        "ask {of} --asked house.asked --answer house.answer --out house.more"
+    ))
+    .says(0, &["drew 40 positions"]);
+    desk.run("commit house --out house.again").says(0, &[]);
+    assert_eq!(
+        desk.value("house.again/root.txt"),
+        desk.value("house.seal/root.txt")
+    );
 }
 
 #[test]
