@@ -109,12 +109,12 @@ pub fn manifest_of(
     k: usize,
     domain: &[u8],
 ) -> Result<Manifest, Stop> {
-    let mut jobs: Vec<(usize, usize)> = Vec::new();
+    let mut jobs: Vec<Job> = Vec::new();
     for (file, (_, bytes)) in files.iter().enumerate() {
         jobs.extend((0..part_count(*bytes)).map(|part| (file, part)));
     }
     // The largest first, so that no core is left with one of them at the end.
-    let size = |(file, part): &(usize, usize)| part_place(files[*file].1, *part).1;
+    let size = |(file, part): &Job| part_place(files[*file].1, *part).1;
     jobs.sort_by_key(|job| std::cmp::Reverse(size(job)));
     let largest = variables(jobs.first().map_or(0, size));
     let cores = thread::available_parallelism().map_or(1, usize::from);
@@ -143,19 +143,22 @@ pub fn manifest_of(
     Ok(Manifest(files.into_iter().map(entry).collect()))
 }
 
+/// A part of a project: the number of its file, and its own in the file.
+type Job = (usize, usize);
+
 /// The parts that are to be committed, and the roots of those that are.
 struct Work<'a> {
-    jobs: &'a [(usize, usize)],
+    jobs: &'a [Job],
     next: AtomicUsize,
     bytes: u64,
     bytes_done: AtomicU64,
     progress: Progress,
-    /// Each root after its file and part; or why the work ended.
-    done: Mutex<Result<Vec<((usize, usize), Root)>, Stop>>,
+    /// Each root after its part; or why the work ended.
+    done: Mutex<Result<Vec<(Job, Root)>, Stop>>,
 }
 
 impl<'a> Work<'a> {
-    fn new(jobs: &'a [(usize, usize)], bytes: u64) -> Work<'a> {
+    fn new(jobs: &'a [Job], bytes: u64) -> Work<'a> {
         Work {
             jobs,
             next: AtomicUsize::new(0),
@@ -167,7 +170,7 @@ impl<'a> Work<'a> {
     }
 
     /// Does one part after another until there is none left, or until one was not done.
-    fn take(&self, commit: impl Fn((usize, usize)) -> Result<(Root, usize), Stop>) {
+    fn take(&self, commit: impl Fn(Job) -> Result<(Root, usize), Stop>) {
         while let Some(job) = self.jobs.get(self.next.fetch_add(1, Ordering::Relaxed)) {
             let committed = commit(*job);
             let mut done = self.done.lock().expect("no part ends with a fault");

@@ -456,6 +456,8 @@ fn what_changed_is_missing_or_is_new() {
     put(&desk, "house", b"b1", b"");
     desk.run(VERIFY)
         .says(1, &["missing: b1/back\\5cslash", "new: b1\n"]);
+    desk.run(&format!("{VERIFY} --opening house.opening"))
+        .says(2, &["--opening goes with a file"]);
     desk.damage("house.seal/manifest.txt", 100);
     desk.run(VERIFY)
         .says(2, &["the seal in house.seal is damaged: its manifest.txt"]);
@@ -492,6 +494,69 @@ fn a_changed_file_is_not_opened() {
     desk.damage("house.seal/manifest.txt", 100);
     desk.run(OPEN)
         .says(2, &["the seal in house.seal is damaged: its manifest.txt"]);
+}
+
+/// The commands of cli/README.md, as they stand there.
+#[test]
+fn the_page_s_commands_do_what_it_says() {
+    let desk = Desk::new("project-page");
+    put(&desk, "house", b"plans/north.dwg", &noise(5000, 3));
+    // 5,000 bytes are 313 words, and so n = 9.
+    let challenges: String = (1..10).map(|word| format!("{word:032x}\n")).collect();
+    desk.write("FILE", challenges.as_bytes());
+    let page = include_str!("../README.md");
+    let (_, section) = page.split_once("## A project is a folder\n").unwrap();
+    let lines = section
+        .lines()
+        .map_while(|line| line.strip_prefix("    seal "));
+    let said: Vec<String> = lines
+        .map(|line| desk.run(line.split('#').next().unwrap()))
+        .map(|run| {
+            assert_eq!(run.status, 0, "{run:?}");
+            run.out
+        })
+        .collect();
+    for (said, expected) in said.iter().zip([
+        "sealed the project house: 1 file",
+        "yes: house is the project that was sealed, 1 file of 5000 bytes",
+        "opened 1 position into house.opening",
+        "position 294: accepted; it shows bytes 4608 to 4735 of the file",
+    ]) {
+        assert!(said.contains(expected), "{expected} is not in {said}");
+    }
+    assert_eq!(said.len(), 4);
+}
+
+/// A project that version 0.3.0 sealed and opened is kept for ever, and every later version must accept it.
+#[test]
+fn what_the_first_version_made_of_a_project_is_accepted() {
+    let desk = Desk::new("project-kept");
+    let kept = concat!(env!("CARGO_MANIFEST_DIR"), "/tests/fixtures/v1-project");
+    let copied = Command::new("cp")
+        .arg("-r")
+        .args([kept, "kept"])
+        .current_dir(&desk.0)
+        .status();
+    assert!(copied.unwrap().success());
+    desk.run("verify kept/house --seal kept/house.seal").says(
+        0,
+        &["yes: kept/house is the project that was sealed, 3 files of 525 bytes"],
+    );
+    let check = "check kept/house.opening --seal kept/house.seal --challenges kept/challenges.txt --file plans/stairs.txt --offset 300";
+    desk.run(check).says(
+        0,
+        &[
+            "manifest: accepted\nposition 18: accepted; it shows bytes 256 to 383 of the file",
+            "tail: accepted",
+        ],
+    );
+    desk.run("commit kept/house --out now").says(0, &[]);
+    for name in ["root.txt", "manifest.txt", "parameters.txt"] {
+        assert_eq!(
+            desk.read(&format!("now/{name}")),
+            fs::read(format!("{kept}/house.seal/{name}")).unwrap()
+        );
+    }
 }
 
 /// Bytes that do not repeat soon, of any number.

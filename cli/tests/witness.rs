@@ -135,8 +135,10 @@ fn record(levels: &[Level]) -> Vec<u8> {
     bytes
 }
 
+type Damage = fn(&mut Level);
+
 /// The damages of a record that a level's questions name, each with its number.
-const DAMAGES: [(u32, fn(&mut Level)); 12] = [
+const DAMAGES: [(u32, Damage); 12] = [
     (16, |level| drop(level.a_group.pop())),
     (17, |level| drop(level.a_path.pop())),
     (18, |level| level.a_group[0][15] ^= 128),

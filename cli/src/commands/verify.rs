@@ -22,6 +22,9 @@ pub fn run(options: &Options) -> Result<Outcome, Failure> {
     let folder = options.needed_path("--seal", SEAL_FOLDER)?;
     let seal = Seal::read(&folder)?;
     if file.is_dir() {
+        if options.given("--opening") {
+            return Err(Failure("--opening goes with a file; of a project, the seal's own manifest says what changed".into()));
+        }
         return verify_folder::run(file, &folder, seal);
     }
     // A file that is too large for any seal is not the one that was sealed.

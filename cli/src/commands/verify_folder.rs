@@ -18,8 +18,9 @@ pub fn run(project: &Path, folder: &Path, seal: Seal) -> Result<Outcome, Failure
     let text = now.text();
     let same = text.len() <= MOST_BYTES && root_of(text.as_bytes(), k, domain) == Ok(seal.root);
     if same && found.others.is_empty() {
+        let noun = if now.0.len() == 1 { "file" } else { "files" };
         let sentence = format!(
-            "yes: {} is the project that was sealed, {} files of {} bytes",
+            "yes: {} is the project that was sealed, {} {noun} of {} bytes",
             project.display(),
             now.0.len(),
             now.bytes()
