@@ -11,6 +11,7 @@ use record_query_check::Checked;
 use record_query_check::check_query;
 use record_tail_build::build_tail;
 use record_tail_check::check_tail;
+use tree_place::Place;
 ghost use mathlib.Core.Path.{_≡_};
 ghost use Prim.Native.Nat.{_-_, _*_};
 ghost use lib.ListN.{length, drop};
@@ -75,8 +76,9 @@ fn query_record(
     ensures { λ _. ⌜ now (out .exit) ≡ buildQuery present n k (now (levels .entry)) (now (trees .entry)) position (now (out .entry)) ⌝ }
     ensures { λ r. ⌜ answer r ≡ checkQuery (scheme (now (base .entry)) n k) position (now (kept .entry)) (now (roots .entry)) (now (out .exit)) ⌝ }
 {
-    build_query(out, levels, trees, n, k, position);
-    check_query(base, n, k, position, kept, roots, out)
+    let place = Place::at(position);
+    build_query(out, levels, trees, n, k, place);
+    check_query(base, n, k, place, kept, roots, out)
 }
 
 // The tail record, built from the last level and its tree, and checked under the last root.

@@ -52,7 +52,7 @@ pub extern "C" fn dequmlo_open(
     ensures { λ r. ⌜ r ≡ openNumber count width place (length (now (tree .entry))) (length (now (path .entry))) ⌝ }
     ensures { λ _. ⌜ now (path .exit) ≡ openedInto count width place (now (tree .entry)) (now (path .entry)) ⌝ }
 {
-    tree_path::open(count, width, Place(place), tree, path)
+    tree_path::open(count, width, Place::at(place), tree, path)
 }
 
 // The root that the group of a place and a path lead to: 7, 8, 9, 10, 11, 12, 5.
@@ -67,7 +67,7 @@ pub extern "C" fn dequmlo_root_of_path(
 ) -> Digested
     ensures { λ r. ⌜ r ≡ rootAnswer (now (domain .entry)) count width place (now (values .entry)) (now (path .entry)) ⌝ }
 {
-    tree_path::root_of_path(domain, count, width, Place(place), values, path)
+    tree_path::root_of_path(domain, count, width, Place::at(place), values, path)
 }
 
 // The number, and a length, 0 where it is refused.

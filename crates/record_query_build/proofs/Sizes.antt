@@ -18,7 +18,7 @@ use Rattle.record_query_build.specs.helpers.Levels.{lentLevel}
 
 pub level-is : (n k l first tree width depth groups : ℕ) → first ≡ levelStart n k l → tree ≡ 32 * treeStart present n k l → width ≡ levelWidth present n k l
     → depth ≡ levelDepth present n k l
-    → groups ≡ levelGroups present n k l → record { first = first; tree = tree; width = width; depth = depth; groups = groups } ≡ lentLevel n k l
+    → groups ≡ levelGroups present n k l → record { «words_at» = first; «tree_at» = tree; width = width; depth = depth; groups = groups } ≡ lentLevel n k l
 unfolding lentLevel
 level-is n k l first tree width depth groups a b c d e = rw (a, b, c, d, e)
 
@@ -35,8 +35,8 @@ levels-size-le n k l small =
 module _ (n k l : ℕ) (x : Level) (z : SizesFit n k) (h : l < n) (ex : x ≡ lentLevel n k l) where
   pub record NextFits : Type 0 where
     pub length-le : levelLength n k l ≤ 16777216
-    pub first-le : x .first ≤ 335544320
-    pub tree-le : x .tree ≤ 21474836480
+    pub first-le : x .«words_at» ≤ 335544320
+    pub tree-le : x .«tree_at» ≤ 21474836480
     pub groups-some : 0 < x .groups
     pub groups-le : x .groups ≤ 16777216
 
@@ -45,8 +45,8 @@ module _ (n k l : ℕ) (x : Level) (z : SizesFit n k) (h : l < n) (ex : x ≡ le
   next-fits =
       let s = starts-small n k l (sizes-small n k z) in
       let y = level-small n k l (sizes-small n k z) in
-      let a : x .first ≡ levelStart n k l = ap (λ (v : Level). v .first) ex in
-      let b : x .tree ≡ 32 * treeStart present n k l = ap (λ (v : Level). v .tree) ex in
+      let a : x .«words_at» ≡ levelStart n k l = ap (λ (v : Level). v .«words_at») ex in
+      let b : x .«tree_at» ≡ 32 * treeStart present n k l = ap (λ (v : Level). v .«tree_at») ex in
       let c : x .groups ≡ levelGroups present n k l = ap (λ (v : Level). v .groups) ex in
       record {
         length-le =
@@ -57,11 +57,11 @@ module _ (n k l : ℕ) (x : Level) (z : SizesFit n k) (h : l < n) (ex : x ≡ le
         groups-le = omega arith;
       }
 
-  pub next-first : (len : ℕ) → len ≡ levelLength n k l → x .first + len ≡ levelStart n k (l + 1)
+  pub next-first : (len : ℕ) → len ≡ levelLength n k l → x .«words_at» + len ≡ levelStart n k (l + 1)
   unfolding lentLevel levelStart total
   next-first len e = rw (ex, e, add-one)
 
-  pub next-tree : x .tree + 32 * (2 * x .groups - 1) ≡ 32 * treeStart present n k (l + 1)
+  pub next-tree : x .«tree_at» + 32 * (2 * x .groups - 1) ≡ 32 * treeStart present n k (l + 1)
   unfolding lentLevel treeStart total
   next-tree = rw (ex, add-one) (omega (arith, level-small n k l (sizes-small n k z) .tree-is))
 

@@ -30,10 +30,10 @@ rest-run size s t h = rest-drop s t (runSize size t) h
 -- the level v read at place i: what stands at each of its places
 pub record LevelPlaces (s : List ℕ) (i : ℕ) (v : Level) : Type 0 where
   pub fits-is : v .fits ≡ levelFits (drop i s)
-  pub a-group : drop (v .«a_group») s ≡ fromAGroup (drop i s)
-  pub c-group : drop (v .«c_group») s ≡ fromCGroup (drop i s)
-  pub a-path : drop (v .«a_path») s ≡ fromAPath (drop i s)
-  pub c-path : drop (v .«c_path») s ≡ fromCPath (drop i s)
+  pub a-group : drop (v .«a_group_at») s ≡ fromAGroup (drop i s)
+  pub c-group : drop (v .«c_group_at») s ≡ fromCGroup (drop i s)
+  pub a-path : drop (v .«a_path_at») s ≡ fromAPath (drop i s)
+  pub c-path : drop (v .«c_path_at») s ≡ fromCPath (drop i s)
   pub after : afterLevel (drop i s) ≡ drop (v .next) s
   pub within : v .next ≤ length s
 
@@ -51,7 +51,7 @@ level-places s i v e =
 -- the group v read at place i
 pub record GroupPlaces (s : List ℕ) (i : ℕ) (v : TailGroup) : Type 0 where
   pub fits-is : v .fits ≡ tailGroupFits (drop i s)
-  pub path : drop (v .path) s ≡ fromTailPath (drop i s)
+  pub path : drop (v .«path_at») s ≡ fromTailPath (drop i s)
   pub after : afterTailGroup (drop i s) ≡ drop (v .next) s
   pub within : v .next ≤ length s
 

@@ -108,7 +108,7 @@ module _ (size : ℕ) (s t : List ℕ) (i : ℕ) (r : Run) (e : r ≡ runAt size
 pub level-read : (s : List ℕ) (i from : ℕ) (a c p q : Run) (words f₁ f₂ f₃ fits : Bool) → i ≤ length s → words ≡ leb 48 (length s - i) → from ≡ furtherOf (length s) i 48
     → a ≡ runAt 16 s from → c ≡ runAt 16 s (a .next) → p ≡ runAt 32 s (c .next) → q ≡ runAt 32 s (p .next)
     → f₁ ≡ both (p .fits) (q .fits) → f₂ ≡ both (c .fits) f₁ → f₃ ≡ both (a .fits) f₂ → fits ≡ both words f₃
-    → _≡_ {A = Level} (record { fits = fits; «a_group» = from; «c_group» = a .next; «a_path» = c .next; «c_path» = p .next; next = q .next }) (levelAt s i)
+    → _≡_ {A = Level} (record { fits = fits; «a_group_at» = from; «c_group_at» = a .next; «a_path_at» = c .next; «c_path_at» = p .next; next = q .next }) (levelAt s i)
 unfolding levelAt levelFits fromAGroup fromCGroup fromAPath fromCPath afterLevel
 level-read s i from a c p q words f₁ f₂ f₃ fits h ew ef ea ec ep eq e₁ e₂ e₃ e =
     let t : List ℕ = drop i s in
@@ -127,7 +127,7 @@ level-read s i from a c p q words f₁ f₂ f₃ fits h ew ef ea ec ep eq e₁ e
     rw (ok, here, na, nc, np, nq)
 
 pub group-read : (s : List ℕ) (i : ℕ) (v p : Run) (fits : Bool) → v ≡ runAt 16 s i → p ≡ runAt 32 s (v .next) → fits ≡ both (v .fits) (p .fits)
-    → _≡_ {A = TailGroup} (record { fits = fits; path = v .next; next = p .next }) (groupAt s i)
+    → _≡_ {A = TailGroup} (record { fits = fits; «path_at» = v .next; next = p .next }) (groupAt s i)
 unfolding groupAt tailGroupFits fromTailPath afterTailGroup
 group-read s i v p fits ev ep e =
     let t : List ℕ = drop i s in

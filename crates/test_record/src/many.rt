@@ -11,6 +11,7 @@ use test_lines::bytes::put_half;
 use test_lines::parts::part;
 use test_lines::text::put_decimal;
 use test_lines::words::first;
+use tree_place::Place;
 
 enum Kind {
     Query,
@@ -61,7 +62,8 @@ pub fn given_by(place: usize, n: [usize; 8]) -> Given {
 }
 
 fn query_number(g: Given, a: &[u64], s: &[u8], t: &[u8], u: &[u8]) -> u32 {
-    let r = record_query_check::check_query(s, g.n, g.k, g.position, a, t, u);
+    let position = Place::at(g.position);
+    let r = record_query_check::check_query(s, g.n, g.k, position, a, t, u);
     r.number
 }
 

@@ -2,6 +2,7 @@
 use test_lines::answer::Answer;
 use test_lines::answer::no_room;
 use test_lines::answer::three;
+use tree_place::Place;
 
 fn compare(
     n: [usize; 8],
@@ -13,7 +14,7 @@ fn compare(
     y: &mut [u8],
     z: &mut [u8],
 ) -> Answer {
-    let r = compare_records::compare(s, n[0], n[1], n[2], a, t, u, v, y, z);
+    let r = compare_records::compare(s, n[0], n[1], Place::at(n[2]), a, t, u, v, y, z);
     three(r.number, r.first, r.second)
 }
 

@@ -36,7 +36,8 @@ fn put_leaves_from(
     let mut g: usize = first;
     while g < groups {
         let end = from + 2 * width;
-        let d = hash_group(message, prefix, width, Group(g), &values[from..end]);
+        let group = Group::numbered(g);
+        let d = hash_group(message, prefix, width, group, &values[from..end]);
         to = bytes_numbers::put(tree, to, &d);
         from = end;
         g += 1;

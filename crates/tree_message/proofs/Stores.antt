@@ -61,13 +61,13 @@ halves-all o from values out i k l h e f =
     let z : i ≡ length values = omega arith in
     record { bytes = rw (drop-of-length-le values h, stored-nil) at f; size = length-numbers 8 values; end = e ∙ ap (λ n. from + 8 * n) z }
 
-pub leaf-rest-put : (o : List ℕ) (from width group : ℕ) (values o1 o2 o3 o4 : List ℕ) (j1 j2 j3 j4 : ℕ) → length values ≡ 2 * width → Halves values
-    → Put o from 8 (leBytes 8 width) o1 j1 → Put o1 j1 8 (leBytes 8 group) o2 j2 → Put o2 j2 8 (leBytes 8 (16 * width)) o3 j3
+pub leaf-rest-put : (o : List ℕ) (from width group g : ℕ) (values o1 o2 o3 o4 : List ℕ) (j1 j2 j3 j4 : ℕ) → length values ≡ 2 * width → Halves values
+    → g ≡ group → Put o from 8 (leBytes 8 width) o1 j1 → Put o1 j1 8 (leBytes 8 g) o2 j2 → Put o2 j2 8 (leBytes 8 (16 * width)) o3 j3
     → Put o3 j3 (8 * length values) (flat (map (leBytes 8) values)) o4 j4 → Put o from (24 + 16 * width) (leafRest width group (words values)) o4 j4
 unfolding leafRest
-leaf-rest-put o from width group values o1 o2 o3 o4 j1 j2 j3 j4 n h a b c d =
+leaf-rest-put o from width group g values o1 o2 o3 o4 j1 j2 j3 j4 n h e a b c d =
     same-put o from _ (24 + 16 * width) _ (leafRest width group (words values)) o4 j4 (omega arith) (rw (wordsBytes-halves values width n h))
-    (then-put o from _ _ o3 j3 _ _ o4 j4 (then-put o from _ _ o2 j2 _ _ o3 j3 (then-put o from _ _ o1 j1 _ _ o2 j2 a b) c) d)
+    (then-put o from _ _ o3 j3 _ _ o4 j4 (then-put o from _ _ o2 j2 _ _ o3 j3 (then-put o from _ _ o1 j1 _ _ o2 j2 a (rw e at b)) c) d)
 
 -- ---- digests
 

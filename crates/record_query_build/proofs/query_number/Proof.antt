@@ -44,11 +44,13 @@ query-size-requires c κs =
 returns-4 : tie.Need-returns-4
 returns-4 c = search wrong-out
 
+index-requires : tie.Need-index-requires
+index-requires c κs = search needs
+
 level-length-requires : tie.Need-level-length-requires
 level-length-requires c κs =
-    let trees = c .before .before .before in
-    let sized = trees .before .before .before .before in
-    let h = sizes-said _ _ _ (sized .size-number .ensures) (trees .before .before .before .if1 .left) in
+    let sized : tie.Else1 = search in
+    let h = sizes-said _ _ _ (sized .before .size-number .ensures) (sized .if1 .left) in
     (sizes-small _ _ h, search needs)
 
 returns-5 : tie.Need-returns-5
@@ -70,6 +72,7 @@ query-number-spec =
     returns-3
     query-size-requires
     returns-4
+    index-requires
     level-length-requires
     returns-5
     returns-6)
