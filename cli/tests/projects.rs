@@ -527,38 +527,6 @@ fn the_page_s_commands_do_what_it_says() {
     assert_eq!(said.len(), 4);
 }
 
-/// A project that version 0.3.0 sealed and opened is kept for ever, and every later version must accept it.
-#[test]
-fn what_the_first_version_made_of_a_project_is_accepted() {
-    let desk = Desk::new("project-kept");
-    let kept = concat!(env!("CARGO_MANIFEST_DIR"), "/tests/fixtures/v1-project");
-    let copied = Command::new("cp")
-        .arg("-r")
-        .args([kept, "kept"])
-        .current_dir(&desk.0)
-        .status();
-    assert!(copied.unwrap().success());
-    desk.run("verify kept/house --seal kept/house.seal").says(
-        0,
-        &["yes: kept/house is the project that was sealed, 3 files of 525 bytes"],
-    );
-    let check = "check kept/house.opening --seal kept/house.seal --challenges kept/challenges.txt --file plans/stairs.txt --offset 300";
-    desk.run(check).says(
-        0,
-        &[
-            "manifest: accepted\nposition 18: accepted; it shows bytes 256 to 383 of the file",
-            "tail: accepted",
-        ],
-    );
-    desk.run("commit kept/house --out now").says(0, &[]);
-    for name in ["root.txt", "manifest.txt", "parameters.txt"] {
-        assert_eq!(
-            desk.read(&format!("now/{name}")),
-            fs::read(format!("{kept}/house.seal/{name}")).unwrap()
-        );
-    }
-}
-
 /// Bytes that do not repeat soon, of any number.
 fn noise(size: usize, seed: u64) -> Vec<u8> {
     let mut state = seed;
