@@ -187,11 +187,7 @@ fn the_version_and_the_help_of_every_command() {
     for words in ["-h", "--help"] {
         assert_eq!(desk.run(words).out, all.out);
     }
-    let commands = [
-        "commit", "ask", "open", "check", "show", "tail", "compare", "explain", "demo", "help",
-        "version",
-    ];
-    for command in commands {
+    for command in desk.commands() {
         let help = desk.run(&format!("help {command}"));
         help.says(0, &[&format!("seal {command}"), "--json", "Exit status: 0"]);
         assert_ne!(help.out, all.out, "{command}");

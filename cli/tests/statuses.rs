@@ -120,7 +120,8 @@ fn every_command_ends_with_the_status_that_is_documented() {
 
 #[test]
 fn the_help_and_the_page_document_every_status() {
-    let help = Desk::new("status-help").run("help").out;
+    let desk = Desk::new("status-help");
+    let help = desk.run("help").out;
     let page = std::fs::read_to_string(concat!(env!("CARGO_MANIFEST_DIR"), "/README.md")).unwrap();
     let flat = |text: &str| text.split_whitespace().collect::<Vec<_>>().join(" ");
     for text in [
@@ -139,10 +140,7 @@ fn the_help_and_the_page_document_every_status() {
     ] {
         assert!(page.contains(row), "cli/README.md: {row}");
     }
-    for command in [
-        "commit", "ask", "open", "check", "show", "tail", "compare", "explain", "demo", "help",
-        "version",
-    ] {
+    for command in desk.commands() {
         assert!(
             help.contains(&format!("seal {command}")) && page.contains(&format!("`seal {command}")),
             "{command}"

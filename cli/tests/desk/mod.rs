@@ -168,6 +168,23 @@ impl Desk {
         Run::of(&mut command)
     }
 
+    /// The commands that the help lists.
+    pub fn commands(&self) -> Vec<String> {
+        let help = self.run("help").out;
+        let name = |line: &str| {
+            Some(
+                line.strip_prefix("seal ")?
+                    .split([' ', ','])
+                    .next()?
+                    .to_string(),
+            )
+        };
+        let mut commands: Vec<String> = help.lines().filter_map(name).collect();
+        commands.dedup();
+        assert!(commands.len() >= 12, "{commands:?}");
+        commands
+    }
+
     pub fn check(&self) -> Run {
         self.run(CHECK)
     }
