@@ -25,7 +25,7 @@ use Rattle.theory_claim.specs.Claim.{Deposit, Lent, LastLent, After}
 use Rattle.theory_claim.proofs.Claim.{claim}
 use Rattle.claim_fold_calls.specs.helpers.Laid.{challengesOf}
 use Rattle.claim_fold_calls.proofs.Laying.{levels-laid}
-use Rattle.claim_level_trees.proofs.Growing.{length-tree}
+use Rattle.code_level_trees.proofs.Growing.{length-tree}
 use Rattle.claim_whole_run.specs.Whole.{Room, RecordRoom, LastRoom, codeword, calls, Deposited, Claimed}
 use Rattle.theory_record.specs.Scheme.{scheme}
 

@@ -1,10 +1,10 @@
 // The whole run (SPECIFICATION 10.1) over plain lent buffers, after eval.rs and ring.rs. These are helpers: each requires that what it is lent has its
 // length.
 use claim_fold_calls::fold_calls;
-use claim_level_trees::level_trees;
 use code_commit::commit;
 use code_commit::trees::tree_bytes;
 use code_level::level_length;
+use code_level_trees::level_trees;
 use field_gf128::Word;
 use record_query_build::build_query;
 use record_query_check::Checked;

@@ -23,7 +23,7 @@ use Rattle.record_opening.proofs.Levels.{width-most}
 use Rattle.record_writer.proofs.Runs.{path-of-digests}
 use Rattle.record_query_build.specs.declared.Level.{Level}
 use Rattle.record_query_build.specs.helpers.Levels.{lentLevel, valuesLent, pathLent, openLent, ValuesThere, PathThere, Room}
-use Rattle.record_query_build.proofs.Sizes.{level-small}
+use Rattle.code_level.proofs.Totals.{level-small}
 
 -- ---- what is put is the level that is built
 

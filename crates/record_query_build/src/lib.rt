@@ -4,18 +4,20 @@ use code_level::level_depth;
 use code_level::level_groups;
 use code_level::level_length;
 use code_level::level_width;
+use code_level::levels_length;
 use code_level::size_number;
+use code_level::trees_size;
 use field_bytes::put_words;
 use record_writer::put_digests;
 use record_writer::put_values;
 ghost use mathlib.Core.Path.{_≡_};
-ghost use Prim.Native.Nat.{suc, _+_, _*_, _≤_, _<_};
+ghost use Prim.Native.Nat.{_+_, _*_, _≤_, _<_};
 ghost use lib.ListN.{length};
 ghost use Rattle.theory_field.specs.Words.{words};
 ghost use Rattle.bytes_numbers.specs.helpers.Put.{Put};
 ghost use Rattle.theory_record.specs.Widths.{present};
 ghost use Rattle.theory_record.specs.Sizes.{groupSize, querySize};
-ghost use Rattle.theory_record.specs.Build.{levelStart, levelsLength, treeStart, queryBytes, buildQueryNumber, buildQuery};
+ghost use Rattle.theory_record.specs.Build.{levelStart, treeStart, queryBytes, buildQueryNumber, buildQuery};
 ghost use Rattle.theory_record.proofs.BuildAllowed.{QueryBuild};
 ghost use Rattle.theory_record.proofs.Ranges.{SizesFit};
 ghost use Rattle.record_query_build.specs.helpers.Levels.{lentLevel, pairBytes, groupsBytes, pathsBytes, openBytes, openSize};
@@ -135,28 +137,6 @@ fn put_levels(
         l += 1;
     }
     at
-}
-
-// How many words the levels have: twice as many as the first, less the last.
-pub fn levels_length(n: usize, k: usize) -> usize
-    requires { ⌜ SizesFit n k ⌝ }
-    ensures { λ r. ⌜ r ≡ levelsLength n k ⌝ }
-{
-    2 * level_length(n, k, 0) - level_length(n, k, n)
-}
-
-// How many bytes their trees have.
-pub fn trees_size(n: usize, k: usize) -> usize
-    requires { ⌜ SizesFit n k ⌝ }
-    ensures { λ r. ⌜ r ≡ 32 * treeStart present n k (suc n) ⌝ }
-{
-    let mut digests: usize = 0;
-    let mut l: usize = 0;
-    while l <= n {
-        digests += 2 * level_groups(n, k, l) - 1;
-        l += 1;
-    }
-    32 * digests
 }
 
 // How many bytes a group of level l and its path have in a record.

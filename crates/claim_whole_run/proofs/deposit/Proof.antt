@@ -11,7 +11,7 @@ use Rattle.claim_whole_run.proofs.deposit.Tie as tie
 use Rattle.claim_whole_run.proofs.deposit.Reads as reads
 use Rattle.claim_whole_run.proofs.deposit.Lts as lts
 use Rattle.claim_fold_calls.proofs.fold_calls.Reads as fold-calls-reads
-use Rattle.claim_level_trees.proofs.level_trees.Reads as level-trees-reads
+use Rattle.code_level_trees.proofs.level_trees.Reads as level-trees-reads
 use Rattle.code_level.proofs.level_length.Reads as level-length-reads
 use Rattle.code_commit.proofs.commit.Reads as commit-reads
 use Rattle.code_commit.proofs.trees.tree_bytes.Reads as tree-bytes-reads

@@ -1,6 +1,6 @@
 -- `record_query_build::query_number` meets its contract.
 use Rattle.record_query_build.proofs.Numbers.{wrong-size, wrong-levels, wrong-trees, wrong-out, wrong-position, none-says-no}
-use Rattle.record_query_build.proofs.Sizes.{levels-fit}
+use Rattle.code_level.proofs.Totals.{levels-fit}
 use Rattle.code_level.proofs.Sizes.{sizes-said}
 use Rattle.theory_record.proofs.Ranges.{sizes-small}
 use borrow.Author.Needs.{needs}
@@ -10,9 +10,9 @@ use Rattle.record_query_build.proofs.query_number.Reads as reads
 use Rattle.record_query_build.proofs.query_number.Lts as lts
 use Rattle.code_level.proofs.level_length.Reads as level-length-reads
 use Rattle.code_level.proofs.size_number.Reads as size-number-reads
-use Rattle.record_query_build.proofs.levels_length.Reads as levels-length-reads
+use Rattle.code_level.proofs.levels_length.Reads as levels-length-reads
 use Rattle.record_query_build.proofs.query_size.Reads as query-size-reads
-use Rattle.record_query_build.proofs.trees_size.Reads as trees-size-reads
+use Rattle.code_level.proofs.trees_size.Reads as trees-size-reads
 
 size-number-requires : tie.Need-size-number-requires
 size-number-requires c κs = search needs
