@@ -7,7 +7,8 @@
 
 /* ---- what is lent: a place for each buffer, which lies at its end */
 
-enum { DOMAIN, INPUT, TABLE, CHALLENGES, GAMMAS, LEVELS, HALF, TREES, ROOTS, QUERY, TAIL, FIRST, SECOND, TREE, PATH, POINT, PARTIALS, INDICATOR, PLACES };
+enum { DOMAIN, LEVEL_DOMAIN, INPUT, TABLE, CHALLENGES, GAMMAS, LEVELS, HALF, TREES, LEVEL_TREE, ROOTS, QUERY, TAIL, FIRST, SECOND, TREE, PATH, POINT,
+       PARTIALS, INDICATOR, PLACES };
 
 static const size_t ROOM = (size_t)1 << 31;
 static uint8_t *ends[2][PLACES]; /* of what is written, and of what may only be read */
@@ -135,24 +136,42 @@ static uint32_t root_of_path(const size_t *v) {
     return digested(d);
 }
 
-/* bytes of the base domain, n, k. All levels, their trees and roots, behind the codeword that was committed and its tree. */
-static uint32_t all_levels(const size_t *v) {
-    size_t n = v[1], k = v[2];
-    const uint64_t *challenges = halves_of(CHALLENGES, n);
-    uint64_t *level = halves_of(LEVELS, levels_words(n, k));
-    uint8_t *tree = bytes_of(TREES, trees_bytes(n, k)), *root = bytes_of(ROOTS, 32 * (n + 1)), domain[256];
-    memcpy(domain, bytes_of(DOMAIN, v[0]), v[0]);
-    memcpy(root, tree + tree_bytes(level_words(n, k, 0)) - 32, 32);
-    for (size_t l = 0; l < n; l++) {
-        size_t from = level_words(n, k, l), to = from / 2;
-        dequmlo_word r = {challenges[2 * l], challenges[2 * l + 1]};
-        MUST(dequmlo_fold(n - l, k, 0, r, level, 2 * from, level + 2 * from, 2 * to).number == 0);
-        level += 2 * from, tree += tree_bytes(from), root += 32;
-        size_t length = v[0] + (size_t)snprintf((char *)domain + v[0], sizeof domain - v[0], "/level/%zu", l + 1);
-        MUST(dequmlo_tree(domain, length, to, dequmlo_fold_tree_width(to), level, 2 * to, tree, tree_bytes(to)) == 0);
-        memcpy(root, tree + tree_bytes(to) - 32, 32);
-    }
+/* bytes of the base domain, level */
+static uint32_t level_domain_length(const size_t *v) {
+    dequmlo_domain_length d = dequmlo_level_domain_length(BYTES(DOMAIN, v[0]), v[1]);
+    MUST(d.length == (d.number == 0 ? v[0] + 7 + (v[1] < 10 ? 1 : 2) : 0));
+    return d.number;
+}
+
+/* bytes of the base domain, level, bytes of the level's domain */
+static uint32_t level_domain(const size_t *v) {
+    char end[16];
+    size_t length = (size_t)snprintf(end, sizeof end, "/level/%zu", v[1]);
+    uint32_t number = dequmlo_level_domain(BYTES(DOMAIN, v[0]), v[1], BYTES(LEVEL_DOMAIN, v[2]));
+    if (number != 0) return number;
+    MUST(memcmp(bytes_of(LEVEL_DOMAIN, length), end, length) == 0);
+    MUST(memcmp(bytes_of(LEVEL_DOMAIN, v[2]), bytes_of(DOMAIN, v[0]), v[0]) == 0);
     return 0;
+}
+
+/* bytes of the base domain, n, k, challenges. All levels, their trees and roots, from the codeword that was committed. */
+static uint32_t fold_levels(const size_t *v) {
+    size_t n = v[1], k = v[2];
+    return dequmlo_fold_levels(n, k, BYTES(DOMAIN, v[0]), WORDS(CHALLENGES, v[3]), WORDS(LEVELS, levels_words(n, k)),
+                               WORDS(HALF, level_words(n, k, 0) / 2), BYTES(TREES, trees_bytes(n, k)), BYTES(ROOTS, 32 * (n + 1)));
+}
+
+/* The words before level l, and the bytes before its tree; 0 of a level that is not there. */
+static size_t words_before(size_t n, size_t k, size_t l) { return l > n ? 0 : levels_words(n, k) - levels_words(n - l, k); }
+static size_t bytes_before(size_t n, size_t k, size_t l) { return l > n ? 0 : trees_bytes(n, k) - trees_bytes(n - l, k); }
+
+/* bytes of the base domain, n, k, level. The same tree as among all trees. */
+static uint32_t level_tree(const size_t *v) {
+    size_t n = v[1], k = v[2], l = v[3], words = level_words(n, k, l), size = tree_bytes(words);
+    const uint64_t *level = halves_of(LEVELS, levels_words(n, k)) + 2 * words_before(n, k, l);
+    uint32_t number = dequmlo_level_tree(n, k, l, BYTES(DOMAIN, v[0]), level, 2 * words, BYTES(LEVEL_TREE, size));
+    if (number == 0) MUST(memcmp(bytes_of(LEVEL_TREE, size), bytes_of(TREES, trees_bytes(n, k)) + bytes_before(n, k, l), size) == 0);
+    return number;
 }
 
 /* n, k, position */
@@ -299,7 +318,33 @@ static const row rows[] = {
     {CALL(root_of_path), {255, MOST, 512, LAST, 14}, 12},
     {CALL(root_of_path), {255, MOST, 512, LAST, 16}, 12},
 
-    {CALL(all_levels), {200, 20, 4}, 0},
+    {CALL(level_domain_length), {200, 20}, 0},
+    {CALL(level_domain_length), {200, 21}, 4},
+    {CALL(level_domain_length), {201, 20}, 7},
+
+    {CALL(level_domain), {0, 0, 8}, 0},
+    {CALL(level_domain), {200, 9, 208}, 0},
+    {CALL(level_domain), {200, 10, 209}, 0},
+    {CALL(level_domain), {200, 20, 209}, 0},
+    {CALL(level_domain), {200, 21, 209}, 4},
+    {CALL(level_domain), {200, 20, 208}, 5},
+    {CALL(level_domain), {200, 20, 210}, 5},
+    {CALL(level_domain), {201, 20, 210}, 7},
+
+    {CALL(fold_levels), {200, 20, 4, 20}, 0},
+    {CALL(fold_levels), {200, 0, 4, 0}, 4},
+    {CALL(fold_levels), {200, 21, 4, 21}, 4},
+    {CALL(fold_levels), {200, 20, 5, 20}, 4},
+    {CALL(fold_levels), {200, 20, 4, 19}, 5},
+    {CALL(fold_levels), {200, 20, 4, 21}, 5},
+    {CALL(fold_levels), {201, 20, 4, 20}, 7},
+
+    {CALL(level_tree), {200, 20, 4, 20}, 0},
+    {CALL(level_tree), {200, 20, 4, 21}, 4},
+    {CALL(level_tree), {200, 0, 4, 0}, 4},
+    {CALL(level_tree), {200, 21, 4, 21}, 4},
+    {CALL(level_tree), {200, 20, 5, 20}, 4},
+    {CALL(level_tree), {201, 20, 4, 20}, 7},
 
     {CALL(build_query), {20, 4, LAST}, 0},
     {CALL(build_query), {20, 4, MOST}, 11},
