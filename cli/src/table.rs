@@ -43,15 +43,16 @@ fn table_of(bytes: &[u8]) -> Result<Vec<Word>, String> {
     Ok(table)
 }
 
-/// Fails where there is no memory for all levels and trees of a deposit of this shape, and the table twice. (Memory that runs out later would
-/// end the program without a sentence.)
+/// Fails where there is no memory for all levels and trees of a deposit of this shape, the room for a fold, and the table twice. (Memory that
+/// runs out later would end the program without a sentence.)
 pub fn room_for(shape: &Shape) -> Result<(), Failure> {
     // The library refuses parameters that no deposit has; there is nothing to make room for.
     let sizes = match Sizes::of(shape.n, shape.k) {
         Ok(sizes) => sizes,
         Err(_) => return Ok(()),
     };
-    let bytes = 16 * (sizes.levels_words + 2 * sizes.table_words) + sizes.trees_bytes;
+    let words = sizes.levels_words + sizes.half_words + 2 * sizes.table_words;
+    let bytes = 16 * words + sizes.trees_bytes;
     Vec::<u8>::new().try_reserve_exact(bytes).map_err(|_| {
         Failure(format!(
             "there is not enough memory: this file with k = {} takes {} MiB",
