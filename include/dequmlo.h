@@ -22,9 +22,9 @@
 
 /* The version of this header, which is that of the archive beside it. */
 #define DEQUMLO_VERSION_MAJOR 0
-#define DEQUMLO_VERSION_MINOR 2
+#define DEQUMLO_VERSION_MINOR 3
 #define DEQUMLO_VERSION_PATCH 0
-#define DEQUMLO_VERSION "0.2.0"
+#define DEQUMLO_VERSION "0.3.0"
 
 #ifdef __cplusplus
 extern "C" {

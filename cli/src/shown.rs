@@ -2,6 +2,7 @@
 
 use crate::check_lines::{CheckLines, CHECK};
 use crate::folder::Kind;
+use crate::format::all_known;
 use crate::lines::{items, most_bytes, one};
 use crate::opening::{
     meant_position, record_name, record_position, CHALLENGES, CLAIM, ROOTS, TAIL,
@@ -9,7 +10,7 @@ use crate::opening::{
 use crate::outcome::Failure;
 use crate::reading::{inside, listed, reason, shown_name, text_inside, unreadable, Unread};
 use crate::seal::Seal;
-use crate::shape::Shape;
+use crate::shape::{Shape, PARAMETERS};
 use dequmlo::{QueryRecord, Root, Sizes, TailRecord, Word};
 use std::cell::RefCell;
 use std::collections::BTreeMap;
@@ -65,6 +66,7 @@ impl Shown {
                 )))
             }
         };
+        all_known(folder, &[PARAMETERS, CHALLENGES, ROOTS, CLAIM])?;
         parts(folder, seal, names, most)
             .map(Ok)
             .map_err(|Failure(what)| {
@@ -158,7 +160,7 @@ fn parts(
         // Check lines that cannot be read are as good as none; they decide nothing.
         lines: CheckLines::read(folder, most).unwrap_or(None),
         changed: RefCell::default(),
-        shape: Shape::read(folder).map(|(shape, ..)| shape),
+        shape: Shape::read(folder).map(|read| read.shape),
         roots: items(&folder.join(ROOTS), &roots)?,
         claim: one(&folder.join(CLAIM), &claim)?,
         challenges: challenges.and_then(|text| items(&folder.join(CHALLENGES), &text)),

@@ -3,7 +3,7 @@
 
 use crate::folder::{not_ours, Kind, Named};
 use crate::outcome::Failure;
-use crate::reading::{listed, reason};
+use crate::reading::{lies_in, listed, reason};
 use crate::system::try_lock;
 use std::ffi::{OsStr, OsString};
 use std::fs::{self, File, OpenOptions};
@@ -214,6 +214,48 @@ impl Target {
             ),
         }
     }
+}
+
+/// Fails where a file of its own cannot be made at a path: something stands there, or it is in a folder that others prepared.
+pub fn may_be_made(path: &Path, prepared: &Path) -> Result<(), Failure> {
+    let shown = path.display();
+    if fs::symlink_metadata(path).is_ok() {
+        return Err(Failure(format!(
+            "{shown} exists; it is left alone, name another file"
+        )));
+    }
+    let folder = match path.parent() {
+        Some(parent) if parent != Path::new("") => parent,
+        _ => Path::new("."),
+    };
+    if lies_in(folder, prepared) {
+        return Err(Failure(format!(
+            "{shown} would lie in the opening; name a file elsewhere"
+        )));
+    }
+    if !folder.is_dir() {
+        return Err(Failure(format!(
+            "cannot write {shown}: there is no folder {}",
+            folder.display()
+        )));
+    }
+    Ok(())
+}
+
+/// Makes a file, whole or not at all, and replaces none.
+pub fn make(path: &Path, bytes: &[u8]) -> Result<(), Failure> {
+    let failed = |e: io::Error| Failure(format!("cannot write {}: {}", path.display(), reason(&e)));
+    let mut file = OpenOptions::new()
+        .write(true)
+        .create_new(true)
+        .open(path)
+        .map_err(failed)?;
+    file.write_all(bytes)
+        .and_then(|()| file.sync_all())
+        .map_err(|e| {
+            let _ = fs::remove_file(path);
+            failed(e)
+        })
 }
 
 /// Device, number and last change of what stands at a path, a link not followed.

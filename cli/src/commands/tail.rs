@@ -3,17 +3,20 @@
 use crate::json::Json;
 use crate::options::Options;
 use crate::outcome::{texts, Failure, Outcome, Verdict};
-use crate::seal::{Seal, SEAL_FOLDER};
+use crate::part::asked_seal;
 use crate::shown::{changed_note, Shown};
 use crate::statement::{checker_s_own, claim, roots, statement};
 use dequmlo::Word;
 
-const TAKEN: [&str; 4] = ["--seal", "--roots", "--claim", "--json"];
+pub const TAKEN: [&str; 6] = ["--seal", "--file", "--part", "--roots", "--claim", "--json"];
 
 pub fn run(options: &Options) -> Result<Outcome, Failure> {
     options.expect(1, "one OPENING", &TAKEN)?;
     checker_s_own(options, &options.operands[0])?;
-    let seal = Seal::read(&options.needed_path("--seal", SEAL_FOLDER)?)?;
+    let seal = match asked_seal(options, Some(&options.operands[0]))? {
+        Ok(seal) => seal,
+        Err(refused) => return Ok(refused.outcome()),
+    };
     let shown = match Shown::read(&options.operands[0], &seal, seal.shape.queries())? {
         Ok(shown) => shown,
         Err(sentence) => return Ok(Outcome::declined(sentence)),
