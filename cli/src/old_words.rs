@@ -1,12 +1,11 @@
 //! The words of a sealed file that an opening shows: level 0's groups of its records, as far as they lead to the seal's root. No challenge is
 //! needed for that.
 
-use crate::opened::{Opened, GROUP};
 use crate::outcome::Failure;
 use crate::seal::Seal;
 use crate::shown::{Record, Shown};
-use dequmlo::tree::{fold_tree_width, level_domain, root_of_path};
-use dequmlo::Word;
+use dequmlo::tree::{level_domain, root_of_path};
+use dequmlo::{QueryRecord, Word};
 use std::collections::BTreeMap;
 use std::path::Path;
 
@@ -22,7 +21,7 @@ pub fn shown_words(
     let mut words = BTreeMap::new();
     for position in shown.positions() {
         if let Record::Found(record) = shown.record(position)? {
-            words.extend(group(seal, position, record.bytes()).unwrap_or_default());
+            words.extend(group(seal, position, &record).unwrap_or_default());
         }
     }
     // Block 0 of the codeword is the table.
@@ -31,19 +30,18 @@ pub fn shown_words(
 }
 
 /// The group of a position with its places; none where it does not lead to the seal's root.
-fn group(seal: &Seal, position: usize, record: &[u8]) -> Option<Vec<(usize, Word)>> {
-    let count = seal.sizes.codeword_words;
-    let (width, next) = (fold_tree_width(count), fold_tree_width(count / 2));
-    let depth = (count / width).trailing_zeros() as usize;
-    let (first, words) = Opened::of(&seal.shape, position, record)?.words();
-    // Behind the group stand the c group and the path's count.
-    let path = GROUP + 16 * width + 4 + 16 * next + 4;
-    let path: Vec<[u8; 32]> = record
-        .get(path..path + 32 * depth)?
-        .chunks_exact(32)
-        .map(|digest| digest.try_into().expect("chunks of 32"))
-        .collect();
-    let domain = level_domain(&seal.shape.domain, 0);
-    let root = root_of_path(&domain, count, width, position, &words, &path).ok()?;
-    (root == seal.root).then(|| (first..).zip(words).collect())
+fn group(seal: &Seal, position: usize, record: &QueryRecord) -> Option<Vec<(usize, Word)>> {
+    let shown = record.levels()?.into_iter().next()?;
+    let (count, width) = (seal.sizes.codeword_words, shown.a_group.len());
+    let domain = level_domain(&seal.shape.domain, 0).ok()?;
+    let root = root_of_path(
+        &domain,
+        count,
+        width,
+        position,
+        &shown.a_group,
+        &shown.a_path,
+    );
+    // By another width than the level's, which the record may state, no path leads to the root; by 0 to none.
+    (root.ok()? == seal.root).then(|| (position / width * width..).zip(shown.a_group).collect())
 }

@@ -2,13 +2,8 @@
 //! offsets (SPECIFICATION 15.1). Offsets are counted from 0.
 
 use crate::reading::shown_name;
-use crate::shape::Shape;
-use dequmlo::tree::fold_tree_width;
-use dequmlo::Word;
+use dequmlo::QueryRecord;
 use std::ffi::OsStr;
-
-/// Where the group of a and b on level 0 begins in a record: behind the level count, the words a, b, c and the group's own count.
-pub const GROUP: usize = 4 + 3 * 16 + 4;
 
 /// How many zeros at the end of a text are shown one by one.
 const FEW_ZEROS: usize = 3;
@@ -26,18 +21,20 @@ pub struct Opened {
 }
 
 impl Opened {
-    /// What a record at a position opens; none where it is too short for that.
-    pub fn of(shape: &Shape, position: usize, record: &[u8]) -> Option<Opened> {
-        let width = fold_tree_width(shape.positions());
-        let group = record.get(GROUP..GROUP + 16 * width)?;
+    /// What a record at a position opens of a table of 2^n words; none where it does not read whole.
+    pub fn of(n: usize, position: usize, record: &QueryRecord) -> Option<Opened> {
+        let group = record.levels()?.into_iter().next()?.a_group;
+        let words = group.iter().map(|word| word.0.to_le_bytes()).collect();
+        Opened::of_group(n, position, words)
+    }
+
+    /// A pair stands in one group, so that the group of a position is that of its pair. None where the group has no word.
+    fn of_group(n: usize, position: usize, words: Vec<[u8; 16]>) -> Option<Opened> {
+        let place = position - position.checked_rem(words.len())?;
         Some(Opened {
-            n: shape.n,
-            // A pair stands in one group, so that the group of a position is that of its pair.
-            place: position / width * width,
-            words: group
-                .chunks(16)
-                .map(|word| word.try_into().expect("16 bytes"))
-                .collect(),
+            n,
+            place,
+            words,
             part: None,
         })
     }
@@ -48,12 +45,6 @@ impl Opened {
             part: Some(start),
             ..self
         }
-    }
-
-    /// The place of the first word, and the words.
-    pub fn words(self) -> (usize, Vec<Word>) {
-        let word = |bytes| Word(u128::from_le_bytes(bytes));
-        (self.place, self.words.into_iter().map(word).collect())
     }
 
     /// The words of the table among them: those of block 0.
@@ -158,17 +149,10 @@ pub fn as_digits(offset: usize, bytes: &[u8]) -> Vec<String> {
 #[cfg(test)]
 mod tests {
     use super::{as_digits, as_text, Opened};
-    use crate::shape::Shape;
 
-    /// What a record at a position opens whose group's words are a file of so many bytes and zeros, the length after them.
-    fn opened(n: usize, k: usize, position: usize, words: &[[u8; 16]]) -> Opened {
-        let record = [&[0; 56][..], &words.concat()].concat();
-        let shape = Shape {
-            n,
-            k,
-            domain: Vec::new(),
-        };
-        Opened::of(&shape, position, &record).unwrap()
+    /// What a record at a position opens whose group has these words.
+    fn opened(n: usize, position: usize, words: &[[u8; 16]]) -> Opened {
+        Opened::of_group(n, position, words.to_vec()).unwrap()
     }
 
     fn number(number: u8) -> [u8; 16] {
@@ -177,7 +161,7 @@ mod tests {
 
     #[test]
     fn the_group_of_a_position_and_its_bytes() {
-        let group = opened(6, 1, 21, &[[b'x'; 16]; 8]);
+        let group = opened(6, 21, &[[b'x'; 16]; 8]);
         assert_eq!(group.bytes(None), (16 * 16, vec![b'x'; 128]));
         assert_eq!(group.sentence(None), "bytes 256 to 383 of the file");
         assert_eq!(group.bytes(Some(300)), (256, vec![b'x'; 44]));
@@ -191,7 +175,7 @@ mod tests {
     #[test]
     fn the_second_half_may_be_behind_the_end() {
         let words = [[0; 16]; 8];
-        let said = |position| opened(6, 1, position, &words).sentence(None);
+        let said = |position| opened(6, position, &words).sentence(None);
         assert_eq!(said(23), "bytes 256 to 383 of the file");
         assert_eq!(
             said(31),
@@ -203,16 +187,16 @@ mod tests {
     fn the_last_word_is_the_length() {
         let mut words = [[7; 16]; 8];
         words[7] = number(200);
-        let group = opened(4, 0, 15, &words);
+        let group = opened(4, 15, &words);
         assert_eq!(group.length(), Some(200));
         assert_eq!(group.bytes(group.length()), (128, vec![7; 72]));
         assert_eq!(
             group.sentence(Some(200)),
             "bytes 128 to 199 of the file, and its length, 200 bytes"
         );
-        let group = opened(1, 1, 0, &[number(0), number(0)]);
+        let group = opened(1, 0, &[number(0), number(0)]);
         assert_eq!(group.sentence(group.length()), "its length, 0 bytes");
-        assert_eq!(opened(4, 0, 7, &words).length(), None);
+        assert_eq!(opened(4, 7, &words).length(), None);
     }
 
     /// A length that no file has, as another program may seal it.
@@ -220,13 +204,13 @@ mod tests {
     fn a_length_beyond_the_table() {
         let mut words = [[7; 16]; 8];
         words[7] = [255; 16];
-        let group = opened(4, 0, 15, &words);
+        let group = opened(4, 15, &words);
         assert_eq!(group.bytes(group.length()), (128, vec![7; 112]));
     }
 
     #[test]
     fn words_of_the_code_are_no_bytes_of_the_file() {
-        let group = opened(6, 1, 64, &[[7; 16]; 8]);
+        let group = opened(6, 64, &[[7; 16]; 8]);
         assert_eq!(group.bytes(None).1, b"");
         assert_eq!(group.length(), None);
         assert!(group
@@ -235,7 +219,7 @@ mod tests {
         // A small table: its two words, and six of the code.
         let mut words = [[7; 16]; 8];
         words[1] = number(5);
-        let group = opened(1, 4, 3, &words);
+        let group = opened(1, 3, &words);
         assert_eq!(group.bytes(group.length()), (0, vec![7; 5]));
         assert_eq!(
             group.sentence(group.length()),
@@ -244,13 +228,12 @@ mod tests {
     }
 
     #[test]
-    fn a_record_that_is_too_short_opens_nothing() {
-        let shape = Shape {
-            n: 6,
-            k: 1,
-            domain: Vec::new(),
-        };
-        assert!(Opened::of(&shape, 7, &[0; 56 + 127]).is_none());
+    fn a_record_that_shows_no_word_opens_nothing() {
+        let opened = |bytes: &[u8]| Opened::of(6, 7, &bytes.to_vec().into());
+        let one_level = [&[1, 0, 0, 0][..], &[0; 48 + 16]].concat();
+        for bytes in [&one_level[..], &one_level[1..], &[0; 4], &[]] {
+            assert!(opened(bytes).is_none(), "{bytes:?}");
+        }
     }
 
     #[test]

@@ -16,7 +16,7 @@ use crate::shape::Shape;
 use crate::shown::{changed_note, some_of, Record, Shown};
 use crate::statement::{checker_s_own, claim, misfits, roots, statement, Roots};
 use crate::writing::{make, may_be_made};
-use dequmlo::{Root, Statement, Word};
+use dequmlo::{QueryRecord, Root, Statement, Word};
 use std::path::PathBuf;
 
 pub const TAKEN: [&str; 15] = [
@@ -299,8 +299,8 @@ impl Asked {
 }
 
 /// What an accepted record opens, at its offset in the file.
-fn opened(seal: &Seal, position: usize, record: &[u8]) -> Option<Opened> {
-    let opened = Opened::of(&seal.shape, position, record)?;
+fn opened(seal: &Seal, position: usize, record: &QueryRecord) -> Option<Opened> {
+    let opened = Opened::of(seal.shape.n, position, record)?;
     match &seal.part {
         None => Some(opened),
         Some(part) => Some(part.placed(opened)),
@@ -319,7 +319,7 @@ fn checked(
     for position in positions {
         let answer = match shown.record(*position)? {
             Record::Found(record) => match statement.check_query(*position, &record) {
-                Ok(()) => Answer::Accepted(opened(seal, *position, record.bytes())),
+                Ok(()) => Answer::Accepted(opened(seal, *position, &record)),
                 Err(refusal) => Answer::Refused(refusal),
             },
             Record::Missing => Answer::Declined(

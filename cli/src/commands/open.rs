@@ -177,10 +177,8 @@ fn opened(seal: &Seal, table: &[Word], asked: &Asked) -> Result<Option<Opening>,
     if deposit.root() != seal.root {
         return Ok(None);
     }
-    let n = seal.shape.n;
-    let folded = deposit.fold_with(&asked.challenges, |level| {
-        progress.say(&format!("level {level} of {n} .."))
-    })?;
+    progress.say(&format!("folding {} levels ..", seal.shape.n));
+    let folded = deposit.fold(&asked.challenges)?;
     let queries = asked
         .positions
         .iter()

@@ -41,7 +41,7 @@ pub fn run(options: &Options) -> Result<Outcome, Failure> {
             let bytes = inside(folder, &record_name(p), parameters.sizes.query_bytes);
             let opened = bytes
                 .ok()
-                .and_then(|bytes| Opened::of(&parameters.shape, p, &bytes));
+                .and_then(|bytes| Opened::of(parameters.shape.n, p, &bytes.into()));
             (p, opened)
         })
         .collect();
