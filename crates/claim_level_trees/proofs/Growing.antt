@@ -22,7 +22,7 @@ use Rattle.theory_record.proofs.Widths.{present-powers, level-shape, groups-pos
 use Rattle.theory_record.proofs.Totals.{length-endToEnd, total-ext, total-times}
 use Rattle.theory_record.proofs.Offsets.{level-within, tree-within, values-of-part}
 use Rattle.theory_record.proofs.Accepted.{length-treeFor, treeFor-long}
-use Rattle.claim_fold_calls.proofs.Laying.{next-start}
+use Rattle.code_levels.proofs.Laying.{next-start}
 use Rattle.claim_level_trees.specs.helpers.Grown.{Grown}
 use Rattle.theory_record.specs.Scheme.{scheme}
 use Rattle.claim_level_trees.specs.helpers.Room.{treeMade}

@@ -1,7 +1,7 @@
 -- `claim_level_trees::put_tree` meets its contract.
 use Prim.Native.Nat.{ℕ, _*_}
 use mathlib.Core.Path.{_∙_, ap}
-use Rattle.claim_fold_calls.proofs.Slices.{length-of-part}
+use Rattle.code_levels.proofs.Slices.{length-of-part}
 use Rattle.claim_level_trees.proofs.Growing.{level-room, tree-room, length-of-middle, tree-put}
 use borrow.Author.Needs.{needs}
 use Rattle.claim_level_trees.proofs.put_tree.Statement.{statement}
