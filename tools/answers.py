@@ -547,27 +547,68 @@ def tails(data, out):
     return [0, n, k], [packed(last_level(n, k, table, gammas, challenges)).ljust(256, b"\0")]
 
 
-class Run(Deposit):
-    """The table 5, 9, 3, 7 committed with k 1 under the domain `deposit`, and a list of fold calls."""
+def fold_number(n, k, var, codeword, room):
+    """The number of a fold of so many words into a room of so many halves."""
+    if n > 20 or k > 4:
+        return 4
+    if codeword != 1 << (n + k) or room != 2 * ((1 << (n + k)) // 2):
+        return 5
+    return 0 if var < n else 6
 
-    def __init__(self, calls):
-        self.n, self.k, self.base, self.challenges = 2, 1, b"deposit", []
-        self.levels = [encode(2, 1, [5, 9, 3, 7], derive(self.base, 2, 1))]
-        for var, r in calls:
-            if var < 2 - len(self.challenges):
+
+class Run(Deposit):
+    """A table committed, and a list of fold calls until n are done; the levels behind stay zeros."""
+
+    def __init__(self, n, k, base, table, calls):
+        self.n, self.k, self.base, self.challenges = n, k, base, []
+        self.levels = [encode(n, k, table, derive(base, n, k))]
+        for call_n, call_k, var, room, r in calls:
+            if len(self.challenges) < n and fold_number(call_n, call_k, var, len(self.levels[-1]), room) == 0:
                 self.levels.append(fold_at(self.levels[-1], var, r))
                 self.challenges.append(r)
-        self.trees = [tree(level_domain(self.base, l), fold_tree_width(len(v)), v) for l, v in enumerate(self.levels)]
+        self.levels += [[0] * (1 << (n + k - l)) for l in range(len(self.levels), n + 1)]
+        self.trees = [tree(level_domain(base, l), fold_tree_width(len(v)), v) for l, v in enumerate(self.levels)]
         self.roots = [digests[-1] for digests in self.trees]
 
 
+def run_questions(n, k, position, base, table, calls, challenges, lengths, kept):
+    """`lengths` are of the gammas, levels, half, trees, roots, query and tail record and the two messages."""
+    yield 4, 0, 1 <= n <= 20 and k <= 4
+    yield 5, 0, len(table) == 16 << n
+    yield 5, 0, len(calls) % 4 == 0 and len(challenges) == 4 * len(calls)
+    shapes = [records.shape(n, k, l) for l in range(n + 1)]
+    opened = [8 + 16 * width + 32 * depth for count, width, depth in shapes]
+    groups = [count // width for count, width, depth in shapes]
+    yield 5, 0, kept == 2 * n
+    yield 5, 0, lengths == [
+        2 * k * n,
+        sum(2 * count for count, width, depth in shapes),
+        1 << (n + k),
+        sum(32 * (2 * g - 1) for g in groups),
+        32 * (n + 1),
+        4 + sum(48 + a + c for a, c in zip(opened, opened[1:])),
+        4 + groups[n] * opened[n],
+        512,
+        512,
+    ]
+    yield 7, 0, len(base) <= 200
+    yield 11, 0, position < 1 << (n + k)
+
+
 @operation
-def run(variables, challenges, position, claim, out):
-    made = Run(zip(variables, ints(challenges)))
-    kept, roots = packed(made.challenges), b"".join(made.roots)
-    number, level = first_no(records.check_query(made.base, 2, 1, position, kept, roots, query_bytes(query(made, position))))
-    tail, _ = first_no(records.check_tail(made.base, 2, 1, claim, made.roots[2], tail_bytes(made.tail())))
-    return [len(made.challenges), number, level, tail], [roots]
+def run(n, k, position, base, table, calls, challenges, claim, first, second, lengths, kept, out, counts):
+    refusal, _ = first_no(run_questions(n, k, position, base, table, calls, challenges, lengths, kept))
+    if refusal:
+        return [refusal, 0, 0, 0], [None, None, bytes(32)]
+    made = Run(n, k, base, ints(table), zip(*(calls[i::4] for i in range(4)), ints(challenges)))
+    held, roots = packed(made.challenges).ljust(16 * n, FILL), b"".join(made.roots)
+    record, tail = query_bytes(query(made, position)), tail_bytes(made.tail())
+    number, level = first_no(records.check_query(base, n, k, position, held, roots, record))
+    number_of_tail, _ = first_no(records.check_tail(base, n, k, claim, made.roots[n], tail))
+    (compared, one, two), _ = compare(base, n, k, position, held, roots, first, second, 512, 512)
+    left = b"".join(part.ljust(size, FILL) for part, size in [(roots, 128), (record, 400), (tail, 64), (b"", 520), (b"", 520)])
+    done = b"".join(x.to_bytes(8, "little") for x in (len(made.challenges), level, one, two))
+    return [0, number, number_of_tail, compared], [held, left, done]
 
 
 @operation

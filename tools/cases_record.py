@@ -382,18 +382,86 @@ def tail_lines(store):
         yield line
 
 
-def run_lines():
+# what a run is lent for writing beside the kept challenges
+LENT = ["gammas", "levels", "half", "trees", "roots", "query record", "tail record", "first message", "second message"]
+
+
+@dataclasses.dataclass
+class WholeRun:
+    """The table 5, 9, 3, 7 committed with k 1 under the domain `deposit`, calls of n, k, variable, room and challenge, and two records to compare."""
+
+    calls: list
+    position: int = 5
+    claim: int = 0
+    first: bytes = b""
+    second: bytes = b""
+    n: int = 2
+    k: int = 1
+    base: str = b"deposit".hex()
+    table: str = "5,9,3,7"
+    numbers: typing.Optional[list] = None
+    challenges: typing.Optional[list] = None
+    lengths: tuple = (4, 28, 8, 352, 96, 388, 44, 512, 512)
+    kept: int = 4
+
+    def line(self, store):
+        numbers = [x for call in self.calls for x in call[:4]] if self.numbers is None else self.numbers
+        challenges = [call[4] for call in self.calls] if self.challenges is None else self.challenges
+        sizes = ",".join(map(str, self.lengths))
+        lent = self.n, self.k, self.position, self.base, self.table, ",".join(map(str, numbers)) or "-", hex_words(challenges) or "-", "%x" % self.claim
+        return "run %s %s %s %s %d 1632 32" % (" ".join(map(str, lent)), store.named(self.first), store.named(self.second), sizes, self.kept)
+
+
+def run_cases():
     from model import extension
 
-    table = [5, 9, 3, 7]
-    for remark, variables, challenges, position, claim in [
-        ("folds at variable 0", "0,0", [2, 4], 5, extension(table, [2, 4])),
-        ("refused calls among them", "2,0,1,0,0", [1, 2, 3, 4, 5], 0, extension(table, [2, 4])),
-        ("another claim", "0,0", [2, 4], 7, extension(table, [2, 4]) ^ 1),
-        ("a fold at variable 1", "1,0", [2, 4], 3, extension(table, [4, 2])),
-    ]:
+    table, folds = [5, 9, 3, 7], [(2, 1, 0, 8, 2), (1, 1, 0, 4, 4)]
+    made = answers.Run(2, 1, b"deposit", table, folds)
+    records_at = [query_bytes(query(made, position)) for position in range(8)]
+    claim = extension(table, [2, 4])
+    right = WholeRun(folds, 5, claim, records_at[5], records_at[5])
+    replace = dataclasses.replace
+    yield "folds at variable 0; equal records", right
+    refused = [(21, 1, 0, 8, 1), (2, 5, 0, 8, 1), (3, 1, 0, 16, 1), (2, 1, 0, 6, 1), (2, 1, 0, 1 << 40, 1), (2, 1, 2, 8, 1)]
+    for call in refused:
+        number = answers.fold_number(*call[:3], 8, call[3])
+        yield "a call refused with %d before them" % number, replace(right, calls=[call, *folds])
+    yield "refused calls among them", replace(right, calls=[refused[5], folds[0], refused[0], folds[0], folds[1], refused[3]], position=0, first=b"", second=b"")
+    yield "a call that would be done after n are", replace(right, calls=[*folds, (1, 0, 0, 2, 9)])
+    yield "a call with another n and k", replace(right, calls=[(1, 2, 0, 8, 2), folds[1]])
+    yield "one call", replace(right, calls=folds[:1])
+    yield "no call", replace(right, calls=[])
+    yield "another claim", replace(right, claim=claim ^ 1, position=7, first=records_at[7], second=records_at[7])
+    yield "a fold at variable 1", replace(right, calls=[(2, 1, 1, 8, 2), folds[1]], position=3, claim=extension(table, [4, 2]))
+    damaged = records_at[5][:20] + bytes([records_at[5][20] ^ 1]) + records_at[5][21:]
+    yield "a damaged record first", replace(right, first=damaged)
+    yield "a damaged record second", replace(right, second=damaged)
+    yield "a record for another position", replace(right, second=records_at[2])
+    wrong = [
+        ("n 0", 4, dict(n=0)),
+        ("n 21", 4, dict(n=21)),
+        ("k 5", 4, dict(k=5)),
+        ("a table of three words", 5, dict(table="5,9,3")),
+        ("three numbers of a call", 5, dict(numbers=[2, 1, 0])),
+        ("a challenge too few", 5, dict(challenges=[2])),
+        *((what, 5, dict(lengths=(*right.lengths[:i], right.lengths[i] - 1, *right.lengths[i + 1 :]))) for i, what in enumerate(LENT)),
+        ("kept challenges", 5, dict(kept=3)),
+        ("a base domain of 201 bytes", 7, dict(base="61x201")),
+        ("a position past the end", 11, dict(position=8)),
+    ]
+    for remark, number, changes in wrong:
+        yield "%d: %s" % (number, remark), replace(right, **changes)
+    for (_, number, one), (_, later, two) in itertools.combinations([wrong[1], wrong[3], wrong[-2], wrong[-1]], 2):
+        yield "%d before %d" % (number, later), replace(right, **one, **two)
+
+
+def run_lines():
+    store = Store()
+    for remark, case in run_cases():
+        line = case.line(store)
+        yield from kept(store)
         yield "# " + remark
-        yield "run %s %s %d %x 96" % (variables, hex_words(challenges), position, claim)
+        yield line
 
 
 def level_lines():

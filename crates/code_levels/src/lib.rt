@@ -30,7 +30,8 @@ pub fn fold_level(
 ) -> u32
     requires { ⌜ LevelLent n k l from (length (now levels)) (length (now half)) × (room ≤ length (now half)) ⌝ }
     ensures { λ q. ⌜ q ≡ foldNumber cn ck var (2 * levelLength n k l) room ⌝ }
-    ensures { λ q. ⌜ words (take room (now (half .exit))) ≡ onDone q (levelFolded n k l var (word r) (now (levels .entry))) (words (take room (now (half .entry)))) ⌝ }
+    ensures { λ q. ⌜ words (take room (now (half .exit)))
+        ≡ onDone q (levelFolded n k l var (word r) (now (levels .entry))) (words (take room (now (half .entry)))) ⌝ }
     ensures { λ _. ⌜ drop room (now (half .exit)) ≡ drop room (now (half .entry)) ⌝ }
 {
     let to = from + 2 * level_length(n, k, l);

@@ -61,12 +61,24 @@ fn on_pairs(r: Request, bytes: &[u8], words: &[u64], y: &mut [u8], z: &mut [u8])
     pair::answer(r.operation % 8, n, a, s, t, u, v, y, z)
 }
 
-fn on_whole(r: Request, words: &[u64], y: &mut [u8]) -> Answer {
+fn on_whole(
+    r: Request,
+    bytes: &[u8],
+    words: &[u64],
+    w: &mut [u64],
+    y: &mut [u8],
+    z: &mut [u8],
+) -> Answer {
     let n = r.numbers;
+    let s = part(bytes, 0, bytes_at(r, 1));
+    let t = part(bytes, bytes_at(r, 1), bytes_at(r, 2));
+    let u = part(bytes, bytes_at(r, 2), bytes_at(r, 3));
     let a = halves(words, 0, words_at(r, 1));
     let b = halves(words, words_at(r, 1), words_at(r, 2));
     let c = halves(words, words_at(r, 2), words_at(r, 3));
-    whole::answer(n[0], a, b, c, y)
+    let d = halves(words, words_at(r, 3), words_at(r, 4));
+    let e = halves(words, words_at(r, 4), words_at(r, 5));
+    whole::answer(n, s, t, u, a, b, c, d, e, w, y, z)
 }
 
 // What a request is answered, by its row of the table; the outputs hold what they hold before they are lent.
@@ -87,7 +99,7 @@ fn answer(
         0 => on_levels(r, bytes, words, w, x, y),
         1 => on_records(r, bytes, words, y),
         2 => on_pairs(r, bytes, words, y, z),
-        3 => on_whole(r, words, y),
+        3 => on_whole(r, bytes, words, w, y, z),
         _ => no_room(),
     }
 }
@@ -185,7 +197,7 @@ none n
 none n
 none n
 none n
-run lwnwB
+run nnnbwlwwbblWBB
 none n
 none n
 none n
