@@ -29,7 +29,8 @@ no-claim e = absurd (never e)
 -- ---- items of 32 bytes
 
 module _ (s : List ℕ) (i j t : ℕ) (h : part (32 * t) i s ≡ part (32 * t) j s) where
-  pub items-step : (d e : List ℕ) (b : Bool) → d ≡ part 32 (i + 32 * t) s → e ≡ part 32 (j + 32 * t) s → b ≡ same d e → not b ≡ false → part (32 * (t + 1)) i s ≡ part (32 * (t + 1)) j s
+  pub items-step : (d e : List ℕ) (b : Bool) → d ≡ part 32 (i + 32 * t) s → e ≡ part 32 (j + 32 * t) s → b ≡ same d e → not b ≡ false
+      → part (32 * (t + 1)) i s ≡ part (32 * (t + 1)) j s
   items-step d e b ed ee eb f =
       let z : 32 * (t + 1) ≡ 32 * t + 32 = omega arith in
       let q : d ≡ e = same-true d e (sym eb ∙ not-false b f) in

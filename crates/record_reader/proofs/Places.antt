@@ -7,7 +7,8 @@ use borrow.Author.Tests.{not-true, not-false}
 use lib.ListN.{length, drop}
 use lib.Seq.{drop-drop}
 use Rattle.theory_laws.specs.Questions.{both}
-use Rattle.theory_record.specs.Format.{Form, levelForm, tailForm, runSize, afterRun, fromAGroup, fromCGroup, fromAPath, fromCPath, afterLevel, levelFits, fromTailPath, afterTailGroup, tailGroupFits, wholeItems}
+use Rattle.theory_record.specs.Format.{Form, levelForm, tailForm, runSize, afterRun, fromAGroup, fromCGroup}
+use Rattle.theory_record.specs.Format.{fromAPath, fromCPath, afterLevel, levelFits, fromTailPath, afterTailGroup, tailGroupFits, wholeItems}
 use Rattle.theory_record.proofs.Reading.{whole-step, whole-stop}
 use Rattle.record_reader.specs.helpers.Places.{placeOf, levelAt, groupAt}
 use Rattle.record_reader.specs.declared.Level.{Level}
@@ -66,7 +67,8 @@ group-places s i v e =
 -- ---- whole
 
 module _ {A : Type 0} (form : Form A) (s : List ℕ) (i c l : ℕ) (r fits : Bool) (next : ℕ) (f : fits ≡ form .fits (drop i s)) where
-  more : form .after (drop i s) ≡ drop next s → not fits ≡ false → l < c → wholeItems form (c - l) (drop i s) ≡ r → wholeItems form (c - (l + 1)) (drop next s) ≡ r
+  more : form .after (drop i s) ≡ drop next s → not fits ≡ false → l < c → wholeItems form (c - l) (drop i s) ≡ r
+      → wholeItems form (c - (l + 1)) (drop next s) ≡ r
   more g n h e = whole-step form s i c l r next h (sym f ∙ not-false fits n) g e
 
   less : not fits ≡ true → l < c → wholeItems form (c - l) (drop i s) ≡ r → false ≡ r

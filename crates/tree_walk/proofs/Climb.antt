@@ -14,7 +14,8 @@ use Rattle.theory_merkle.specs.Tree.{groupOf, left, right, leafDigest, nodeDige
 unfoldable pub climbFrom : List ℕ → List ℕ → ℕ → ℕ → ℕ → ℕ → List ℕ → List ℕ
 climbFrom domain s from depth l g d = climb hash domain l g d (runs 32 (depth - l) (drop (from + 32 * l) s))
 
-pub climb-begin : (domain s : List ℕ) (from depth g : ℕ) (d : List ℕ) → climbFrom domain s from depth 0 g d ≡ climb hash domain 0 g d (runs 32 depth (drop from s))
+pub climb-begin : (domain s : List ℕ) (from depth g : ℕ) (d : List ℕ)
+    → climbFrom domain s from depth 0 g d ≡ climb hash domain 0 g d (runs 32 depth (drop from s))
 unfolding climbFrom
 climb-begin domain s from depth g d =
     ap₂ (λ (c i : ℕ). climb hash domain 0 g d (runs 32 c (drop i s))) {x = depth - 0} {y = depth} {u = from + 32 * 0} {v = from} (omega arith) (omega arith)

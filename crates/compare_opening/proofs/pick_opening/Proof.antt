@@ -32,7 +32,8 @@ slice-aggregate-pick-last-2 : tie.Need-slice-aggregate-pick-last-2
 slice-aggregate-pick-last-2 c = search needs
 
 -- the sizes of the chains, as code adds them up, are small
-small : (c : tie.After-level-depth) → 97 + c .before .before .before .before .before .before .level-chain .result + 16 * c .before .level-width .result ≤ chainBuffer
+small : (c : tie.After-level-depth)
+    → 97 + c .before .before .before .before .before .before .level-chain .result + 16 * c .before .level-width .result ≤ chainBuffer
 small c =
     let start : tie.Start = search in
     let first : tie.After-level-chain = search in

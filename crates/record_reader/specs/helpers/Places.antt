@@ -4,7 +4,8 @@ use mathlib.Core.List.{List}
 use lib.Dec.{leb}
 use lib.ListN.{length, drop}
 use Rattle.theory_laws.specs.Questions.{pick}
-use Rattle.theory_record.specs.Format.{runCount, runFits, afterRun, fromAGroup, fromCGroup, fromAPath, fromCPath, afterLevel, levelFits, fromTailPath, afterTailGroup, tailGroupFits}
+use Rattle.theory_record.specs.Format.{runCount, runFits, afterRun, fromAGroup, fromCGroup, fromAPath}
+use Rattle.theory_record.specs.Format.{fromCPath, afterLevel, levelFits, fromTailPath, afterTailGroup, tailGroupFits}
 use Rattle.record_reader.specs.declared.Run.{Run}
 use Rattle.record_reader.specs.declared.Level.{Level}
 use Rattle.record_reader.specs.declared.TailGroup.{TailGroup}
