@@ -78,7 +78,8 @@ module _ (n k : ℕ) (challenges old : List ℕ) where
     each-is j g =
         ⊎-elim
         (λ (e : j ≡ suc l). rw e next-is)
-        (λ (b : j < suc l). ap (λ (ws : List ℕ). levelValues n k ws j) new ∙ laid-before n k l _ (words levels) h words-long j (omega arith) ∙ f .each j (omega arith))
+        (λ (b : j < suc l).
+        ap (λ (ws : List ℕ). levelValues n k ws j) new ∙ laid-before n k l _ (words levels) h words-long j (omega arith) ∙ f .each j (omega arith))
         (eq-or-lt-of-le {n = j} {m = suc l} g)
 
     pub folded-more : Folded n k challenges old (l + 1) to levels′
@@ -86,7 +87,8 @@ module _ (n k : ℕ) (challenges old : List ℕ) where
 
   -- ---- all of them
 
-  pub folded-all : {l from : ℕ} {levels : List ℕ} → Folded n k challenges old l from levels → n ≤ l → words levels ≡ levelsLent n (foldedLevel n k challenges old)
+  pub folded-all : {l from : ℕ} {levels : List ℕ} → Folded n k challenges old l from levels → n ≤ l
+      → words levels ≡ levelsLent n (foldedLevel n k challenges old)
   folded-all {levels = levels} f h =
       levels-laid n k (words levels) (foldedLevel n k challenges old) (length-words-even levels (levelsLength n k) (f .long)) (λ j g. f .each j (omega arith))
 

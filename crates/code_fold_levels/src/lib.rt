@@ -110,7 +110,7 @@ fn fold_all(n: usize, k: usize, challenges: &[u64], levels: &mut [u64], half: &m
 
 // All levels of the codeword that stands as level 0 at the front of `levels`, by n challenges, their trees and their roots. `half`, room for
 // half of the codeword, is left with zeros. It refuses n that is not from 1 to 20 or k past 4 with 4, lengths that are not theirs with 5, and
-// a base domain of more than 200 bytes with 7. What it leaves is what the claim builds its records from (theory_claim/proofs/Lent).
+// a base domain of more than 200 bytes with 7. What it leaves is what the claim builds its records from (proofs/Claim).
 pub fn fold_levels(
     n: usize,
     k: usize,

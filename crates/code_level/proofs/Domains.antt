@@ -47,8 +47,10 @@ module _ (base : List ℕ) (l : ℕ) where
   pub not-so-long : (out digits : ℕ) → digits ≡ length (decimal l) → out < 7 + digits → false ≡ eqb out (length (levelDomain base l))
   not-so-long out digits e h = sym (ne-eqb _ _ (λ (z : out ≡ length (levelDomain base l)). omega (arith, domain-long)))
 
-  pub so-long : (out digits : ℕ) → digits ≡ length (decimal l) → 7 + digits ≤ out → eqb (out - (7 + digits)) (length base) ≡ eqb out (length (levelDomain base l))
-  so-long out digits e h = eqb-iff (out - (7 + digits)) (length base) out (length (levelDomain base l)) (λ z. omega (arith, domain-long)) (λ z. omega (arith, domain-long))
+  pub so-long : (out digits : ℕ) → digits ≡ length (decimal l) → 7 + digits ≤ out
+      → eqb (out - (7 + digits)) (length base) ≡ eqb out (length (levelDomain base l))
+  so-long out digits e h =
+      eqb-iff (out - (7 + digits)) (length base) out (length (levelDomain base l)) (λ z. omega (arith, domain-long)) (λ z. omega (arith, domain-long))
 
 -- ---- the entries
 
@@ -77,6 +79,6 @@ domain-fits base l out q e z =
     record { level-le = leb-true l 20 (y .0); out-is = eqb-true _ _ (y .1 .0) }
 
 -- put into a buffer of its length, the domain is all of it
-pub domain-fills : (o base : List ℕ) (l : ℕ) (o′ : List ℕ) (r : ℕ) → DomainFits base l (length o) → Put o 0 (length (levelDomain base l)) (levelDomain base l) o′ r
-    → o′ ≡ levelDomain base l
+pub domain-fills : (o base : List ℕ) (l : ℕ) (o′ : List ℕ) (r : ℕ) → DomainFits base l (length o)
+    → Put o 0 (length (levelDomain base l)) (levelDomain base l) o′ r → o′ ≡ levelDomain base l
 domain-fills o base l o′ r f p = p .bytes ∙ stored-all o (levelDomain base l) (sym (f .out-is))

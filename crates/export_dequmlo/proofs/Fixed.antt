@@ -2,7 +2,6 @@
 use Prim.Native.Nat.{ℕ, suc, _+_, _*_, _^_, _≤_}
 use mathlib.Core.Path.{_≡_, sym, _∙_}
 use native.Mathlib.Nat.{mul-le-mul}
-use native.Mathlib.Omega.{arith}
 use Rattle.theory_laws.proofs.Questions.{on-refused}
 use Rattle.code_level.specs.helpers.Numbers.{sizeNumber}
 use Rattle.theory_record.specs.Widths.{present, levelLength, treeLength}

@@ -29,7 +29,9 @@ unfolding foldNumber levelLength
 fold-done n k l n-most k-most h =
     let e : n + k - l ≡ n - l + k = omega arith in
     let half : 2 ^ (n + k - suc l) ≡ 2 ^ (n - l + k) / 2 = sym (half-power (n + k - suc l) (n - l + k) (omega arith)) in
-    yes-all (sized (n - l) k (lent (2 * 2 ^ (n + k - l)) (2 ^ (n - l + k)) ∷ lent (2 * 2 ^ (n + k - suc l)) (2 ^ (n - l + k) / 2) ∷ (6 asks ltb 0 (n - l)) ∷ [])) (
+    let src = lent (2 * 2 ^ (n + k - l)) (2 ^ (n - l + k)) in
+    let out = lent (2 * 2 ^ (n + k - suc l)) (2 ^ (n - l + k) / 2) in
+    yes-all (sized (n - l) k (src ∷ out ∷ (6 asks ltb 0 (n - l)) ∷ [])) (
       le-leb (n - l) 20 (omega arith),
       (
         le-leb k 4 k-most,

@@ -18,7 +18,13 @@ number-requires c κs = search needs
 returns : tie.Need-returns
 returns c =
     let asked : tie.After-number = search in
-    (asked .number .ensures, (no-zero _ _ _ _ _ refl (c .if1 .taken) refl, (no-zero _ _ _ _ _ refl (c .if1 .taken) refl, (no-zero _ _ _ _ _ refl (c .if1 .taken) refl, no-zero _ _ _ _ _ refl (c .if1 .taken) refl))))
+    let h = c .if1 .taken in (
+      asked .number .ensures,
+      (
+        no-zero _ _ _ _ _ refl h refl,
+        (no-zero _ _ _ _ _ refl h refl, (no-zero _ _ _ _ _ refl h refl, no-zero _ _ _ _ _ refl h refl)),
+      ),
+    )
 
 fold-all-requires : tie.Need-fold-all-requires
 fold-all-requires c κs =
