@@ -6,7 +6,7 @@ use crate::manifest::{part_place, Manifest, MANIFEST, PART};
 use crate::opened::Opened;
 use crate::options::Options;
 use crate::outcome::{Failure, Outcome};
-use crate::project::{root_of, shown_path};
+use crate::project::{root_of, written_path};
 use crate::questions::offsets;
 use crate::reading::{inside, unreadable, Unread};
 use crate::seal::{Seal, SEAL_FOLDER};
@@ -45,7 +45,7 @@ impl Part {
 
     /// The file, and which part of it where it has several.
     pub fn name(&self) -> String {
-        let path = shown_path(&self.path);
+        let path = written_path(&self.path);
         let end = self.start + self.bytes as u64;
         match self.count {
             1 => path,
@@ -124,14 +124,14 @@ pub fn asked_seal(
     let folder = options.needed_path("--seal", SEAL_FOLDER)?;
     let seal = Seal::read(&folder)?;
     if options.path("--file").is_none() {
-        let mut folders = [Some(&*folder), opening].into_iter().flatten();
-        return match folders.find(|folder| folder.join(MANIFEST).exists()) {
-            Some(folder) => Err(Failure(format!(
+        // What the holder puts into an opening does not decide what is asked about.
+        if folder.join(MANIFEST).exists() {
+            return Err(Failure(format!(
                 "{} is a project's: --file PATH says which file of the project is asked about",
                 folder.display()
-            ))),
-            None => Ok(Ok(seal)),
-        };
+            )));
+        }
+        return Ok(Ok(seal));
     }
     let found = manifest_in(opening.unwrap_or(&folder), &seal)?;
     let refused = |seal, sentence| Ok(Err(RefusedManifest { seal, sentence }));
@@ -170,7 +170,7 @@ fn part_seal(
     let entry = manifest.find(path).ok_or_else(|| {
         Failure(format!(
             "the project has no file {}; its {MANIFEST} lists {} files",
-            shown_path(path),
+            written_path(path),
             manifest.0.len()
         ))
     })?;

@@ -3,7 +3,7 @@
 use crate::manifest::{escaped, part_count, part_place, Entry, Manifest};
 use crate::outcome::{Failure, Outcome};
 use crate::progress::Progress;
-use crate::reading::{not_a_file, reason, shown_name, stretch, unreadable};
+use crate::reading::{not_a_file, reason, shown_name, shown_path, stretch, unreadable};
 use crate::table::{room_for_many, table_of, variables};
 use dequmlo::{Deposit, Refusal, Root};
 use std::ffi::OsStr;
@@ -60,8 +60,8 @@ pub fn file_path(folder: &Path, below: &[u8]) -> PathBuf {
     folder.join(OsStr::from_bytes(below))
 }
 
-/// A path of a manifest as a person reads it, on one line.
-pub fn shown_path(path: &[u8]) -> String {
+/// A path of a project as its manifest writes it, for a person.
+pub fn written_path(path: &[u8]) -> String {
     shown_name(OsStr::new(&escaped(path)))
 }
 
@@ -75,7 +75,7 @@ pub fn part_of_file(path: &Path, bytes: u64, index: usize) -> Result<Vec<u8>, Fa
     if read.len() != size {
         return Err(Failure(format!(
             "{} was changed while the project was read; run the command again when nobody writes into it",
-            shown_name(path.as_os_str())
+            shown_path(path)
         )));
     }
     Ok(read)

@@ -89,8 +89,8 @@ impl Seal {
         manifest: &Manifest,
     ) -> Vec<Named> {
         let summary = format!(
-            "{}\n\nIt stands for the project {project}: {} files of {} bytes in all, in {} parts.\n{MANIFEST} lists them with the root of each part, and the root \
-             below is that of {MANIFEST}, as a table of {} words (n = {}, k = {}), under the base domain {}.\nRoot: {root}\n\n\
+            "{}\n\nIt stands for the project {project}: {} files of {} bytes in all, in {} parts.\n\
+             {MANIFEST} lists them with the root of each part, and the root below is that of {MANIFEST}, as a table of {} words (n = {}, k = {}), under the base domain {}.\nRoot: {root}\n\n\
              Whoever keeps this root can check that what a holder shows later is what was deposited:\n`seal open` makes what is shown of a file, `seal check` \
              checks it, `seal verify` says what has changed.\n\n{}",
             Kind::Seal.heading(),

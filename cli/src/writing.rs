@@ -33,6 +33,14 @@ pub fn beside(path: &Path, added: &str) -> PathBuf {
     path.with_file_name(name)
 }
 
+/// The folder in which something is to stand.
+pub fn parent(path: &Path) -> &Path {
+    match path.parent() {
+        Some(parent) if parent != Path::new("") => parent,
+        _ => Path::new("."),
+    }
+}
+
 impl Target {
     /// Fails where the folder may not be written: it exists and is not to be replaced, or is not this program's. With it, what was found of
     /// interrupted runs.
@@ -40,10 +48,7 @@ impl Target {
         let name = folder
             .file_name()
             .ok_or_else(|| Failure(format!("{} is no name for a new folder", folder.display())))?;
-        let parent = match folder.parent() {
-            Some(parent) if parent != Path::new("") => parent,
-            _ => Path::new("."),
-        };
+        let parent = parent(folder);
         let mut target = Target {
             folder: folder.into(),
             parent: parent.into(),
@@ -224,10 +229,7 @@ pub fn may_be_made(path: &Path, prepared: &Path) -> Result<(), Failure> {
             "{shown} exists; it is left alone, name another file"
         )));
     }
-    let folder = match path.parent() {
-        Some(parent) if parent != Path::new("") => parent,
-        _ => Path::new("."),
-    };
+    let folder = parent(path);
     if lies_in(folder, prepared) {
         return Err(Failure(format!(
             "{shown} would lie in the opening; name a file elsewhere"

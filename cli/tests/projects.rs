@@ -399,6 +399,23 @@ fn what_is_asked_about_must_be_there() {
     );
 }
 
+/// What a holder adds to an opening does not turn a verdict into none.
+#[test]
+fn a_manifest_in_an_opening_of_a_file_is_not_checked() {
+    let desk = Desk::opened("stray-manifest");
+    desk.write("plan.txt.opening/manifest.txt", b"format 2\nanything");
+    desk.check().says(
+        0,
+        &[
+            "not checked: manifest.txt\n",
+            "verdict: accepted: 3 records",
+        ],
+    );
+    desk.damage("plan.txt.opening/query-7.record", 60);
+    desk.check()
+        .says(1, &["position 7: refused, 18 at level 0"]);
+}
+
 #[test]
 fn offsets_of_a_file_that_is_sealed_by_itself() {
     let desk = Desk::opened("offsets");

@@ -5,13 +5,13 @@ use crate::json::Json;
 use crate::manifest::{Manifest, MANIFEST};
 use crate::options::Options;
 use crate::outcome::{Failure, Outcome, Verdict};
-use crate::project::{manifest_of, root_of, shown_path, walked, Walked};
-use crate::reading::{lies_in, reason, unreadable};
+use crate::project::{manifest_of, root_of, walked, written_path, Walked};
+use crate::reading::{lies_in, reason, shown_path, unreadable};
 use crate::seal::Seal;
 use crate::shape::Shape;
 use crate::shown::some_of;
 use crate::table::{variables, MOST_BYTES};
-use crate::writing::{beside, Target};
+use crate::writing::{beside, parent, Target};
 use dequmlo::Root;
 use std::path::{Path, PathBuf};
 
@@ -49,8 +49,7 @@ pub fn run(options: &Options, k: usize, domain: Vec<u8>) -> Result<Outcome, Fail
     };
     let n = variables(text.len());
     let shape = Shape { n, k, domain };
-    let named = project.to_string_lossy();
-    let files = Seal::project_files(&shape, &root, &named, &manifest);
+    let files = Seal::project_files(&shape, &root, &shown_path(project), &manifest);
     notes.extend(target.write(&files)?);
     Ok(told(&manifest, &root, project, target.folder()).notes(notes))
 }
@@ -65,14 +64,6 @@ fn named(project: &Path) -> Result<PathBuf, Failure> {
         .map_err(|e| unreadable(project, reason(&e)))
 }
 
-/// The folder in which another one is to stand.
-fn parent(folder: &Path) -> &Path {
-    match folder.parent() {
-        Some(parent) if parent != Path::new("") => parent,
-        _ => Path::new("."),
-    }
-}
-
 /// Why a folder is no project, by name.
 fn not_a_project(project: &Path, found: &Walked) -> Option<String> {
     if found.others.is_empty() && !found.files.is_empty() {
@@ -85,7 +76,7 @@ fn not_a_project(project: &Path, found: &Walked) -> Option<String> {
     let names: Vec<String> = found
         .others
         .iter()
-        .map(|(path, what)| format!("{} is {what}", shown_path(path)))
+        .map(|(path, what)| format!("{} is {what}", written_path(path)))
         .collect();
     Some(format!(
         "{project} holds what is neither a file nor a folder, and a seal stands for files alone: {}. Take it out, or put the file itself in its place",

@@ -3,7 +3,7 @@
 use crate::manifest::{part_place, Entry, Manifest, MANIFEST};
 use crate::outcome::{texts, Failure, Outcome, Verdict};
 use crate::part::{damaged_manifest, manifest_in, Unfit};
-use crate::project::{manifest_of, root_of, shown_path, walked};
+use crate::project::{manifest_of, root_of, walked, written_path};
 use crate::seal::Seal;
 use crate::table::MOST_BYTES;
 use std::path::Path;
@@ -48,7 +48,7 @@ pub fn run(project: &Path, folder: &Path, seal: Seal) -> Result<Outcome, Failure
         found
             .others
             .iter()
-            .map(|(path, what)| format!("{}, which is {what}", shown_path(path))),
+            .map(|(path, what)| format!("{}, which is {what}", written_path(path))),
     );
     Ok(found_now.told(outcome).notes(seal.notes))
 }
@@ -68,14 +68,14 @@ impl Differences {
             match now.find(&entry.path) {
                 Some(other) if other == entry => (),
                 Some(other) => found.changed.push(changed(entry, other)),
-                None => found.missing.push(shown_path(&entry.path)),
+                None => found.missing.push(written_path(&entry.path)),
             }
         }
         let new = now
             .0
             .iter()
             .filter(|entry| then.find(&entry.path).is_none());
-        found.new.extend(new.map(|entry| shown_path(&entry.path)));
+        found.new.extend(new.map(|entry| written_path(&entry.path)));
         found
     }
 
@@ -97,7 +97,7 @@ impl Differences {
 
 /// How a file differs from the one of the same path that was sealed.
 fn changed(then: &Entry, now: &Entry) -> String {
-    let path = shown_path(&then.path);
+    let path = written_path(&then.path);
     if then.bytes != now.bytes {
         return format!(
             "{path}, which had {} bytes and has {}",
