@@ -73,8 +73,13 @@ static uint32_t answered(dequmlo_answered a) {
 
 /* n, k */
 static uint32_t sizes(const size_t *v) {
-    dequmlo_seal_sizes s = dequmlo_sizes(v[0], v[1]);
-    MUST(s.number == 0 ? s.query == query_bytes(v[0], v[1]) && s.trees == trees_bytes(v[0], v[1]) : s.query == 0 && s.trees == 0);
+    size_t n = v[0], k = v[1], last = (size_t)1 << k;
+    dequmlo_seal_sizes s = dequmlo_sizes(n, k);
+    const size_t got[] = {s.table, s.gammas, s.codeword, s.tree, s.levels, s.trees, s.half, s.roots, s.last_level, s.last_tree, s.query, s.tail};
+    const size_t done[] = {(size_t)1 << n, k * n, level_words(n, k, 0), tree_bytes(level_words(n, k, 0)), levels_words(n, k), trees_bytes(n, k),
+                           level_words(n, k, 1), 32 * (n + 1), last, tree_bytes(last), query_bytes(n, k), tail_bytes(k)};
+    static const size_t refused[sizeof done / sizeof *done];
+    MUST(memcmp(got, s.number == 0 ? done : refused, sizeof got) == 0);
     return s.number;
 }
 
