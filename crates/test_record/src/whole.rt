@@ -45,12 +45,10 @@ fn run(vars: &[usize], challenges: &[u64], position: usize, claim: Word, y: &mut
     let done = r.done;
     Answer {
         count: 4,
-        numbers: [
-            done as u64,
-            checked.number as u64,
-            checked.level as u64,
-            r.tail as u64,
-        ],
+        a: done as u64,
+        b: checked.number as u64,
+        c: checked.level as u64,
+        d: r.tail as u64,
     }
 }
 
