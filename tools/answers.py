@@ -3,10 +3,12 @@
 An operation gets its arguments, words as their bytes, and how long its outputs are, in halves of words or in bytes. It answers the numbers,
 and what the outputs hold; None for one that holds what it held."""
 import collections
+import struct
 
 import records
 from lines import FILL, shown
-from model import blake3, derive, encode, equality_table, extension, fold_tree_width, gamma_message, leaf_message, level_domain, mul, node_message, path
+from model import CHUNK_END, CHUNK_START, PARENT, ROOT_NODE, blake3, compress
+from model import derive, encode, equality_table, extension, fold_tree_width, gamma_message, leaf_message, level_domain, mul, node_message, path
 from model import number as number_bytes, part, root_of_path, shift, tree
 from records import Deposit, first_no, query, query_bytes, tail_bytes
 
@@ -294,6 +296,33 @@ def fed(message, times, last, _):
 
 # the digest of 2^24 zeros, by the Rust's BLAKE3 (oracle: `fed 00x65536 256 -`)
 ZEROS_2_24 = "b4834959bc889fed1abf3c45d5da0e384134386a4b2786cc5dbb9fe8fa853bbb"
+
+
+# what a state holds beside its counters in `state`: key words, chaining value, block, stack
+KEY, CHAINED, BLOCK, STACK = (1,) * 8, (2,) * 8, bytes([3]) * 64, (4,) * 112
+
+
+def finished(blocks, fill, chunks, depth):
+    """The digest that such a state with these counters finalizes to."""
+    flags = (CHUNK_START if blocks == 0 else 0) | CHUNK_END
+    node = (CHAINED, BLOCK[:fill].ljust(64, b"\0"), chunks, fill, flags)
+    for i in reversed(range(depth)):
+        node = (KEY, struct.pack("<16I", *STACK[8 * i : 8 * i + 8], *compress(*node)), 0, 64, PARENT)
+    h, block, counter, length, flags = node
+    return struct.pack("<8I", *compress(h, block, counter, length, flags | ROOT_NODE))
+
+
+@operation
+def state(counters, message, out):
+    """update's number and finalize's, by SPECIFICATION 8.5; finalize's digest, and the state that update hands back."""
+    blocks, fill, chunks, depth, length = counters
+    agree = [blocks <= 15, fill <= 64, length == 1024 * chunks + 64 * blocks + fill, min(1, length) <= fill, depth == chunks.bit_count()]
+    updated, finalized = (no((13, length + size <= 1 << 24), *((13, yes) for yes in agree)) for size in (len(message), 0))
+    assert updated or not message, "no state after an update is at hand"
+    digest = bytes(32) if finalized else finished(blocks, fill, chunks, depth)
+    arrays = b"".join(map(number_bytes, KEY + CHAINED + STACK)) + BLOCK
+    held = digest + arrays + b"".join(map(number_bytes, [0, blocks, fill, chunks, depth, length]))
+    return [updated, finalized], [held]
 
 
 # ---- trees

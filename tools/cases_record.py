@@ -12,7 +12,7 @@ from cases_field import text
 from damages import Damage, change, of_lengths, of_numbers, other_byte
 from lines import Store, hex_words
 from model import leaf_message, node_message, some_words, word_bytes
-from records import Deposit, OpenedDeposit, Reader, first_no, query, query_bytes, tail_bytes, words_bytes
+from records import Deposit, LastLevel, OpenedDeposit, Reader, first_no, query, query_bytes, tail_bytes, words_bytes
 
 # ---- what an entry is given
 
@@ -198,6 +198,8 @@ def accepted():
         yield right(title, build_tail(deposit))
     for n, k, base, position in [(20, 4, b"deposit", (1 << 24) - 1), (12, 3, b"a" * 200, 12345)]:
         yield right("n %d k %d" % (n, k), check_query(OpenedDeposit(n, k, base, position), position))
+    last = LastLevel(20, 4, b"deposit")
+    yield from (right("n 20 k 4: the last level", given) for given in (check_tail(last), build_tail(last)))
 
 
 def query_cases():
@@ -243,6 +245,7 @@ def build_cases():
         yield from alone_and_in_pairs(title, given, damages.heads_of_build(given.kind, given.n, given.k))
         yield from alone(title, given, damages.of_numbers(given))
         yield from alone(title, given, damages.of_lengths([("words", 16), ("trees", 32), ("out", 1)]))
+    yield from (right("n 20 k 4", dataclasses.replace(given, n=20, k=4), 5) for given in (given_query, given_tail))
 
 
 # ---- comparing
@@ -288,6 +291,8 @@ def compared():
     lengths = [("challenges", 16), ("roots", 32), ("first_message", 1), ("second_message", 1)]
     for ways in [of_numbers(given), of_lengths(lengths), of_records(given)]:
         yield from alone("compare", given, ways)
+    position = (1 << 24) - 1
+    yield right("n 20 k 4", compare(OpenedDeposit(20, 4, b"deposit", position), position), 33)
 
 
 # ---- chains of messages under a stand-in digest: two accepted records that differ would be a collision of BLAKE3
@@ -480,6 +485,7 @@ def commit_lines():
         given = list(right_sizes)
         given[i], given[j] = x, y
         yield "commit " + " ".join(map(str, given))
+    yield from ["# n and k at their largest", "commit 20 4 61 5,9 2 8 96"]
 
 
 def difference_lines():

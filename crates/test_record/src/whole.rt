@@ -8,6 +8,10 @@ use test_lines::bytes::put_bytes;
 use test_lines::bytes::put_part;
 use test_lines::parts::first;
 use test_lines::parts::first_halves;
+use test_lines::request::Numbers;
+use test_lines::request::bytes_in;
+use test_lines::request::numbers_in;
+use test_lines::request::words_in;
 
 // The roots, both records and both messages.
 fn put_left(
@@ -35,7 +39,7 @@ fn put_counts(z: &mut [u8], done: usize, level: u32, one: usize, two: usize) {
 
 // A run, lent buffers of these lengths.
 fn run(
-    n: [usize; 8],
+    n: Numbers,
     claim: Word,
     base: &[u8],
     table: &[u64],
@@ -57,9 +61,9 @@ fn run(
     let mut one = [0xa5u8; 520];
     let mut two = [0xa5u8; 520];
     let r = claim_whole_run::run(
-        n[0],
-        n[1],
-        n[2],
+        n.0,
+        n.1,
+        n.2,
         claim,
         base,
         table,
@@ -89,12 +93,10 @@ fn answer_of(r: Answers, z: &mut [u8]) -> Answer {
     put_counts(z, r.done, checked.level, compared.first, compared.second);
     Answer {
         count: 4,
-        numbers: [
-            r.number as u64,
-            checked.number as u64,
-            r.tail as u64,
-            compared.number as u64,
-        ],
+        a: r.number as u64,
+        b: checked.number as u64,
+        c: r.tail as u64,
+        d: compared.number as u64,
     }
 }
 
@@ -128,38 +130,25 @@ fn lengths(a: &[u64]) -> [usize; 9] {
     ]
 }
 
-// The table a, the calls b, at most 8, the challenges c, the claim d, and the lengths e of what is lent beside the kept challenges.
-pub fn answer(
-    n: [usize; 8],
-    s: &[u8],
-    u: &[u8],
-    v: &[u8],
-    a: &[u64],
-    b: &[u64],
-    c: &[u64],
-    d: &[u64],
-    e: &[u64],
-    w: &mut [u64],
-    y: &mut [u8],
-    z: &mut [u8],
-) -> Answer {
+// The table, the calls, at most 8, their challenges, the claim, and the lengths of what is lent beside the kept challenges.
+pub fn answer(words: &[u64], bytes: &[u8], kept: &mut [u64], y: &mut [u8], z: &mut [u8]) -> Answer {
+    let b = words_in(words, 1);
     if b.len() > 32 {
         return no_room();
     }
     let mut numbers = [0usize; 32];
     put_numbers(&mut numbers, b);
-    let claim = test_lines::words::first(d);
     let r = run(
-        n,
-        claim,
-        s,
-        a,
+        numbers_in(words),
+        test_lines::words::first(words_in(words, 3)),
+        bytes_in(words, bytes, 0),
+        words_in(words, 0),
         calls(&numbers, b.len()),
-        c,
-        u,
-        v,
-        lengths(e),
-        w,
+        words_in(words, 2),
+        bytes_in(words, bytes, 1),
+        bytes_in(words, bytes, 2),
+        lengths(words_in(words, 4)),
+        kept,
         y,
     );
     answer_of(r, z)

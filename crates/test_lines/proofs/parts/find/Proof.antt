@@ -1,14 +1,15 @@
--- `test_lines::pieces::find` is safe and ends.
+-- `test_lines::parts::find` is safe and ends.
 use borrow.Author.Needs.{needs}
 use Prim.Native.Nat.{_≤_, _-_}
-use Rattle.test_lines.proofs.pieces.find.Statement.{statement}
-use Rattle.test_lines.proofs.pieces.find.Tie as tie
+use lib.ListN.{length}
+use Rattle.test_lines.proofs.parts.find.Statement.{statement}
+use Rattle.test_lines.proofs.parts.find.Tie as tie
 
 abbrev Inv-loop : tie.InvT-loop
-Inv-loop s from to b at₀ at = from ≤ at
+Inv-loop s from b at₀ at = from ≤ at
 
 abbrev μ-loop : tie.MeasureT-loop
-μ-loop s from to b at₀ at = to - at
+μ-loop s from b at₀ at = length s - at
 
 loop-holds : tie.Need-loop-holds Inv-loop μ-loop
 loop-holds c = search needs

@@ -1,23 +1,24 @@
--- `test_lines::request::is_named` is safe and ends.
+-- `test_lines::parts::begins` is safe and ends.
 use borrow.Author.Needs.{needs}
 use Prim.Native.Nat.{_≤_, _-_}
-use Rattle.test_lines.proofs.request.is_named.Statement.{statement}
-use Rattle.test_lines.proofs.request.is_named.Tie as tie
+use lib.ListN.{length}
+use Rattle.test_lines.proofs.parts.begins.Statement.{statement}
+use Rattle.test_lines.proofs.parts.begins.Tie as tie
 
 abbrev Inv-loop : tie.InvT-loop
-Inv-loop table at s end i₀ i = i ≤ end
+Inv-loop name table at i₀ i = 0 ≤ i
 
 abbrev μ-loop : tie.MeasureT-loop
-μ-loop table at s end i₀ i = end - i
+μ-loop name table at i₀ i = length name - i
 
 loop-holds : tie.Need-loop-holds Inv-loop μ-loop
 loop-holds c = search needs
 
-wrapping-add-usize-requires : tie.Need-wrapping-add-usize-requires Inv-loop μ-loop
-wrapping-add-usize-requires c κs = search needs
-
 byte-at-requires : tie.Need-byte-at-requires Inv-loop μ-loop
 byte-at-requires c κs = search needs
+
+wrapping-add-usize-requires : tie.Need-wrapping-add-usize-requires Inv-loop μ-loop
+wrapping-add-usize-requires c κs = search needs
 
 byte-at-requires-2 : tie.Need-byte-at-requires-2 Inv-loop μ-loop
 byte-at-requires-2 c κs = search needs
@@ -43,15 +44,15 @@ byte-at-requires-3 c κs = search needs
 returns-2 : tie.Need-returns-2 Inv-loop μ-loop
 returns-2 c = search needs
 
-pub is-named-spec : {M : Type 1} → statement M
-is-named-spec =
+pub begins-spec : {M : Type 1} → statement M
+begins-spec =
     tie.close
     (tie.spec
     Inv-loop
     μ-loop
     loop-holds
-    wrapping-add-usize-requires
     byte-at-requires
+    wrapping-add-usize-requires
     byte-at-requires-2
     returns
     add-i
