@@ -26,6 +26,8 @@ ghost use Rattle.theory_record.specs.Tail.{checkTail};
 ghost use Rattle.theory_record.specs.Build.{buildQuery, buildTail};
 ghost use Rattle.theory_record.specs.Scheme.{scheme};
 ghost use Rattle.record_query_check.specs.Answer.{answer};
+ghost use Rattle.theory_compare.specs.Lent.{comparedLent, firstLeft, secondLeft};
+ghost use Rattle.compare_records.specs.helpers.Numbers.{comparison};
 ghost use Rattle.claim_fold_calls.specs.helpers.Laid.{zeros};
 ghost use Rattle.claim_whole_run.specs.Whole.{given, buffers, lastLevel, lastTree, lastRoot, RunLeft};
 ghost use Rattle.claim_whole_run.specs.helpers.Room.{CommitLent, CommitLeft, DepositLent, DepositLeft, RecordLent, LastRoom, RunDone};
@@ -124,6 +126,27 @@ fn tail_record(
     check_tail(base, n, k, &roots[last..], claim, out)
 }
 
+// Two records for a position compared, into two message buffers.
+fn two_records(
+    n: usize,
+    k: usize,
+    base: &[u8],
+    position: usize,
+    kept: &[u64],
+    roots: &[u8],
+    first: &[u8],
+    second: &[u8],
+    one: &mut [u8],
+    two: &mut [u8],
+) -> Compared
+    ensures { λ r. ⌜ comparison r ≡ comparedLent base n k position kept roots first second one two ⌝ }
+    ensures { λ _. ⌜ now (one .exit) ≡ firstLeft base n k position kept roots first second one two ⌝ }
+    ensures { λ _. ⌜ now (two .exit) ≡ secondLeft base n k position kept roots first second one two ⌝ }
+{
+    let place = Place::at(position);
+    compare(base, n, k, place, kept, roots, first, second, one, two)
+}
+
 // What a run answers: its number; how many calls are done; what the check of the query record answered, and the number of the tail record's; and what
 // comparing the two lent records answered.
 pub struct Answers {
@@ -177,7 +200,7 @@ fn made(
     );
     let checked = query_record(n, k, base, position, levels, trees, kept, roots, query);
     let number = tail_record(n, k, base, claim, levels, trees, roots, tail);
-    let compared = compare(base, n, k, position, kept, roots, first, second, one, two);
+    let compared = two_records(n, k, base, position, kept, roots, first, second, one, two);
     Answers {
         number: 0,
         done,

@@ -9,14 +9,14 @@ use Rattle.claim_whole_run.proofs.made.Lts as lts
 use Rattle.claim_whole_run.proofs.deposit.Reads as deposit-reads
 use Rattle.claim_whole_run.proofs.query_record.Reads as query-record-reads
 use Rattle.claim_whole_run.proofs.tail_record.Reads as tail-record-reads
-use Rattle.compare_records.proofs.compare.Reads as compare-reads
+use Rattle.claim_whole_run.proofs.two_records.Reads as two-records-reads
 
 -- the places of the code, from its end to its start
 
-abbrev at-compare : tie.After-slice-known20 → tie.After-compare
-at-compare c = search
+abbrev at-compared : tie.After-slice-known20 → tie.After-two-records
+at-compared c = search
 
-abbrev at-ended : tie.After-compare → tie.After-slice-known18
+abbrev at-ended : tie.After-two-records → tie.After-slice-known18
 at-ended c = search
 
 abbrev at-tail : tie.After-slice-known18 → tie.After-tail-record
@@ -41,7 +41,7 @@ abbrev at-start : tie.After-shared-slice-known5 → tie.Start
 at-start c = search
 
 abbrev deposited : tie.After-slice-known20 → tie.After-deposit
-deposited c = at-deposit (at-query (at-built (at-tail (at-ended (at-compare c)))))
+deposited c = at-deposit (at-query (at-built (at-tail (at-ended (at-compared c)))))
 
 deposit-requires : tie.Need-deposit-requires
 deposit-requires c κs = search needs
@@ -59,8 +59,8 @@ tail-record-requires c κs =
     (room-same (start .pre .0) (kept .1 .1 .1 .1 .1 .1 .1 .0) (kept .1 .1 .1 .1 .1 .1 .1 .1 .1 .0) (kept .1 .1 .1 .1 .1 .1 .1 .1 .1 .1 .0)
     (kept .1 .1 .1 .1 .1 .1 .1 .1 .1 .1 .1 .0))
 
-compare-requires : tie.Need-compare-requires
-compare-requires c κs = search needs
+two-records-requires : tie.Need-two-records-requires
+two-records-requires c κs = search needs
 
 same-length : tie.Need-same-length
 same-length c = deposited c .deposit .kept .1 .1 .1 .1 .1 .1 .0
@@ -94,7 +94,7 @@ same-length-10 c = search needs
 
 returns : tie.Need-returns
 returns c =
-    let found = at-compare c in
+    let found = at-compared c in
     let ended = at-ended found in
     let told = at-tail ended in
     let built = at-built told in
@@ -110,7 +110,7 @@ returns c =
     let d = laid .deposit .ensures in
     let q = asked .query-record .ensures in
     let t = told .tail-record .ensures in
-    let e = found .compare .ensures in
+    let e = found .two-records .ensures in
     let claimed =
     claimed-by _ _ _ _ _ room (d .0) (start .pre .1) (q .0) (t .0) (q .1) (t .1) (e .0) (e .1 .0) (e .1 .1) (λ j. built .slice-known17 .given j .fits)
     (λ j. ended .slice-known18 .given j .fits) (λ j. first .shared-slice-known5 .given j .fits) (λ j. second .shared-slice-known6 .given j .fits) in (
@@ -136,7 +136,7 @@ made-spec =
     deposit-requires
     query-record-requires
     tail-record-requires
-    compare-requires
+    two-records-requires
     same-length
     same-length-2
     same-length-3
