@@ -10,8 +10,7 @@ use Rattle.theory_laws.specs.Table.{at}
 use Rattle.theory_laws.specs.Lists.{part, flat, stored, leBytes}
 use Rattle.theory_laws.proofs.Lists.{stored-nil, stored-append}
 use Rattle.theory_laws.proofs.Bytes.{length-numbers, leBytes-joined}
-use Rattle.theory_field.specs.Words.{words}
-use Rattle.theory_field.proofs.Words.{length-words}
+pub use Rattle.theory_field.proofs.Words.{words-there}
 use Rattle.field_gf128.specs.Word.{word}
 use Rattle.field_gf128.specs.declared.Word.{Word}
 use Rattle.bytes_numbers.specs.helpers.Put.{Put}
@@ -69,7 +68,3 @@ words-put {from = from} ws start count i e h g f n =
       size = length-numbers 16 (take count (drop start ws)) ∙ ap (λ j. 16 * j) (length-take-le count (drop start ws) (simp length-drop (omega arith)));
       end = f ∙ ap (λ j. from + 16 * j) c;
     }
-
--- words in a slice of halves
-pub words-there : (values : List ℕ) (m : ℕ) → 2 * m ≤ length values → m ≤ length (words values)
-words-there values m h = omega (arith, length-words values)

@@ -10,7 +10,7 @@ use lib.Count.{trailingZeros}
 use lib.Dec.{eqb}
 use lib.ListN.{length, take, drop, length-drop}
 use Rattle.theory_laws.specs.Lists.{part}
-use Rattle.theory_laws.proofs.Lists.{length-part, part-then, lent-part}
+use Rattle.theory_laws.proofs.Lists.{length-part, part-then, lent-part, length-lent}
 use Rattle.hash_chunk.specs.declared.state.ChunkState.{ChunkState}
 use Rattle.hash_chunk.specs.helpers.State.{fedByte, fed, lastOf, Fits}
 use Rattle.hash_chunk.proofs.Feed.{held-fed, fits-fed}
@@ -96,7 +96,7 @@ roomed-not s u n c h e =
 -- the part of a slice that `absorb` lends to `feed`
 module _ (u : Hasher) (input : List ℕ) (i n : ℕ) {c : ChunkState} (e : c ≡ chunkOf u) where
   pub lent-fits : i + n ≤ length input → u .fill ≤ 64 → 64 * u .blocks + u .fill + n ≤ 1024 → Fits c (length (take (i + n - i) (drop i input)))
-  lent-fits l h k = rw (e, lent-part n i input, length-part n i input l) (record { within = h; small = k })
+  lent-fits l h k = rw (e, length-lent n i input l) (record { within = h; small = k })
 
   pub lent-fed : {r : ChunkState} → r ≡ fed c (take (i + n - i) (drop i input)) → r ≡ fed (chunkOf u) (part n i input)
   lent-fed f = f ∙ ap₂ fed e (lent-part n i input)

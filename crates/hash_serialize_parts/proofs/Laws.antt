@@ -12,7 +12,7 @@ use lib.Seq.{drop-cons, drop-drop, length-take-le}
 use Rattle.theory_laws.specs.Questions.{onDone}
 use Rattle.theory_laws.specs.Table.{at}
 use Rattle.theory_laws.specs.Lists.{part, stored, leBytes, flat}
-use Rattle.theory_laws.proofs.Lists.{stored-nil, stored-all, then-stored, length-stored, length-part, lent-part}
+use Rattle.theory_laws.proofs.Lists.{stored-nil, stored-all, then-stored, length-stored, lent-part, length-lent}
 use Rattle.theory_laws.proofs.Questions.{all-yes, eqb-iff}
 use Rattle.theory_merkle.specs.Message.{prefixed, serializePrefix, serializeParts}
 use Rattle.theory_merkle.proofs.Message.{length-prefixed}
@@ -106,7 +106,7 @@ left-room {ls} {bs} {out} {to} {from} {i} h r =
 
 -- the length of part i, as it is lent
 pub part-length : {ls bs out : List ℕ} {to from i : ℕ} → Room ls bs out to from i → length (take (from + at ls i - from) (drop from bs)) ≡ at ls i
-part-length {ls} {bs} {from = from} {i = i} r = ap length (lent-part (at ls i) from bs) ∙ length-part (at ls i) from bs (r .lies)
+part-length {ls} {bs} {from = from} {i = i} r = length-lent (at ls i) from bs (r .lies)
 
 pub left-turn : {ls bs out p out′ : List ℕ} {to from i to′ : ℕ} → i < length ls → Left ls bs out to from i → p ≡ take (from + at ls i - from) (drop from bs)
     → Put out to (8 + length p) (prefixed p) out′ to′ → Left ls bs out′ to′ (from + at ls i) (i + 1)

@@ -51,6 +51,9 @@ pub lent-part : (n i : ℕ) (l : List ℕ) → take (i + n - i) (drop i l) ≡ p
 unfolding part
 lent-part n i l = ap (λ (k : ℕ). take k (drop i l)) (let e : i + n - i ≡ n = omega arith in e)
 
+pub length-lent : (n i : ℕ) (l : List ℕ) → i + n ≤ length l → length (take (i + n - i) (drop i l)) ≡ n
+length-lent n i l h = ap length (lent-part n i l) ∙ length-part n i l h
+
 -- a part of bytes is bytes
 pub part-at-le : (m i : ℕ) (l : List ℕ) (k : ℕ) → at (part m i l) k ≤ at l (i + k)
 unfolding part

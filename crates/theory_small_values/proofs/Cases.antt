@@ -3,6 +3,7 @@
 use mathlib.Core.Path.{_≡_, refl, sym, ap}
 use mathlib.Core.List.{_++_}
 use lib.Dec.{lit<}
+use lib.ListN.{drop}
 use Rattle.theory_laws.specs.Xor.{_⊕_, sel}
 use Rattle.theory_laws.specs.Sum.{sum}
 use Rattle.theory_laws.specs.Table.{tab}
@@ -37,31 +38,8 @@ unfolding codeword reduction xtime mulBits _⊗_ sq sel _⊕_ sum tab ins prod f
     flat leBytes same prefixed serializePrefix serializeParts leafLabel nodeLabel wordsBytes leafPrefix leafRest leafMessage nodeMessage
     differing lastDiffering messages messagesOf collision widthFor levelLength levelWidth decimalWithin decimal levelDomain
     pairOf openingFound pairFound levelsFound inBuffer
-all-hold = (
-  refl,
-  (
-    refl,
-    (
-      refl,
-      (
-        ap one inverse-of-2,
-        (
-          refl,
-          (
-            refl,
-            (
-              refl,
-              (
-                refl,
-                (
-                  refl,
-                  (refl, (refl, (refl, (refl, (refl, (refl, (refl, (refl, (refl, tt))))))))),
-                ),
-              ),
-            ),
-          ),
-        ),
-      ),
-    ),
-  ),
-)
+all-hold = (refl, (refl, (refl, (ap one inverse-of-2, rest))))
+  where
+    -- all but the first four
+    rest : AllHold (drop 4 (cases ++ compareCases))
+    rest = (refl, (refl, (refl, (refl, (refl, (refl, (refl, (refl, (refl, (refl, (refl, (refl, (refl, (refl, tt))))))))))))))
