@@ -4,17 +4,17 @@ use mathlib.Core.Path.{_≡_, refl, sym, _∙_, ap, subst}
 use mathlib.Core.Logic.{inl, inr, ⊎-elim}
 use mathlib.Core.List.{List, [], _∷_, _++_}
 use native.Mathlib.Omega.{arith}
-use lib.ListN.{length, take, drop, getD, length-append, length-drop, length-map}
-use lib.Seq.{take-at, take-all, drop-at}
+use lib.ListN.{length, take, drop, getD, length-drop, length-map}
+use lib.Seq.{take-at, take-all}
 use Rattle.theory_laws.specs.Table.{at}
 use Rattle.theory_laws.specs.Lists.{part, flat, Bytes}
 use Rattle.theory_field.specs.Words.{words}
-use Rattle.theory_field.proofs.Words.{drop-words, length-words-even}
+use Rattle.theory_field.proofs.Words.{length-words-even}
 use Rattle.theory_multilinear.specs.Folds.{Fold, atFirst}
 use Rattle.theory_code.specs.Questions.{foldNumber}
 use Rattle.theory_blake3.proofs.HashMode.{length-hash}
 use Rattle.theory_record.specs.Widths.{present, levelLength, treeLength}
-use Rattle.theory_record.specs.Trees.{endToEnd, treeFor, rootFor, levelsLent, treesLent, rootsLent}
+use Rattle.theory_record.specs.Trees.{treeFor, rootFor, levelsLent, treesLent, rootsLent}
 use Rattle.theory_record.specs.Query.{Answer, accepted, rootAt, checkQuery}
 use Rattle.theory_record.specs.Tail.{checkTail}
 use Rattle.theory_record.specs.Build.{levelsLength, levelValues, buildQuery, buildTail}
@@ -27,13 +27,13 @@ use Rattle.theory_record.proofs.Accepted.{length-rootFor}
 use Rattle.theory_compare.specs.Compare.{Comparison, compared, firstMessage, secondMessage}
 use Rattle.theory_claim.specs.Calls.{Call, callNumber, doneFolds, afterFolds}
 use Rattle.theory_claim.specs.Claim.{Lent, LastLent, After, Outcome, Claim}
+use Rattle.theory_claim.proofs.Lent as L
 use Rattle.code_levels.proofs.Laying.{levels-laid}
 use Rattle.claim_fold_calls.specs.helpers.Laid.{challengesOf}
-use Rattle.code_level_trees.proofs.Growing.{length-tree}
 use Rattle.claim_whole_run.specs.Whole as whole
 use Rattle.claim_whole_run.specs.Whole.{Given, Buffers, Deposited, Claimed, AfterCalls, lastLevel, lastTree, lastRoot}
 use Rattle.claim_whole_run.specs.helpers.Room.{Room, RecordRoom, LastRoom}
-use Rattle.claim_whole_run.proofs.Deposits.{claim-of}
+use Rattle.claim_whole_run.proofs.Deposits.{deposit-of, claim-of}
 
 -- room for the last level, its tree and its root
 pub last-room : {n k base table calls challenges gammas levels half kept trees roots : ℕ}
@@ -51,10 +51,6 @@ pub room-same : {n k base table calls challenges gammas levels half kept trees r
     → Room n k base table calls challenges gammas levels half kept trees roots → levels′ ≡ levels → kept′ ≡ kept → trees′ ≡ trees → roots′ ≡ roots
     → Room n k base table calls challenges gammas levels′ half kept′ trees′ roots′
 room-same r el ek et er = rw (el, ek, et, er) r
-
--- the end of a list
-drop-last : (m : ℕ) (xs ys zs : List ℕ) → xs ≡ ys ++ zs → length zs ≡ m → drop (length xs - m) xs ≡ zs
-drop-last m xs ys zs e l = rw e (drop-at ys zs (length (ys ++ zs) - m) (omega (arith, length-append ys zs)))
 
 -- the challenges of folds at variable 0
 challenges-first : (r : List ℕ) → challengesOf (atFirst r) ≡ r
@@ -150,29 +146,8 @@ module _ (G : Given) (old new : Buffers) (h done : ℕ)
     lent : Lent n k base table kept xs levels trees roots
     lent = record { levels-long = room .commit .levels-long; levels-are = words-are; trees-are = trees-are; roots-are = roots-are }
 
-    length-last : length (level n) ≡ levelLength n k n
-    length-last = ap length (sym (each n (omega arith))) ∙ length-values n (omega arith)
-
-    last-is : words (lastLevel n k levels) ≡ level n
-    unfolding endToEnd
-    last-is =
-        let e : length levels - 2 * levelLength n k n ≡ 2 * (length (words levels) - levelLength n k n) =
-        omega (arith, room .commit .levels-long, words-long) in
-        ap (λ (i : ℕ). words (drop i levels)) e ∙ drop-words (length (words levels) - levelLength n k n) levels
-        ∙ drop-last (levelLength n k n) (words levels) (endToEnd n level) (level n) words-are length-last
-
-    tree-is : lastTree n k trees ≡ flat (treeFor S n (level n))
-    unfolding endToEnd
-    tree-is =
-        drop-last (32 * treeLength present n k n) trees (endToEnd n (λ l. flat (treeFor S l (level l)))) _ trees-are (length-tree base n k n (level n))
-
-    root-is : lastRoot roots ≡ rootFor S n (level n)
-    unfolding endToEnd
-    root-is =
-        drop-last 32 roots (endToEnd n (λ l. rootFor S l (level l))) _ roots-are (length-rootFor S length-hash n (level n) present-powers)
-
     last-lent : LastLent n k base table kept xs (lastLevel n k levels) (lastTree n k trees) (lastRoot roots)
-    last-lent = record { level-long = last-long; level-is = last-is; tree-is = tree-is; root-is = root-is }
+    last-lent = L.last-lent n k base table kept (deposit-of base table kept (room .commit) (room .kept-long)) xs all-first levels trees roots lent
 
   -- ---- with the records and their checks
 

@@ -20,7 +20,7 @@ use Rattle.theory_record.proofs.Ranges.{sizes-small}
 use Rattle.theory_record.proofs.Offsets.{first-length, level-within, tree-within}
 use Rattle.theory_claim.specs.Commit.{commitNumber, committedCodeword, committedTree}
 use Rattle.theory_claim.specs.Calls.{Call, afterFolds}
-use Rattle.theory_claim.specs.Claim.{Claim}
+use Rattle.theory_claim.specs.Claim.{Deposit, Claim}
 use Rattle.theory_claim.proofs.Claim.{claim}
 use Rattle.code_levels.proofs.Laying.{behind-more}
 use Rattle.claim_fold_calls.specs.helpers.Laid.{Left}
@@ -41,19 +41,23 @@ module _ {n k base table gammas levels trees : ℕ} (r : CommitRoom n k base tab
   unfolding treeStart total
   tree-fits bytes e = omega (arith, r .trees-long, tree-within present n k 0 (omega arith))
 
--- the claim, of a table that is lent, with any challenges
-pub claim-of : {n k gammas levels trees : ℕ} (base table challenges : List ℕ) → CommitRoom n k (length base) (length table) gammas levels trees
-    → length challenges ≡ 2 * n → Claim n k base table challenges
-claim-of {n} {k} base table challenges r long =
-    claim n k base table challenges
-    (record {
+-- a table that is lent, with any challenges, is within the claim's ranges
+pub deposit-of : {n k gammas levels trees : ℕ} (base table challenges : List ℕ) → CommitRoom n k (length base) (length table) gammas levels trees
+    → length challenges ≡ 2 * n → Deposit n k base table challenges
+deposit-of base table challenges r long =
+    record {
       n-least = r .sizes .n-least;
       n-most = r .sizes .n-most;
       k-most = r .sizes .k-most;
       base-short = r .base-short;
       table-long = r .table-long;
       challenges-long = long;
-    })
+    }
+
+-- the claim of it
+pub claim-of : {n k gammas levels trees : ℕ} (base table challenges : List ℕ) → CommitRoom n k (length base) (length table) gammas levels trees
+    → length challenges ≡ 2 * n → Claim n k base table challenges
+claim-of {n} {k} base table challenges r long = claim n k base table challenges (deposit-of base table challenges r long)
 
 codeword-long : (n k : ℕ) (base table : List ℕ) → length (committedCodeword base n k table) ≡ levelLength n k 0
 unfolding committedCodeword
