@@ -9,7 +9,7 @@ import records
 from lines import FILL, shown
 from model import CHUNK_END, CHUNK_START, PARENT, ROOT_NODE, blake3, compress
 from model import derive, encode, equality_table, extension, fold_tree_width, gamma_message, leaf_message, level_domain, mul, node_message, path
-from model import number as number_bytes, part, root_of_path, shift, tree
+from model import fold as fold_first, number as number_bytes, part, root_of_path, shift, tree
 from records import Deposit, first_no, query, query_bytes, tail_bytes
 
 OPERATIONS = {}
@@ -429,6 +429,53 @@ def commit(n, k, base, table, gammas, codeword, out):
     made = derive(base, n, k)
     words = encode(n, k, ints(table), made)
     return [0], [packed(made), packed(words), b"".join(tree(level_domain(base, 0), width, words))]
+
+
+@operation
+def domain_length(base, level):
+    number = no((4, level <= 20), (7, len(base) <= 200))
+    return [number, 0 if number else len(level_domain(base, level))], []
+
+
+@operation
+def domain_into(base, level, out):
+    domain = level_domain(base, level)
+    return done(no((4, level <= 20), (5, out == len(domain)), (7, len(base) <= 200)), domain)
+
+
+def level_sizes(n, k, l):
+    """Halves of the level's words, and bytes of its tree."""
+    count, width, _ = records.shape(n, k, l)
+    return 2 * count, 32 * (2 * (count // width) - 1)
+
+
+@operation
+def level_tree(n, k, l, base, values, out):
+    number = no((4, 1 <= n and in_range(n, k) and l <= n))
+    if number == 0:
+        number = no((5, (halves(values), out) == level_sizes(n, k, l)), (7, len(base) <= 200))
+    if number:
+        return [number], []
+    return [0], [b"".join(tree(level_domain(base, l), fold_tree_width(len(values) // 16), ints(values)))]
+
+
+@operation
+def fold_levels(n, k, base, challenges, codeword, levels, half, trees, roots):
+    before = (codeword + FILL * (8 * levels))[: 8 * levels]
+    number = no((4, 1 <= n and in_range(n, k)))
+    if number == 0:
+        sizes = [level_sizes(n, k, l) for l in range(n + 1)]
+        lent = (halves(challenges), levels, half, trees, roots)
+        fixed = (2 * n, sum(w for w, _ in sizes), sizes[1][0], sum(b for _, b in sizes), 32 * (n + 1))
+        number = no((5, lent == fixed), (7, len(base) <= 200))
+    if number:
+        return [number], [before]
+    made = [ints(before)[: 1 << n + k]]
+    for r in ints(challenges):
+        made.append(fold_first(made[-1], r))
+    built = [tree(level_domain(base, l), fold_tree_width(len(v)), v) for l, v in enumerate(made)]
+    every = b"".join(digest for digests in built for digest in digests)
+    return [0], [packed([w for level in made for w in level]), bytes(8 * half), every, b"".join(digests[-1] for digests in built)]
 
 
 class Lent(Deposit):

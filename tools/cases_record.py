@@ -488,6 +488,34 @@ def commit_lines():
     yield from ["# n and k at their largest", "commit 20 4 61 5,9 2 8 96"]
 
 
+def in_pairs(name, right, wrong):
+    """A line with what is right, and lines with one or two arguments wrong."""
+    yield " ".join([name, *map(str, right)])
+    for (i, x), (j, y) in itertools.combinations_with_replacement(wrong, 2):
+        given = list(right)
+        given[i], given[j] = x, y
+        yield " ".join([name, *map(str, given)])
+
+
+def all_levels_lines():
+    """The entries on levels: what they answer, and 4, 5 and 7, alone and in pairs."""
+    yield from ("domain_length %s %d" % (base, level) for base in ("-", "61", "61x200", "61x201") for level in (0, 9, 10, 20, 21, 99, 100))
+    for level in (0, 9, 10, 20):
+        yield from in_pairs("domain_into", ["61", level, 8 + len(str(level))], [(1, 21), (1, 100), (2, 8), (2, 11), (0, "61x201")])
+    yield from ["domain_into 61x200 20 209", "domain_into 61x201 20 210", "domain_into 61x201 21 210", "domain_into - 0 8"]
+    for l, words, size in ((0, 8, 224), (1, 4, 96), (2, 2, 32)):
+        values = ",".join(str(3 * i + 1) for i in range(words))
+        yield from in_pairs("level_tree", [2, 1, l, "61", values, size], [(0, 0), (0, 21), (1, 5), (2, 3), (4, "5"), (5, size - 1), (5, size + 1), (3, "61x201")])
+    yield "level_tree 4 4 0 61x200 7x256 %d" % (32 * 63)
+    yield from in_pairs(
+        "fold_levels",
+        [2, 1, "61", "2,4", "5,9,3,7,33,45,1,2", 28, 8, 352, 96],
+        [(0, 0), (0, 21), (1, 5), (3, "2"), (3, "2,4,6"), (5, 27), (6, 7), (6, 9), (7, 351), (8, 95), (2, "61x201")],
+    )
+    yield from ["fold_levels 1 0 - 2 5,9 6 2 64 64", "fold_levels 1 1 61x200 2 5,9,33,45 12 4 128 64"]
+    yield "fold_levels 5 2 61 1,2,3,4,5 9x128 %d 128 %d 192" % (2 * (128 + 64 + 32 + 16 + 8 + 4), 32 * (31 + 15 + 7 + 3 + 7 + 3))
+
+
 def difference_lines():
     yield from ["# 6: base domains of 81 and 200 bytes", "commit 2 0 64x81 0x4 0 8 32", "commit 2 0 64x200 0x4 0 8 32"]
     yield from ["# 8: n = 0", "build_query 0 0 0 5 00x32 4", "check_query - 0 0 0 - 00x32 00x4"]
@@ -519,6 +547,7 @@ def files():
     compare_store = Store()
     return [
         ("levels.txt", text([*level_lines(), *commit_lines()])),
+        ("all_levels.txt", text(all_levels_lines())),
         ("accepted.txt", text(case_lines(accepted()))),
         ("query.txt", text(case_lines(query_cases()))),
         ("tail.txt", text(case_lines(tail_cases()))),

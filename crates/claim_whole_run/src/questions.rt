@@ -1,11 +1,11 @@
 // The questions that a whole run puts. These are helpers for its entry: those that put 5 require that 4 was answered.
 use code_codeword::sizes::holds;
 use code_level::level_length;
+use code_level::levels_length;
 use code_level::size_number;
+use code_level::trees_size;
 use compare_records::MESSAGE_BUFFER;
-use record_query_build::levels_length;
 use record_query_build::query_size;
-use record_query_build::trees_size;
 use record_tail_build::tail_size;
 ghost use mathlib.Core.Path.{_≡_};
 ghost use Prim.Native.Nat.{_≤_};

@@ -4,6 +4,7 @@ ghost use mathlib.Core.Path.{_≡_};
 ghost use lib.ListN.{length};
 
 mod level;
+mod levels;
 mod many;
 mod pair;
 mod record;
@@ -114,6 +115,41 @@ fn on_many(line: usize, place: usize, bytes: &[u8], words: &[u64]) {
     );
 }
 
+fn on_folds(line: usize, bytes: &[u8], words: &[u64]) {
+    let mut w = [0xa5a5_a5a5_a5a5_a5a5u64; 1024];
+    let mut x = [0xa5a5_a5a5_a5a5_a5a5u64; 512];
+    let mut y = [0xa5u8; 8192];
+    let mut z = [0xa5u8; 512];
+    let a = levels::fold_levels(
+        numbers_in(words),
+        words_in(words, 0),
+        words_in(words, 1),
+        bytes_in(words, bytes, 0),
+        first_halves(&mut w, item(words, OUT_WORDS, 0)),
+        first_halves(&mut x, item(words, OUT_WORDS, 1)),
+        first(&mut y, item(words, OUT_BYTES, 0)),
+        first(&mut z, item(words, OUT_BYTES, 1)),
+    );
+    print_answer(line, words, a, &w, &x, &y, &z);
+}
+
+// The entries on levels; all levels at once have outputs of every kind.
+fn on_all_levels(line: usize, place: usize, bytes: &[u8], words: &[u64]) {
+    let mut y = [0xa5u8; 2048];
+    if place == 3 {
+        on_folds(line, bytes, words);
+        return;
+    }
+    let a = levels::answer(
+        place,
+        numbers_in(words),
+        words_in(words, 0),
+        bytes_in(words, bytes, 0),
+        first(&mut y, item(words, OUT_BYTES, 0)),
+    );
+    print_bytes(line, words, a, &y);
+}
+
 // Answers a request by its row of the table.
 fn respond(line: usize, operation: usize, bytes: &[u8], words: &[u64]) {
     let place = operation % 8;
@@ -124,6 +160,7 @@ fn respond(line: usize, operation: usize, bytes: &[u8], words: &[u64]) {
         3 => on_pairs(line, place, bytes, words),
         4 => on_whole(line, bytes, words),
         5 => on_many(line, place, bytes, words),
+        6 => on_all_levels(line, place, bytes, words),
         // a name that the table has not has no outputs
         _ => print_bytes(line, words, no_room(), bytes),
     }
@@ -178,6 +215,14 @@ damaged_query nbnnnwbb
 damaged_tail nbnnbwb
 prefixes_query bnnnwbb
 prefixes_tail bnnbwb
+none n
+none n
+none n
+none n
+domain_length bn
+domain_into bnB
+level_tree nnnbwB
+fold_levels nnbwwWWBB
 ";
     let operation = request::read(s, table, kept, &mut bytes, &mut words);
     respond(line, operation, &bytes, &words);
@@ -219,6 +264,7 @@ fn main() {
     run_files(
         b"\
 levels.txt
+all_levels.txt
 accepted.txt
 query.txt
 tail.txt

@@ -18,8 +18,9 @@ same-length-2 c = search needs
 returns : tie.Need-returns
 returns c =
     let placed : tie.After-at = search in
+    let found : tie.After-compare = search in
     let e = placed .at .ensures in
-    rw e at (c .compare .ensures)
+    rw e at (found .compare .ensures)
 
 pub two-records-spec : {M : Type 1} → statement M
 two-records-spec = tie.close (tie.spec at-requires compare-requires same-length same-length-2 returns)

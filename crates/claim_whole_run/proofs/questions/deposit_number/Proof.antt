@@ -4,15 +4,15 @@ use Rattle.theory_laws.proofs.Questions.{asks, asks-given}
 use Rattle.claim_whole_run.proofs.Numbers.{asks-twice, room-asked}
 use Rattle.code_codeword.proofs.Lengths.{gammas-fit}
 use Rattle.theory_record.proofs.Ranges.{sizes-small}
-use Rattle.record_query_build.proofs.Sizes.{levels-fit}
+use Rattle.code_level.proofs.Totals.{levels-fit}
 use borrow.Author.Needs.{needs}
 use Rattle.claim_whole_run.proofs.questions.deposit_number.Statement.{statement}
 use Rattle.claim_whole_run.proofs.questions.deposit_number.Tie as tie
 use Rattle.claim_whole_run.proofs.questions.deposit_number.Reads as reads
 use Rattle.claim_whole_run.proofs.questions.deposit_number.Lts as lts
 use Rattle.code_level.proofs.level_length.Reads as level-length-reads
-use Rattle.record_query_build.proofs.levels_length.Reads as levels-length-reads
-use Rattle.record_query_build.proofs.trees_size.Reads as trees-size-reads
+use Rattle.code_level.proofs.levels_length.Reads as levels-length-reads
+use Rattle.code_level.proofs.trees_size.Reads as trees-size-reads
 
 mul-if1 : tie.Need-mul-if1
 mul-if1 c = let start : tie.Start = search in let p = start .pre in omega (arith, gammas-fit {n = start .args .n} {k = start .args .k} (p .n-most) (p .k-most))
