@@ -22,9 +22,9 @@
 
 /* The version of this header, which is that of the archive beside it. */
 #define DEQUMLO_VERSION_MAJOR 0
-#define DEQUMLO_VERSION_MINOR 2
+#define DEQUMLO_VERSION_MINOR 3
 #define DEQUMLO_VERSION_PATCH 0
-#define DEQUMLO_VERSION "0.2.0"
+#define DEQUMLO_VERSION "0.3.0"
 
 #ifdef __cplusplus
 extern "C" {
@@ -35,8 +35,9 @@ typedef struct {
     uint64_t hi;
 } dequmlo_word;
 
-/* What n and k fix; all 0 where the number is not 0. In words: the table, the gammas, the codeword and all levels end to end. In bytes:
-   level 0's tree, all levels' trees end to end, a query record and a tail record. */
+/* What n and k fix; all 0 where the number is not 0. In words: the table, the gammas, the codeword, all levels end to end, the room for a fold
+   that `dequmlo_fold_levels` takes, and the last level. In bytes: level 0's tree, all levels' trees end to end, the roots of all levels, the last
+   level's tree, a query record and a tail record. */
 typedef struct {
     uint32_t number;
     size_t table;
@@ -45,6 +46,10 @@ typedef struct {
     size_t tree;
     size_t levels;
     size_t trees;
+    size_t half;
+    size_t roots;
+    size_t last_level;
+    size_t last_tree;
     size_t query;
     size_t tail;
 } dequmlo_seal_sizes;
@@ -54,6 +59,12 @@ typedef struct {
     uint32_t number;
     uint8_t bytes[32];
 } dequmlo_digested;
+
+/* A length; 0 where the number is not 0. */
+typedef struct {
+    uint32_t number;
+    size_t length;
+} dequmlo_domain_length;
 
 /* The n of a folded codeword; 0 where the number is not 0. */
 typedef struct {
@@ -117,13 +128,26 @@ uint32_t dequmlo_commit(size_t n, size_t k, const uint8_t *base, size_t base_len
 dequmlo_folded dequmlo_fold(size_t n, size_t k, size_t var, dequmlo_word r, const uint64_t *codeword, size_t codeword_length, uint64_t *out,
                             size_t out_length);
 
+/* All levels of a committed codeword by the checker's challenges, their trees and their roots: all that records are built from.
+   - n, k, base: those of the commitment; n is from 1.
+   - challenges: n words; level l + 1 is level l folded at variable 0 by challenge l.
+   - levels: 2^k * (2^(n+1) - 1) words. The codeword stands at the front, as level 0; levels 1 to n are written behind it, end to end.
+   - half: 2^(n+k-1) words, room for a fold, left with zeros.
+   - trees: the trees of levels 0 to n, end to end, each as `dequmlo_level_tree` builds it.
+   - roots: n + 1 digests, the last of each tree, level 0's first.
+   `dequmlo_sizes` has each size. The last level and its tree stand at the ends of `levels` and `trees`.
+   Refuses: 4 (n is not from 1 to 20, or k), 5 (a length), 7 (the base domain). */
+uint32_t dequmlo_fold_levels(size_t n, size_t k, const uint8_t *base, size_t base_length, const uint64_t *challenges, size_t challenges_length,
+                             uint64_t *levels, size_t levels_length, uint64_t *half, size_t half_length, uint8_t *trees, size_t trees_length,
+                             uint8_t *roots, size_t roots_length);
+
 /* ---- trees */
 
 /* The width of the groups of a level of this many values: 8 from 16 values on, 2 from 2 on, else 1. Refuses nothing. */
 size_t dequmlo_fold_tree_width(size_t length);
 
 /* The tree over `count` words in groups of `width`, under a domain: leaves first, then each level of parents, 2 * (count / width) - 1
-   digests; the last is the root. The domain of level l of a seal is the base domain, "/level/" and l in decimal.
+   digests; the last is the root. `dequmlo_level_tree` builds the tree of a level of a seal.
    Refuses: 7 (a domain of more than 255 bytes), 8 (count), 9 (width), 10 (width does not divide count), 5 (a length). */
 uint32_t dequmlo_tree(const uint8_t *domain, size_t domain_length, size_t count, size_t width, const uint64_t *values, size_t values_length,
                       uint8_t *tree, size_t tree_length);
@@ -136,6 +160,21 @@ uint32_t dequmlo_open(size_t count, size_t width, size_t place, const uint8_t *t
    Refuses: 7, 8, 9, 10, 11 as above, 12 (the path is not log2(count / width) digests), 5 (the group is not `width` words). */
 dequmlo_digested dequmlo_root_of_path(const uint8_t *domain, size_t domain_length, size_t count, size_t width, size_t place,
                                       const uint64_t *values, size_t values_length, const uint8_t *path, size_t path_length);
+
+/* How long the domain of a level is: the base domain, of at most 200 bytes, "/level/" and the level, from 0 to 20, in decimal.
+   Refuses: 4 (the level is above 20), 7 (the base domain). */
+dequmlo_domain_length dequmlo_level_domain_length(const uint8_t *base, size_t base_length, size_t level);
+
+/* That domain, into a buffer of its length. Refuses: 4 (the level is above 20), 5 (`out` has another length), 7 (the base domain). */
+uint32_t dequmlo_level_domain(const uint8_t *base, size_t base_length, size_t level, uint8_t *out, size_t out_length);
+
+/* The tree of a level of a seal, at the level's width under the level's domain.
+   - n, k, base: those of the commitment; n is from 1. level: from 0 to n.
+   - values: the level's 2^(n+k-level) words.
+   - tree: 2 * groups - 1 digests, leaves first, where groups is the level's words divided by their `dequmlo_fold_tree_width`; the last is the root.
+   Refuses: 4 (n is not from 1 to 20, k, or level is above n), 5 (a length), 7 (the base domain). */
+uint32_t dequmlo_level_tree(size_t n, size_t k, size_t level, const uint8_t *base, size_t base_length, const uint64_t *values,
+                            size_t values_length, uint8_t *tree, size_t tree_length);
 
 /* ---- records. Challenges are n words, roots are n + 1 digests, level 0's first. */
 

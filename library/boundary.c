@@ -66,6 +66,22 @@ static answer run_fold(const call *c, const lent *b) {
     return a;
 }
 
+static answer run_fold_levels(const call *c, const lent *b) {
+    return plain(dequmlo_fold_levels(c->numbers[0], c->numbers[1], AT(0), WORDS(1), WORDS(2), WORDS(3), AT(4), AT(5)));
+}
+
+static answer run_level_domain_length(const call *c, const lent *b) {
+    dequmlo_domain_length d = dequmlo_level_domain_length(AT(0), c->numbers[0]);
+    answer a = {d.number, d.length == 0};
+    return a;
+}
+
+static answer run_level_domain(const call *c, const lent *b) { return plain(dequmlo_level_domain(AT(0), c->numbers[0], AT(1))); }
+
+static answer run_level_tree(const call *c, const lent *b) {
+    return plain(dequmlo_level_tree(c->numbers[0], c->numbers[1], c->numbers[2], AT(0), WORDS(1), AT(2)));
+}
+
 static answer run_tree(const call *c, const lent *b) {
     return plain(dequmlo_tree(AT(0), c->numbers[0], c->numbers[1], WORDS(1), AT(2)));
 }
@@ -182,6 +198,20 @@ static void count(const call *c, size_t i, size_t value, uint32_t expected) {
     with(&changed, expected);
 }
 
+/* Two slices of other counts. */
+static void counts(const call *c, size_t i, size_t value, size_t j, size_t other, uint32_t expected) {
+    call changed = *c;
+    changed.slice[i].count = value;
+    count(&changed, j, other, expected);
+}
+
+/* A number out of range and a slice of another count: the number's question comes first. */
+static void number_first(const call *c, size_t i, size_t value, size_t j, size_t other, uint32_t expected) {
+    call changed = *c;
+    changed.numbers[i] = value;
+    count(&changed, j, other, expected);
+}
+
 /* n is number i and k the next. */
 static void sizes(const call *c, size_t i, int k_too, int at_least_1) {
     number(c, i, 21, 4);
@@ -255,6 +285,69 @@ int main(void) {
     number(&fold, 2, N - 1, 0);
     number(&fold, 2, N, 6);
     number(&fold, 2, (size_t)-1, 6);
+
+    /* 4 before 5 before 7: each number out of range with each length, and each length with a base domain of 201 bytes. */
+    call fold_levels = {"fold_levels", run_fold_levels, {N, K}, 6,
+                        {reads(domain, 1, base, 0), reads(challenges, 8, 2 * N, 5), writes(all_levels, 8, levels), writes(scratch, 8, words),
+                         writes(scratch, 1, trees), writes(scratch, 1, 32 * (N + 1))}, 0, {0, 0}};
+    lengths(&fold_levels);
+    sizes(&fold_levels, 0, 1, 1);
+    number(&fold_levels, 0, N + 1, 5);
+    number(&fold_levels, 1, K + 1, 5);
+    count(&fold_levels, 0, 200, 0);
+    count(&fold_levels, 0, 201, 7);
+    number_first(&fold_levels, 0, 0, 0, 201, 4);
+    number_first(&fold_levels, 1, 5, 0, 201, 4);
+    for (size_t i = 1; i < 6; i++) {
+        number_first(&fold_levels, 0, 0, i, fold_levels.slice[i].count - 1, 4);
+        number_first(&fold_levels, 0, 21, i, fold_levels.slice[i].count - 1, 4);
+        number_first(&fold_levels, 1, 5, i, fold_levels.slice[i].count - 1, 4);
+        counts(&fold_levels, 0, 201, i, fold_levels.slice[i].count - 1, 5);
+        counts(&fold_levels, 0, 201, i, fold_levels.slice[i].count + 1, 5);
+    }
+
+    call domain_length = {"level_domain_length", run_level_domain_length, {N}, 1, {reads(domain, 1, base, 0)}, 0, {0, 0}};
+    lengths(&domain_length);
+    number(&domain_length, 0, 20, 0);
+    number(&domain_length, 0, 21, 4);
+    number(&domain_length, 0, (size_t)-1, 4);
+    count(&domain_length, 0, 200, 0);
+    count(&domain_length, 0, 201, 7);
+    number_first(&domain_length, 0, 21, 0, 201, 4);
+
+    /* The domain of a level below 10 is 8 bytes longer than the base domain, that of one from 10 on 9. */
+    call level_domain = {"level_domain", run_level_domain, {9}, 2, {reads(domain, 1, base, 5), writes(scratch, 1, base + 8)}, 0, {0, 0}};
+    lengths(&level_domain);
+    number(&level_domain, 0, 10, 5);
+    number(&level_domain, 0, 20, 5);
+    number(&level_domain, 0, 21, 4);
+    number(&level_domain, 0, (size_t)-1, 4);
+    number_first(&level_domain, 0, 10, 1, base + 9, 0);
+    number_first(&level_domain, 0, 20, 1, base + 9, 0);
+    number_first(&level_domain, 0, 21, 1, base + 9, 4);
+    number_first(&level_domain, 0, 21, 0, 201, 4);
+    counts(&level_domain, 0, 200, 1, 208, 0);
+    counts(&level_domain, 0, 201, 1, 209, 7);
+    counts(&level_domain, 0, 201, 1, 208, 5);
+    counts(&level_domain, 0, 0, 1, 8, 0);
+
+    call level_tree = {"level_tree", run_level_tree, {N, K, 1}, 3,
+                       {reads(domain, 1, base, 0), reads(all_levels, 8, words, 5), writes(scratch, 1, tree_bytes(words / 2))}, 0, {0, 0}};
+    lengths(&level_tree);
+    sizes(&level_tree, 0, 1, 1);
+    number(&level_tree, 0, N + 1, 5);
+    number(&level_tree, 2, 0, 5);
+    number(&level_tree, 2, N, 5);
+    number(&level_tree, 2, N + 1, 4);
+    number(&level_tree, 2, (size_t)-1, 4);
+    count(&level_tree, 0, 200, 0);
+    count(&level_tree, 0, 201, 7);
+    number_first(&level_tree, 2, N + 1, 0, 201, 4);
+    for (size_t i = 1; i < 3; i++) {
+        number_first(&level_tree, 0, 0, i, level_tree.slice[i].count - 1, 4);
+        number_first(&level_tree, 2, N + 1, i, level_tree.slice[i].count - 1, 4);
+        counts(&level_tree, 0, 201, i, level_tree.slice[i].count - 1, 5);
+    }
 
     call tree = {"tree", run_tree, {words, 2}, 3,
                  {reads(domain, 1, base, 0), reads(all_levels, 8, 2 * words, 5), writes(scratch, 1, 32 * (words - 1))}, 0, {0, 0}};

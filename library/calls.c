@@ -14,13 +14,15 @@ static void sizes(void) {
             dequmlo_seal_sizes s = dequmlo_sizes(n, k);
             MUST(s.number == 0 && s.table == (size_t)1 << n && s.gammas == k * n && s.codeword == level_words(n, k, 0));
             MUST(s.tree == tree_bytes(level_words(n, k, 0)) && s.levels == levels_words(n, k) && s.trees == trees_bytes(n, k));
+            MUST(s.half == level_words(n, k, 1) && s.roots == 32 * (n + 1));
+            MUST(s.last_level == level_words(n, k, n) && s.last_tree == tree_bytes(level_words(n, k, n)));
             MUST(s.query == query_bytes(n, k) && s.tail == tail_bytes(k));
         }
     static const size_t wrong[][2] = {{0, 0}, {21, 0}, {(size_t)-1, 0}, {1, 5}, {1, (size_t)-1}};
     for (size_t i = 0; i < sizeof wrong / sizeof *wrong; i++) {
         dequmlo_seal_sizes s = dequmlo_sizes(wrong[i][0], wrong[i][1]);
         MUST(s.number == 4 && s.table == 0 && s.gammas == 0 && s.codeword == 0 && s.tree == 0 && s.levels == 0 && s.trees == 0);
-        MUST(s.query == 0 && s.tail == 0);
+        MUST(s.half == 0 && s.roots == 0 && s.last_level == 0 && s.last_tree == 0 && s.query == 0 && s.tail == 0);
     }
 }
 
@@ -53,6 +55,43 @@ static void trees(void) {
     MUST(dequmlo_open(8, 2, 5, tree, sizeof tree, path, sizeof path) == 0);
     dequmlo_digested d = dequmlo_root_of_path(domain, 1, 8, 2, 5, values + 8, 4, path, sizeof path);
     MUST(d.number == 0 && memcmp(d.bytes, tree + 192, 32) == 0);
+}
+
+/* The domain of every level, as the fixture writes it. */
+static void domains(void) {
+    const uint8_t *base = (const uint8_t *)"dequmlo/test";
+    for (size_t level = 0; level <= 20; level++) {
+        char want[64];
+        uint8_t out[64];
+        size_t length = (size_t)snprintf(want, sizeof want, "dequmlo/test/level/%zu", level);
+        dequmlo_domain_length d = dequmlo_level_domain_length(base, 12, level);
+        MUST(d.number == 0 && d.length == length);
+        MUST(dequmlo_level_domain(base, 12, level, out, length) == 0 && memcmp(out, want, length) == 0);
+    }
+}
+
+/* All levels, trees and roots in one call, and each tree by itself, are what the fixture made fold by fold and tree by tree. */
+static void levels(size_t n, size_t k) {
+    seal s = sealed(n, k, 0, n + k);
+    const uint8_t *base = (const uint8_t *)s.base;
+    size_t length = strlen(s.base), first = 0, first_tree = 0;
+    dequmlo_seal_sizes z = dequmlo_sizes(n, k);
+    uint64_t *all = (uint64_t *)room(16 * z.levels), *half = (uint64_t *)room(16 * z.half);
+    uint8_t *trees = (uint8_t *)room(z.trees), *roots = (uint8_t *)room(z.roots);
+    memset(all, 0x5a, 16 * z.levels), memset(half, 0x5a, 16 * z.half);
+    memcpy(all, s.levels, 16 * z.codeword);
+    MUST(dequmlo_fold_levels(n, k, base, length, s.challenges, 2 * n, all, 2 * z.levels, half, 2 * z.half, trees, z.trees, roots, z.roots) == 0);
+    MUST(memcmp(all, s.levels, 16 * z.levels) == 0 && memcmp(trees, s.trees, z.trees) == 0 && memcmp(roots, s.roots, z.roots) == 0);
+    for (size_t i = 0; i < 2 * z.half; i++) MUST(half[i] == 0);
+    for (size_t l = 0; l <= n; l++) {
+        size_t words = level_words(n, k, l), size = tree_bytes(words);
+        memset(trees, 0x5a, z.trees);
+        MUST(dequmlo_level_tree(n, k, l, base, length, s.levels + 2 * first, 2 * words, trees, size) == 0);
+        MUST(memcmp(trees, s.trees + first_tree, size) == 0);
+        first += words, first_tree += size;
+    }
+    free(all), free(half), free(trees), free(roots);
+    unsealed(&s);
 }
 
 static void records(void) {
@@ -102,6 +141,12 @@ int main(void) {
     hash();
     code();
     trees();
+    domains();
+    levels(1, 0);
+    levels(1, 4);
+    levels(3, 1);
+    levels(6, 2);
+    levels(11, 0);
     records();
     ring();
     parameters();

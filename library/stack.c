@@ -23,6 +23,13 @@ static void fold(void) {
     size_t count = level_words(s.n, s.k, 0);
     MUST(dequmlo_fold(s.n, s.k, 0, s.claim, s.levels, 2 * count, words, count).number == 0);
 }
+static void fold_levels(void) {
+    size_t levels = 2 * levels_words(s.n, s.k);
+    MUST(dequmlo_fold_levels(s.n, s.k, BASE, s.challenges, 2 * s.n, s.levels, levels, words, level_words(s.n, s.k, 0), s.trees,
+                             trees_bytes(s.n, s.k), s.roots, 32 * (s.n + 1)) == 0);
+}
+static void level_domain(void) { MUST(dequmlo_level_domain(BASE, 8, bytes, strlen(s.base) + 8) == 0); }
+static void level_tree(void) { MUST(dequmlo_level_tree(s.n, s.k, 0, BASE, s.levels, 2048, bytes, tree_bytes(1024)) == 0); }
 static void tree(void) { MUST(dequmlo_tree(BASE, 1024, 512, s.levels, 2048, bytes, 96) == 0); }
 static void open(void) { MUST(dequmlo_open(1024, 8, 5, s.trees, tree_bytes(1024), bytes, 32 * depth_of(1024)) == 0); }
 static void root(void) { MUST(dequmlo_root_of_path(BASE, 1024, 512, 5, s.levels, 1024, s.trees, 32).number == 0); }
@@ -74,6 +81,9 @@ int main(void) {
         {"digest", digest},
         {"commit", commit},
         {"fold", fold},
+        {"fold_levels", fold_levels},
+        {"level_domain", level_domain},
+        {"level_tree", level_tree},
         {"tree", tree},
         {"open", open},
         {"root_of_path", root},

@@ -3,11 +3,13 @@
 An operation gets its arguments, words as their bytes, and how long its outputs are, in halves of words or in bytes. It answers the numbers,
 and what the outputs hold; None for one that holds what it held."""
 import collections
+import struct
 
 import records
 from lines import FILL, shown
-from model import blake3, derive, encode, equality_table, extension, fold_tree_width, gamma_message, leaf_message, level_domain, mul, node_message, path
-from model import number as number_bytes, part, root_of_path, shift, tree
+from model import CHUNK_END, CHUNK_START, PARENT, ROOT_NODE, blake3, compress
+from model import derive, encode, equality_table, extension, fold_tree_width, gamma_message, leaf_message, level_domain, mul, node_message, path
+from model import fold as fold_first, number as number_bytes, part, root_of_path, shift, tree
 from records import Deposit, first_no, query, query_bytes, tail_bytes
 
 OPERATIONS = {}
@@ -296,6 +298,33 @@ def fed(message, times, last, _):
 ZEROS_2_24 = "b4834959bc889fed1abf3c45d5da0e384134386a4b2786cc5dbb9fe8fa853bbb"
 
 
+# what a state holds beside its counters in `state`: key words, chaining value, block, stack
+KEY, CHAINED, BLOCK, STACK = (1,) * 8, (2,) * 8, bytes([3]) * 64, (4,) * 112
+
+
+def finished(blocks, fill, chunks, depth):
+    """The digest that such a state with these counters finalizes to."""
+    flags = (CHUNK_START if blocks == 0 else 0) | CHUNK_END
+    node = (CHAINED, BLOCK[:fill].ljust(64, b"\0"), chunks, fill, flags)
+    for i in reversed(range(depth)):
+        node = (KEY, struct.pack("<16I", *STACK[8 * i : 8 * i + 8], *compress(*node)), 0, 64, PARENT)
+    h, block, counter, length, flags = node
+    return struct.pack("<8I", *compress(h, block, counter, length, flags | ROOT_NODE))
+
+
+@operation
+def state(counters, message, out):
+    """update's number and finalize's, by SPECIFICATION 8.5; finalize's digest, and the state that update hands back."""
+    blocks, fill, chunks, depth, length = counters
+    agree = [blocks <= 15, fill <= 64, length == 1024 * chunks + 64 * blocks + fill, min(1, length) <= fill, depth == chunks.bit_count()]
+    updated, finalized = (no((13, length + size <= 1 << 24), *((13, yes) for yes in agree)) for size in (len(message), 0))
+    assert updated or not message, "no state after an update is at hand"
+    digest = bytes(32) if finalized else finished(blocks, fill, chunks, depth)
+    arrays = b"".join(map(number_bytes, KEY + CHAINED + STACK)) + BLOCK
+    held = digest + arrays + b"".join(map(number_bytes, [0, blocks, fill, chunks, depth, length]))
+    return [updated, finalized], [held]
+
+
 # ---- trees
 
 
@@ -400,6 +429,53 @@ def commit(n, k, base, table, gammas, codeword, out):
     made = derive(base, n, k)
     words = encode(n, k, ints(table), made)
     return [0], [packed(made), packed(words), b"".join(tree(level_domain(base, 0), width, words))]
+
+
+@operation
+def domain_length(base, level):
+    number = no((4, level <= 20), (7, len(base) <= 200))
+    return [number, 0 if number else len(level_domain(base, level))], []
+
+
+@operation
+def domain_into(base, level, out):
+    domain = level_domain(base, level)
+    return done(no((4, level <= 20), (5, out == len(domain)), (7, len(base) <= 200)), domain)
+
+
+def level_sizes(n, k, l):
+    """Halves of the level's words, and bytes of its tree."""
+    count, width, _ = records.shape(n, k, l)
+    return 2 * count, 32 * (2 * (count // width) - 1)
+
+
+@operation
+def level_tree(n, k, l, base, values, out):
+    number = no((4, 1 <= n and in_range(n, k) and l <= n))
+    if number == 0:
+        number = no((5, (halves(values), out) == level_sizes(n, k, l)), (7, len(base) <= 200))
+    if number:
+        return [number], []
+    return [0], [b"".join(tree(level_domain(base, l), fold_tree_width(len(values) // 16), ints(values)))]
+
+
+@operation
+def fold_levels(n, k, base, challenges, codeword, levels, half, trees, roots):
+    before = (codeword + FILL * (8 * levels))[: 8 * levels]
+    number = no((4, 1 <= n and in_range(n, k)))
+    if number == 0:
+        sizes = [level_sizes(n, k, l) for l in range(n + 1)]
+        lent = (halves(challenges), levels, half, trees, roots)
+        fixed = (2 * n, sum(w for w, _ in sizes), sizes[1][0], sum(b for _, b in sizes), 32 * (n + 1))
+        number = no((5, lent == fixed), (7, len(base) <= 200))
+    if number:
+        return [number], [before]
+    made = [ints(before)[: 1 << n + k]]
+    for r in ints(challenges):
+        made.append(fold_first(made[-1], r))
+    built = [tree(level_domain(base, l), fold_tree_width(len(v)), v) for l, v in enumerate(made)]
+    every = b"".join(digest for digests in built for digest in digests)
+    return [0], [packed([w for level in made for w in level]), bytes(8 * half), every, b"".join(digests[-1] for digests in built)]
 
 
 class Lent(Deposit):
@@ -547,27 +623,68 @@ def tails(data, out):
     return [0, n, k], [packed(last_level(n, k, table, gammas, challenges)).ljust(256, b"\0")]
 
 
-class Run(Deposit):
-    """The table 5, 9, 3, 7 committed with k 1 under the domain `deposit`, and a list of fold calls."""
+def fold_number(n, k, var, codeword, room):
+    """The number of a fold of so many words into a room of so many halves."""
+    if n > 20 or k > 4:
+        return 4
+    if codeword != 1 << (n + k) or room != 2 * ((1 << (n + k)) // 2):
+        return 5
+    return 0 if var < n else 6
 
-    def __init__(self, calls):
-        self.n, self.k, self.base, self.challenges = 2, 1, b"deposit", []
-        self.levels = [encode(2, 1, [5, 9, 3, 7], derive(self.base, 2, 1))]
-        for var, r in calls:
-            if var < 2 - len(self.challenges):
+
+class Run(Deposit):
+    """A table committed, and a list of fold calls until n are done; the levels behind stay zeros."""
+
+    def __init__(self, n, k, base, table, calls):
+        self.n, self.k, self.base, self.challenges = n, k, base, []
+        self.levels = [encode(n, k, table, derive(base, n, k))]
+        for call_n, call_k, var, room, r in calls:
+            if len(self.challenges) < n and fold_number(call_n, call_k, var, len(self.levels[-1]), room) == 0:
                 self.levels.append(fold_at(self.levels[-1], var, r))
                 self.challenges.append(r)
-        self.trees = [tree(level_domain(self.base, l), fold_tree_width(len(v)), v) for l, v in enumerate(self.levels)]
+        self.levels += [[0] * (1 << (n + k - l)) for l in range(len(self.levels), n + 1)]
+        self.trees = [tree(level_domain(base, l), fold_tree_width(len(v)), v) for l, v in enumerate(self.levels)]
         self.roots = [digests[-1] for digests in self.trees]
 
 
+def run_questions(n, k, position, base, table, calls, challenges, lengths, kept):
+    """`lengths` are of the gammas, levels, half, trees, roots, query and tail record and the two messages."""
+    yield 4, 0, 1 <= n <= 20 and k <= 4
+    yield 5, 0, len(table) == 16 << n
+    yield 5, 0, len(calls) % 4 == 0 and len(challenges) == 4 * len(calls)
+    shapes = [records.shape(n, k, l) for l in range(n + 1)]
+    opened = [8 + 16 * width + 32 * depth for count, width, depth in shapes]
+    groups = [count // width for count, width, depth in shapes]
+    yield 5, 0, kept == 2 * n
+    yield 5, 0, lengths == [
+        2 * k * n,
+        sum(2 * count for count, width, depth in shapes),
+        1 << (n + k),
+        sum(32 * (2 * g - 1) for g in groups),
+        32 * (n + 1),
+        4 + sum(48 + a + c for a, c in zip(opened, opened[1:])),
+        4 + groups[n] * opened[n],
+        512,
+        512,
+    ]
+    yield 7, 0, len(base) <= 200
+    yield 11, 0, position < 1 << (n + k)
+
+
 @operation
-def run(variables, challenges, position, claim, out):
-    made = Run(zip(variables, ints(challenges)))
-    kept, roots = packed(made.challenges), b"".join(made.roots)
-    number, level = first_no(records.check_query(made.base, 2, 1, position, kept, roots, query_bytes(query(made, position))))
-    tail, _ = first_no(records.check_tail(made.base, 2, 1, claim, made.roots[2], tail_bytes(made.tail())))
-    return [len(made.challenges), number, level, tail], [roots]
+def run(n, k, position, base, table, calls, challenges, claim, first, second, lengths, kept, out, counts):
+    refusal, _ = first_no(run_questions(n, k, position, base, table, calls, challenges, lengths, kept))
+    if refusal:
+        return [refusal, 0, 0, 0], [None, None, bytes(32)]
+    made = Run(n, k, base, ints(table), zip(*(calls[i::4] for i in range(4)), ints(challenges)))
+    held, roots = packed(made.challenges).ljust(16 * n, FILL), b"".join(made.roots)
+    record, tail = query_bytes(query(made, position)), tail_bytes(made.tail())
+    number, level = first_no(records.check_query(base, n, k, position, held, roots, record))
+    number_of_tail, _ = first_no(records.check_tail(base, n, k, claim, made.roots[n], tail))
+    (compared, one, two), _ = compare(base, n, k, position, held, roots, first, second, 512, 512)
+    left = b"".join(part.ljust(size, FILL) for part, size in [(roots, 128), (record, 400), (tail, 64), (b"", 520), (b"", 520)])
+    done = b"".join(x.to_bytes(8, "little") for x in (len(made.challenges), level, one, two))
+    return [0, number, number_of_tail, compared], [held, left, done]
 
 
 @operation

@@ -120,6 +120,7 @@ def code(some):
     yield from ["derive 21 1 61 3", "derive 21 1 61x201 42", "derive 1 1 61x201 3", "fold 21 0 21 2 5,9 2", "fold 1 0 1 2 5,9 3"]
     for n, k in [(0, 0), (0, 4), (3, 2), (4, 1)]:
         yield "encode %d %d %s %s %d" % (n, k, hex_words(some(1 << n)), hex_words(some(n * k)), 2 << n + k)
+    yield from ["# n and k at their largest, of lengths that are not theirs", "encode 20 4 0x80 0x80 160", "fold 20 4 0 2 0x80 160"]
 
 
 def differences():

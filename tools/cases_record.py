@@ -12,7 +12,7 @@ from cases_field import text
 from damages import Damage, change, of_lengths, of_numbers, other_byte
 from lines import Store, hex_words
 from model import leaf_message, node_message, some_words, word_bytes
-from records import Deposit, OpenedDeposit, Reader, first_no, query, query_bytes, tail_bytes, words_bytes
+from records import Deposit, LastLevel, OpenedDeposit, Reader, first_no, query, query_bytes, tail_bytes, words_bytes
 
 # ---- what an entry is given
 
@@ -198,6 +198,8 @@ def accepted():
         yield right(title, build_tail(deposit))
     for n, k, base, position in [(20, 4, b"deposit", (1 << 24) - 1), (12, 3, b"a" * 200, 12345)]:
         yield right("n %d k %d" % (n, k), check_query(OpenedDeposit(n, k, base, position), position))
+    last = LastLevel(20, 4, b"deposit")
+    yield from (right("n 20 k 4: the last level", given) for given in (check_tail(last), build_tail(last)))
 
 
 def query_cases():
@@ -243,6 +245,7 @@ def build_cases():
         yield from alone_and_in_pairs(title, given, damages.heads_of_build(given.kind, given.n, given.k))
         yield from alone(title, given, damages.of_numbers(given))
         yield from alone(title, given, damages.of_lengths([("words", 16), ("trees", 32), ("out", 1)]))
+    yield from (right("n 20 k 4", dataclasses.replace(given, n=20, k=4), 5) for given in (given_query, given_tail))
 
 
 # ---- comparing
@@ -288,6 +291,8 @@ def compared():
     lengths = [("challenges", 16), ("roots", 32), ("first_message", 1), ("second_message", 1)]
     for ways in [of_numbers(given), of_lengths(lengths), of_records(given)]:
         yield from alone("compare", given, ways)
+    position = (1 << 24) - 1
+    yield right("n 20 k 4", compare(OpenedDeposit(20, 4, b"deposit", position), position), 33)
 
 
 # ---- chains of messages under a stand-in digest: two accepted records that differ would be a collision of BLAKE3
@@ -382,18 +387,86 @@ def tail_lines(store):
         yield line
 
 
-def run_lines():
+# what a run is lent for writing beside the kept challenges
+LENT = ["gammas", "levels", "half", "trees", "roots", "query record", "tail record", "first message", "second message"]
+
+
+@dataclasses.dataclass
+class WholeRun:
+    """The table 5, 9, 3, 7 committed with k 1 under the domain `deposit`, calls of n, k, variable, room and challenge, and two records to compare."""
+
+    calls: list
+    position: int = 5
+    claim: int = 0
+    first: bytes = b""
+    second: bytes = b""
+    n: int = 2
+    k: int = 1
+    base: str = b"deposit".hex()
+    table: str = "5,9,3,7"
+    numbers: typing.Optional[list] = None
+    challenges: typing.Optional[list] = None
+    lengths: tuple = (4, 28, 8, 352, 96, 388, 44, 512, 512)
+    kept: int = 4
+
+    def line(self, store):
+        numbers = [x for call in self.calls for x in call[:4]] if self.numbers is None else self.numbers
+        challenges = [call[4] for call in self.calls] if self.challenges is None else self.challenges
+        sizes = ",".join(map(str, self.lengths))
+        lent = self.n, self.k, self.position, self.base, self.table, ",".join(map(str, numbers)) or "-", hex_words(challenges) or "-", "%x" % self.claim
+        return "run %s %s %s %s %d 1632 32" % (" ".join(map(str, lent)), store.named(self.first), store.named(self.second), sizes, self.kept)
+
+
+def run_cases():
     from model import extension
 
-    table = [5, 9, 3, 7]
-    for remark, variables, challenges, position, claim in [
-        ("folds at variable 0", "0,0", [2, 4], 5, extension(table, [2, 4])),
-        ("refused calls among them", "2,0,1,0,0", [1, 2, 3, 4, 5], 0, extension(table, [2, 4])),
-        ("another claim", "0,0", [2, 4], 7, extension(table, [2, 4]) ^ 1),
-        ("a fold at variable 1", "1,0", [2, 4], 3, extension(table, [4, 2])),
-    ]:
+    table, folds = [5, 9, 3, 7], [(2, 1, 0, 8, 2), (1, 1, 0, 4, 4)]
+    made = answers.Run(2, 1, b"deposit", table, folds)
+    records_at = [query_bytes(query(made, position)) for position in range(8)]
+    claim = extension(table, [2, 4])
+    right = WholeRun(folds, 5, claim, records_at[5], records_at[5])
+    replace = dataclasses.replace
+    yield "folds at variable 0; equal records", right
+    refused = [(21, 1, 0, 8, 1), (2, 5, 0, 8, 1), (3, 1, 0, 16, 1), (2, 1, 0, 6, 1), (2, 1, 0, 1 << 40, 1), (2, 1, 2, 8, 1)]
+    for call in refused:
+        number = answers.fold_number(*call[:3], 8, call[3])
+        yield "a call refused with %d before them" % number, replace(right, calls=[call, *folds])
+    yield "refused calls among them", replace(right, calls=[refused[5], folds[0], refused[0], folds[0], folds[1], refused[3]], position=0, first=b"", second=b"")
+    yield "a call that would be done after n are", replace(right, calls=[*folds, (1, 0, 0, 2, 9)])
+    yield "a call with another n and k", replace(right, calls=[(1, 2, 0, 8, 2), folds[1]])
+    yield "one call", replace(right, calls=folds[:1])
+    yield "no call", replace(right, calls=[])
+    yield "another claim", replace(right, claim=claim ^ 1, position=7, first=records_at[7], second=records_at[7])
+    yield "a fold at variable 1", replace(right, calls=[(2, 1, 1, 8, 2), folds[1]], position=3, claim=extension(table, [4, 2]))
+    damaged = records_at[5][:20] + bytes([records_at[5][20] ^ 1]) + records_at[5][21:]
+    yield "a damaged record first", replace(right, first=damaged)
+    yield "a damaged record second", replace(right, second=damaged)
+    yield "a record for another position", replace(right, second=records_at[2])
+    wrong = [
+        ("n 0", 4, dict(n=0)),
+        ("n 21", 4, dict(n=21)),
+        ("k 5", 4, dict(k=5)),
+        ("a table of three words", 5, dict(table="5,9,3")),
+        ("three numbers of a call", 5, dict(numbers=[2, 1, 0])),
+        ("a challenge too few", 5, dict(challenges=[2])),
+        *((what, 5, dict(lengths=(*right.lengths[:i], right.lengths[i] - 1, *right.lengths[i + 1 :]))) for i, what in enumerate(LENT)),
+        ("kept challenges", 5, dict(kept=3)),
+        ("a base domain of 201 bytes", 7, dict(base="61x201")),
+        ("a position past the end", 11, dict(position=8)),
+    ]
+    for remark, number, changes in wrong:
+        yield "%d: %s" % (number, remark), replace(right, **changes)
+    for (_, number, one), (_, later, two) in itertools.combinations([wrong[1], wrong[3], wrong[-2], wrong[-1]], 2):
+        yield "%d before %d" % (number, later), replace(right, **one, **two)
+
+
+def run_lines():
+    store = Store()
+    for remark, case in run_cases():
+        line = case.line(store)
+        yield from kept(store)
         yield "# " + remark
-        yield "run %s %s %d %x 96" % (variables, hex_words(challenges), position, claim)
+        yield line
 
 
 def level_lines():
@@ -412,6 +485,35 @@ def commit_lines():
         given = list(right_sizes)
         given[i], given[j] = x, y
         yield "commit " + " ".join(map(str, given))
+    yield from ["# n and k at their largest", "commit 20 4 61 5,9 2 8 96"]
+
+
+def in_pairs(name, right, wrong):
+    """A line with what is right, and lines with one or two arguments wrong."""
+    yield " ".join([name, *map(str, right)])
+    for (i, x), (j, y) in itertools.combinations_with_replacement(wrong, 2):
+        given = list(right)
+        given[i], given[j] = x, y
+        yield " ".join([name, *map(str, given)])
+
+
+def all_levels_lines():
+    """The entries on levels: what they answer, and 4, 5 and 7, alone and in pairs."""
+    yield from ("domain_length %s %d" % (base, level) for base in ("-", "61", "61x200", "61x201") for level in (0, 9, 10, 20, 21, 99, 100))
+    for level in (0, 9, 10, 20):
+        yield from in_pairs("domain_into", ["61", level, 8 + len(str(level))], [(1, 21), (1, 100), (2, 8), (2, 11), (0, "61x201")])
+    yield from ["domain_into 61x200 20 209", "domain_into 61x201 20 210", "domain_into 61x201 21 210", "domain_into - 0 8"]
+    for l, words, size in ((0, 8, 224), (1, 4, 96), (2, 2, 32)):
+        values = ",".join(str(3 * i + 1) for i in range(words))
+        yield from in_pairs("level_tree", [2, 1, l, "61", values, size], [(0, 0), (0, 21), (1, 5), (2, 3), (4, "5"), (5, size - 1), (5, size + 1), (3, "61x201")])
+    yield "level_tree 4 4 0 61x200 7x256 %d" % (32 * 63)
+    yield from in_pairs(
+        "fold_levels",
+        [2, 1, "61", "2,4", "5,9,3,7,33,45,1,2", 28, 8, 352, 96],
+        [(0, 0), (0, 21), (1, 5), (3, "2"), (3, "2,4,6"), (5, 27), (6, 7), (6, 9), (7, 351), (8, 95), (2, "61x201")],
+    )
+    yield from ["fold_levels 1 0 - 2 5,9 6 2 64 64", "fold_levels 1 1 61x200 2 5,9,33,45 12 4 128 64"]
+    yield "fold_levels 5 2 61 1,2,3,4,5 9x128 %d 128 %d 192" % (2 * (128 + 64 + 32 + 16 + 8 + 4), 32 * (31 + 15 + 7 + 3 + 7 + 3))
 
 
 def difference_lines():
@@ -445,6 +547,7 @@ def files():
     compare_store = Store()
     return [
         ("levels.txt", text([*level_lines(), *commit_lines()])),
+        ("all_levels.txt", text(all_levels_lines())),
         ("accepted.txt", text(case_lines(accepted()))),
         ("query.txt", text(case_lines(query_cases()))),
         ("tail.txt", text(case_lines(tail_cases()))),

@@ -74,6 +74,37 @@ def refusals():
     yield "leaf_message 64 16 8 0 1x8"
 
 
+def states():
+    """A hasher's states whose counters disagree with the byte count, each counter alone and both ways, and those at 2^24 bytes and past it, put to
+    update and to finalize: blocks, fill, chunks, depth, byte count."""
+    size = 32 + 8 * (8 + 8 + 112 + 6) + 64
+    last = 1 << 24
+
+    def lines(counters, messages=("-", "00")):
+        yield from ("state %s %s %d" % (",".join(map(str, counters)), message, size) for message in messages)
+
+    yield "# counters that agree: none, one byte, a full block, a full chunk, more chunks, 2^24 bytes"
+    agreeing = [(0, 0, 0, 0, 0), (0, 1, 0, 0, 1), (0, 64, 0, 0, 64), (15, 64, 0, 0, 1024), (3, 5, 6, 2, 6341), (15, 64, 16383, 14, last)]
+    for counters in agreeing:
+        yield from lines(counters, ["-"])
+    yield "# one counter alone, one more and one less"
+    for counters in agreeing:
+        for i in range(5):
+            for step in (1, -1):
+                wrong = [x + step * (j == i) for j, x in enumerate(counters)]
+                if min(wrong) >= 0:
+                    yield from lines(wrong)
+    yield "# a block and a chunk that are finished before a byte follows, blocks and fill past their most, the largest numbers"
+    for counters in [(1, 0, 0, 0, 64), (0, 0, 1, 1, 1024), (16, 0, 0, 0, 1024), (16, 1, 0, 0, 1025), (0, 65, 0, 0, 65), (14, 128, 0, 0, 1024)]:
+        yield from lines(counters)
+    for i in range(5):
+        yield from lines([(1 << 64) - 1 if j == i else x for j, x in enumerate((3, 5, 6, 2, 6341))])
+    yield "# the byte count at 2^24 and one past it, with counters that agree; calls whose bytes go past it"
+    yield from lines((15, 64, 16383, 14, last), ["00", "00x1024"])
+    yield from lines((0, 1, 16384, 1, last + 1))
+    yield from lines((15, 63, 16383, 14, last - 1), ["-", "0000"])
+
+
 def trees():
     """Every shape under every domain; large trees under those whose trees the Rust does not build."""
     yield "= " + letters(255).hex()
@@ -124,5 +155,6 @@ def files():
         ("trees.txt", text(trees())),
         ("openings.txt", text(openings())),
         ("refusals.txt", text(refusals())),
+        ("states.txt", text(states())),
         ("differences.txt", text(differences())),
     ]

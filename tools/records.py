@@ -233,6 +233,16 @@ class OpenedDeposit:
         return self.openings[l]
 
 
+class LastLevel(Deposit):
+    """A deposit that is too long to make: its last level alone, of any values."""
+
+    def __init__(self, n, k, base):
+        values = some_words("last level %d %d" % (n, k), 1 << k)
+        self.n, self.k, self.base, self.levels = n, k, base, [[]] * n + [values]
+        self.trees = [[]] * n + [tree(level_domain(base, n), fold_tree_width(1 << k), values)]
+        self.roots = [self.trees[n][-1]]
+
+
 def query(deposit, position):
     """The levels of a deposit's query record."""
     levels = []

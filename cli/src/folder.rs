@@ -2,6 +2,7 @@
 //! from before there were check lines by its parameters and its summary.
 
 use crate::check_lines::{CheckLines, CHECK};
+use crate::manifest::MANIFEST;
 use crate::opening::record_position;
 use crate::reading::{inside, listed, reason, shown_name};
 use std::ffi::OsStr;
@@ -21,17 +22,20 @@ const MOST_BYTES: usize = 1 << 24;
 pub enum Kind {
     Seal,
     Opening,
+    /// What a checker asks.
+    Request,
     /// Two messages with one digest.
     Collision,
 }
 
 impl Kind {
-    pub const ALL: [Kind; 3] = [Kind::Seal, Kind::Opening, Kind::Collision];
+    pub const ALL: [Kind; 4] = [Kind::Seal, Kind::Opening, Kind::Request, Kind::Collision];
 
     pub fn name(self) -> &'static str {
         match self {
             Kind::Seal => "a seal",
             Kind::Opening => "an opening",
+            Kind::Request => "a request",
             Kind::Collision => "a pair of messages",
         }
     }
@@ -41,11 +45,12 @@ impl Kind {
         match self {
             Kind::Seal => "A deposit seal.",
             Kind::Opening => "An opening of the sealed file",
+            Kind::Request => "A request to the holder of a sealed file.",
             Kind::Collision => "both records are accepted and they differ",
         }
     }
 
-    /// The files that every folder of this kind has. Check lines came later, and an opening has records too.
+    /// The files that every folder of this kind has.
     fn files(self) -> &'static [&'static str] {
         match self {
             Kind::Seal => &["parameters.txt", "root.txt", SUMMARY],
@@ -57,17 +62,32 @@ impl Kind {
                 "tail.record",
                 SUMMARY,
             ],
+            Kind::Request => &[
+                "parameters.txt",
+                "root.txt",
+                "asked.txt",
+                "challenges.txt",
+                SUMMARY,
+            ],
             Kind::Collision => &["first.message", "second.message", SUMMARY],
+        }
+    }
+
+    /// The files that a folder of this kind may have beside them: check lines came later, a project has its manifest, an opening has records,
+    /// and a request gets the rest with the holder's answer.
+    fn may_have(self, name: &str) -> bool {
+        match self {
+            _ if name == CHECK => true,
+            Kind::Seal => name == MANIFEST,
+            Kind::Opening => name == MANIFEST || record_position(name).is_some(),
+            Kind::Request => ["roots.txt", "claim.txt", "positions.txt"].contains(&name),
+            _ => false,
         }
     }
 
     /// Whether this program writes a file of this name into a folder of this kind.
     pub fn has(self, name: &OsStr) -> bool {
-        let known = |name: &str| {
-            self.files().contains(&name)
-                || name == CHECK
-                || self == Kind::Opening && record_position(name).is_some()
-        };
+        let known = |name: &str| self.files().contains(&name) || self.may_have(name);
         name.to_str().map_or(false, known)
     }
 }

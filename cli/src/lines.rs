@@ -1,6 +1,7 @@
-//! Text files of words or roots, one to a line. Blanks at a line's ends, a carriage return before its end and empty lines after the last one
-//! are passed over.
+//! Text files of words or roots, one to a line, behind the line with their format. Blanks at a line's ends, a carriage return before its end
+//! and empty lines after the last one are passed over.
 
+use crate::format::{marked, Body};
 use crate::outcome::Failure;
 use std::fmt::Display;
 use std::path::Path;
@@ -17,13 +18,16 @@ where
     T: FromStr,
     T::Err: Display,
 {
-    text.trim_end()
+    let body = Body::of(path, text)?;
+    let first = if body.marked { 2 } else { 1 };
+    body.text
+        .trim_end()
         .lines()
         .enumerate()
         .map(|(i, line)| {
             line.trim()
                 .parse()
-                .map_err(|e| Failure(format!("{}, line {}: {e}", path.display(), i + 1)))
+                .map_err(|e| Failure(format!("{}, line {}: {e}", path.display(), i + first)))
         })
         .collect()
 }
@@ -39,13 +43,18 @@ where
     match items.pop() {
         Some(item) if count == 1 => Ok(item),
         _ => Err(Failure(format!(
-            "{} has {count} lines, and it must have one",
+            "{} has {count} values, and it must have one",
             path.display()
         ))),
     }
 }
 
-/// Items as a text.
+/// Items, one to a line.
 pub fn text<T: Display>(items: &[T]) -> String {
     items.iter().map(|item| format!("{item}\n")).collect()
+}
+
+/// Items as the bytes of a file.
+pub fn file<T: Display>(items: &[T]) -> Vec<u8> {
+    marked(&text(items)).into_bytes()
 }

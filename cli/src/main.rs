@@ -3,19 +3,31 @@
 //! questions.
 
 mod check_lines;
+mod clock;
 mod commands;
 mod console;
+mod drawing;
 mod folder;
+mod format;
+mod found;
 mod help;
 mod hex;
 mod json;
 mod lines;
+mod manifest;
+mod old_words;
+mod opened;
 mod opening;
 mod options;
 mod outcome;
+mod part;
+mod picture;
 mod progress;
+mod project;
 mod questions;
 mod reading;
+mod report;
+mod request;
 mod seal;
 mod shape;
 mod shown;
@@ -46,16 +58,17 @@ fn run(options: &Options) -> Result<Outcome, Failure> {
     }
     match options.command.as_str() {
         "commit" => commands::commit::run(options),
+        "ask" => commands::ask::run(options),
         "open" => commands::open::run(options),
         "check" => commands::check::run(options),
+        "show" => commands::show::run(options),
         "tail" => commands::tail::run(options),
+        "verify" => commands::verify::run(options),
         "compare" => commands::compare::run(options),
         "explain" => commands::explain::run(options),
         "demo" => commands::demo::run(options),
-        "help" | "-h" => help::run(options),
+        "help" => help::run(options),
         "version" | "--version" | "-V" => help::version(options),
-        other => Err(Failure(format!(
-            "there is no command `{other}`; `seal help` lists them"
-        ))),
+        other => Err(help::no_such_command(other)),
     }
 }

@@ -1,5 +1,7 @@
 //! An opening: what a holder shows of a sealed file, a folder of plain files.
 //!
+//! Each text of these but the last two begins with the line of its format (format.rs).
+//!
 //!     parameters.txt     as in the seal
 //!     challenges.txt     n words, one to a line, 32 hexadecimal digits, highest first
 //!     roots.txt          the roots of levels 0 to n, one to a line; the first is the root of the seal that it was made for
@@ -11,7 +13,9 @@
 
 use crate::check_lines::with_check_lines;
 use crate::folder::{Kind, Named, SUMMARY};
+use crate::format::signature;
 use crate::lines;
+use crate::manifest::MANIFEST;
 use crate::shape::{Shape, PARAMETERS};
 use dequmlo::{QueryRecord, Root, TailRecord, Word};
 
@@ -32,28 +36,28 @@ pub struct Opening {
 }
 
 impl Opening {
-    pub fn files(&self, file: &str, drawn: &str) -> Vec<Named> {
+    /// The files of an opening; a project's has its manifest too.
+    pub fn files(&self, file: &str, drawn: &str, manifest: Option<Vec<u8>>) -> Vec<Named> {
         let positions: Vec<String> = self.queries.iter().map(|(p, _)| p.to_string()).collect();
         let summary = format!(
             "{} {file}.\n\nRecords at {} positions: {}.\nThe challenges: {drawn}.\nMade for the root: {}\nTerminal claim: {}\n\n\
-             `seal check` checks it against a seal.\n",
+             `seal check` checks it against a seal.\n\n{}",
             Kind::Opening.heading(),
             positions.len(),
             positions.join(", "),
             self.roots[0],
-            self.claim
+            self.claim,
+            signature()
         );
         let mut files: Vec<Named> = vec![
-            (PARAMETERS.into(), self.shape.text().into_bytes()),
-            (
-                CHALLENGES.into(),
-                lines::text(&self.challenges).into_bytes(),
-            ),
-            (ROOTS.into(), lines::text(&self.roots).into_bytes()),
-            (CLAIM.into(), lines::text(&[self.claim]).into_bytes()),
+            (PARAMETERS.into(), self.shape.file()),
+            (CHALLENGES.into(), lines::file(&self.challenges)),
+            (ROOTS.into(), lines::file(&self.roots)),
+            (CLAIM.into(), lines::file(&[self.claim])),
             (TAIL.into(), self.tail.bytes().to_vec()),
             (SUMMARY.into(), summary.into_bytes()),
         ];
+        files.extend(manifest.map(|bytes| (MANIFEST.into(), bytes)));
         files.extend(
             self.queries
                 .iter()

@@ -13,25 +13,53 @@ pub struct Options {
     named: Vec<(String, OsString)>,
 }
 
-/// The options that take no value.
-const FLAGS: [&str; 4] = ["--json", "--force", "--own-questions", "--help"];
+/// An option: its name, its value as the help shows it, and what it means. A flag has no value.
+pub struct Known {
+    pub name: &'static str,
+    pub value: &'static str,
+    pub means: &'static str,
+}
 
-/// The options that take a value.
-const NAMED: [&str; 13] = [
-    "--profile",
-    "--k",
-    "--domain",
-    "--out",
-    "--seal",
-    "--challenges",
-    "--seed",
-    "--at",
-    "--positions",
-    "--roots",
-    "--count",
-    "--claim",
-    "--opening",
+const fn option(name: &'static str, value: &'static str, means: &'static str) -> Known {
+    Known { name, value, means }
+}
+
+/// Every option, in the order of the help.
+pub const OPTIONS: [Known; 24] = [
+    option("--seal", "FOLDER", "the seal, as `seal commit` wrote it"),
+    option("--asked", "FOLDER", "the request that `seal ask` wrote; it has challenges, positions, roots and claim"),
+    option("--answer", "FOLDER", "the holder's answer to a request without positions, as `seal open` wrote it"),
+    option("--by", "TEXT", "who asks: a name that the request has for people"),
+    option("--opening", "FOLDER", "the opening that names the challenges and the roots, or that shows words of the sealed file"),
+    option("--profile", "NAME", "k and the base domain by a name: default, fastchunk, balanced, compactwrap, deepwrap"),
+    option("--k", "K", "k by itself, from 0 to 4, together with --domain"),
+    option("--domain", "TEXT", "the base domain by itself, at most 200 bytes, together with --k"),
+    option("--challenges", "FILE", "the checker's challenges, n words, one to a line"),
+    option("--at", "P,P,..", "the checker's positions"),
+    option("--positions", "FILE", "the checker's positions in a file, with blanks or line ends between them"),
+    option("--offset", "B,B,..", "bytes of the file, from 0, in place of positions: the words that hold them"),
+    option("--file", "PATH", "the file of a project, by its path below the project's folder"),
+    option("--part", "I", "the part of a large file of a project, from 1, where no offset says it"),
+    option("--seed", "TEXT", "for trying it out: draws challenges and positions from a text, which whoever knows it can do too"),
+    option("--count", "N", "how many positions are drawn; where nothing is drawn, 0 for none"),
+    option("--roots", "FILE", "the roots of all levels that the checker kept, in place of the opening's"),
+    option("--claim", "WORD", "the terminal claim that is expected, in place of the opening's"),
+    option("--own-questions", "", "checks by the holder's own challenges and positions, which is never an acceptance"),
+    option("--report", "FILE", "writes what was found as a page for the archive's file, FILE.html"),
+    option("--out", "FOLDER", "where to write, in place of the folder beside the file"),
+    option("--force", "", "replaces a folder that holds exactly what this program wrote"),
+    option("--json", "", "prints one object for programs"),
+    option("--help", "", "shows a command with its options; -h is the same"),
 ];
+
+/// The option of this name, if there is one.
+fn known(name: &str) -> Option<&'static Known> {
+    OPTIONS.iter().find(|option| option.name == name)
+}
+
+fn is_flag(name: &str) -> bool {
+    known(name).map_or(false, |option| option.value.is_empty())
+}
 
 impl Options {
     /// The first word that is no flag is the command. After `--` every word is an operand.
@@ -43,9 +71,8 @@ impl Options {
         while let Some(word) = words.next() {
             match word.to_str() {
                 Some("--") if !only_operands => only_operands = true,
-                Some(flag) if !only_operands && FLAGS.contains(&flag) => {
-                    options.flags.push(flag.into())
-                }
+                Some("-h") if !only_operands => options.flags.push("--help".into()),
+                Some(flag) if !only_operands && is_flag(flag) => options.flags.push(flag.into()),
                 Some(name) if !only_operands && command.is_some() && is_option(name) => {
                     let value = options.new_value(name, words.next())?;
                     options.named.push((name.into(), value));
@@ -57,13 +84,18 @@ impl Options {
         options.command = match command {
             Some(command) => command,
             None if options.has("--help") => "help".into(),
-            None => return Err(Failure(format!("name a command:\n{}", crate::help::USAGE))),
+            None => {
+                return Err(Failure(format!(
+                    "name a command:\n{}",
+                    crate::help::usage()
+                )))
+            }
         };
         Ok(options)
     }
 
     fn new_value(&self, name: &str, value: Option<&OsString>) -> Result<OsString, Failure> {
-        if !NAMED.contains(&name) {
+        if known(name).is_none() {
             return Err(Failure(format!(
                 "there is no option {name}; `seal help` lists them"
             )));
@@ -86,13 +118,16 @@ impl Options {
         for name in given {
             if !taken.contains(&name.as_str()) {
                 return Err(Failure(format!(
-                    "`seal {}` takes no {name}; `seal help` lists what it takes",
+                    "`seal {0}` takes no {name}; `seal help {0}` lists what it takes",
                     self.command
                 )));
             }
         }
         if self.operands.len() != operands {
-            return Err(Failure(format!("`seal {}` needs {what}", self.command)));
+            return Err(Failure(format!(
+                "`seal {0}` needs {what}; `seal help {0}` says more",
+                self.command
+            )));
         }
         Ok(())
     }
@@ -100,6 +135,11 @@ impl Options {
     /// Whether an option without a value is given.
     pub fn has(&self, flag: &str) -> bool {
         self.flags.iter().any(|given| given == flag)
+    }
+
+    /// Whether an option is given, with a value or without one.
+    pub fn given(&self, name: &str) -> bool {
+        self.has(name) || self.value(name).is_some()
     }
 
     fn value(&self, name: &str) -> Option<&OsString> {

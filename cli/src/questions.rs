@@ -1,9 +1,13 @@
-//! What a checker asks: challenges and positions, from the checker's own files or, for trying it out, drawn from a seed text.
+//! What a checker asks: a request, or challenges and positions from the checker's own files or, for trying it out, drawn from a seed text.
 
+use crate::format::Body;
 use crate::lines::{items, most_bytes};
+use crate::manifest::PART;
 use crate::options::Options;
 use crate::outcome::Failure;
 use crate::reading::named_text;
+use crate::request::Request;
+use crate::seal::Seal;
 use crate::shape::Shape;
 use dequmlo::Word;
 use std::collections::BTreeSet;
@@ -14,6 +18,33 @@ pub const SEED_WARNING: &str = "the questions come from a seed text: good for tr
 
 /// The most bytes that a file of positions is read for.
 const MOST_POSITIONS: usize = 1 << 20;
+
+/// The request that the options name, which has everything that a checker asks; none where they name none.
+pub fn requested(options: &Options, seal: &Seal) -> Result<Option<Request>, Failure> {
+    let folder = match options.path("--asked") {
+        Some(folder) => folder,
+        None => return Ok(None),
+    };
+    match OTHERS.iter().find(|name| options.given(name)) {
+        Some(name) => Err(Failure(format!(
+            "--asked names all that is asked, and excludes {name}"
+        ))),
+        None => Request::read(&folder, seal).map(Some),
+    }
+}
+
+/// What a request has, when it is given by options.
+const OTHERS: [&str; 9] = [
+    "--challenges",
+    "--seed",
+    "--at",
+    "--positions",
+    "--offset",
+    "--count",
+    "--roots",
+    "--claim",
+    "--own-questions",
+];
 
 /// The challenges that the options name, and where they come from; none where they name none.
 pub fn challenges(options: &Options, n: usize) -> Result<Option<(Vec<Word>, String)>, Failure> {
@@ -41,13 +72,18 @@ pub fn challenges(options: &Options, n: usize) -> Result<Option<(Vec<Word>, Stri
 
 /// The positions that the options name, or that a seed draws, rising, each once; none where they name none. `--count 0` names the empty list.
 pub fn positions(options: &Options, shape: &Shape) -> Result<Option<Vec<usize>>, Failure> {
+    if let Some(offsets) = offsets(options)? {
+        return places(options, shape, &offsets).map(Some);
+    }
     let count = options.number("--count")?;
     let given = match (options.text("--at")?, options.path("--positions")) {
         (Some(_), Some(_)) => {
             return Err(Failure("--at and --positions exclude each other".into()))
         }
         (Some(text), None) => text.replace(',', " "),
-        (None, Some(path)) => named_text(&path, MOST_POSITIONS)?,
+        (None, Some(path)) => Body::of(&path, &named_text(&path, MOST_POSITIONS)?)?
+            .text
+            .into(),
         (None, None) => return drawn(options, shape, count),
     };
     if count.is_some() {
@@ -62,6 +98,41 @@ pub fn positions(options: &Options, shape: &Shape) -> Result<Option<Vec<usize>>,
         .map(read)
         .collect::<Result<_, _>>()?;
     Ok(Some(positions.into_iter().collect()))
+}
+
+/// The offsets in a file that the options name.
+pub fn offsets(options: &Options) -> Result<Option<Vec<u64>>, Failure> {
+    let offset = |word: &str| {
+        word.parse()
+            .map_err(|_| Failure(format!("`{word}` is no offset")))
+    };
+    let text = options.text("--offset")?;
+    text.map(|text| text.split(',').map(offset).collect())
+        .transpose()
+}
+
+/// The positions of the words that hold these bytes of a file, or of a part of one, rising, each once.
+fn places(options: &Options, shape: &Shape, offsets: &[u64]) -> Result<Vec<usize>, Failure> {
+    if let Some(name) = ["--at", "--positions", "--count"]
+        .iter()
+        .find(|name| options.given(name))
+    {
+        return Err(Failure(format!("--offset excludes {name}")));
+    }
+    let is_part = options.given("--file");
+    let words = 1u64 << shape.n;
+    let mut positions = BTreeSet::new();
+    for offset in offsets {
+        let within = if is_part { offset % PART } else { *offset };
+        // The last word of the table is the length.
+        if within / 16 + 1 >= words {
+            return Err(Failure(format!(
+                "offset {offset} is outside the sealed file"
+            )));
+        }
+        positions.insert((within / 16) as usize);
+    }
+    Ok(positions.into_iter().collect())
 }
 
 fn drawn(

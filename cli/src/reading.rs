@@ -5,8 +5,8 @@ use crate::outcome::Failure;
 use crate::system::{O_NOFOLLOW, O_NONBLOCK};
 use std::ffi::{OsStr, OsString};
 use std::fmt;
-use std::fs::{self, FileType, OpenOptions};
-use std::io::{ErrorKind, Read};
+use std::fs::{self, File, FileType, OpenOptions};
+use std::io::{ErrorKind, Read, Seek, SeekFrom};
 use std::os::unix::fs::{FileTypeExt, OpenOptionsExt};
 use std::path::Path;
 
@@ -45,7 +45,17 @@ pub fn inside(folder: &Path, name: &str, most: usize) -> Result<Vec<u8>, Unread>
     bytes(&path, O_NOFOLLOW, most)
 }
 
-/// The same for a file that the command line names, which may be a link to one.
+/// The bytes of a regular file, no link, from a place on: so many, or fewer where it ends before.
+pub fn stretch(path: &Path, start: u64, size: usize) -> Result<Vec<u8>, Unread> {
+    regular(fs::symlink_metadata(path)?.file_type())?;
+    let mut file = opened(path, O_NOFOLLOW)?;
+    let mut bytes = Vec::with_capacity(size);
+    file.seek(SeekFrom::Start(start))?;
+    file.take(size as u64).read_to_end(&mut bytes)?;
+    Ok(bytes)
+}
+
+/// The first bytes of a file that the command line names, which may be a link to one.
 pub fn named(path: &Path, most: usize) -> Result<Vec<u8>, Failure> {
     fs::metadata(path)
         .map_err(Unread::from)
@@ -95,6 +105,11 @@ pub fn shown_name(name: &OsStr) -> String {
         .collect()
 }
 
+/// A path as it is shown, by the same rule.
+pub fn shown_path(path: &Path) -> String {
+    shown_name(path.as_os_str())
+}
+
 /// Whether a file lies in a folder, links followed.
 pub fn lies_in(path: &Path, folder: &Path) -> bool {
     match (path.canonicalize(), folder.canonicalize()) {
@@ -104,7 +119,7 @@ pub fn lies_in(path: &Path, folder: &Path) -> bool {
 }
 
 pub fn unreadable(path: &Path, why: impl fmt::Display) -> Failure {
-    Failure(format!("cannot read {}: {why}", path.display()))
+    Failure(format!("cannot read {}: {why}", shown_path(path)))
 }
 
 /// What a folder holds, each name with whether it is a regular file; none where there are more than `most`.
@@ -132,25 +147,34 @@ fn text(path: &Path, bytes: Vec<u8>, most: usize) -> Result<String, Failure> {
 }
 
 fn bytes(path: &Path, flags: i32, most: usize) -> Result<Vec<u8>, Unread> {
+    let mut bytes = Vec::new();
+    let file = opened(path, flags)?;
+    file.take(most as u64 + 1).read_to_end(&mut bytes)?;
+    Ok(bytes)
+}
+
+fn opened(path: &Path, flags: i32) -> Result<File, Unread> {
     let file = OpenOptions::new()
         .read(true)
         .custom_flags(flags | O_NONBLOCK)
         .open(path)?;
     // What was looked at before may have been changed since.
     regular(file.metadata()?.file_type())?;
-    let mut bytes = Vec::new();
-    file.take(most as u64 + 1).read_to_end(&mut bytes)?;
-    Ok(bytes)
+    Ok(file)
 }
 
 fn regular(found: FileType) -> Result<(), Unread> {
-    let what = match found {
-        t if t.is_file() => return Ok(()),
-        t if t.is_symlink() => "a link",
-        t if t.is_dir() => "a folder",
-        t if t.is_fifo() => "a named pipe",
-        t if t.is_socket() => "a socket",
-        _ => "a device",
-    };
-    Err(Unread::NotAFile(what))
+    not_a_file(found).map_or(Ok(()), |what| Err(Unread::NotAFile(what)))
+}
+
+/// What something is that is no regular file; none where it is one.
+pub fn not_a_file(found: FileType) -> Option<&'static str> {
+    match found {
+        t if t.is_file() => None,
+        t if t.is_symlink() => Some("a link"),
+        t if t.is_dir() => Some("a folder"),
+        t if t.is_fifo() => Some("a named pipe"),
+        t if t.is_socket() => Some("a socket"),
+        _ => Some("a device"),
+    }
 }

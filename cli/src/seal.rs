@@ -1,4 +1,5 @@
-//! A seal: a small folder with the parameters, the root, their check lines, and a summary for a person.
+//! A seal: a small folder with the parameters, the root, their check lines, and a summary for a person. The first two begin with the line of
+//! their format (format.rs).
 //!
 //!     parameters.txt   n, k and the base domain (shape.rs)
 //!     root.txt         64 hexadecimal digits
@@ -7,14 +8,21 @@
 
 use crate::check_lines::{with_check_lines, CheckLines, CHECK};
 use crate::folder::{Kind, Named, SUMMARY};
-use crate::lines::{most_bytes, one};
+use crate::format::{all_known, signature, Body};
+use crate::lines::{self, most_bytes, one};
+use crate::manifest::{Manifest, MANIFEST};
 use crate::outcome::Failure;
-use crate::reading::text_inside;
+use crate::part::Part;
+use crate::reading::{inside, shown_name, text_inside};
 use crate::shape::{Shape, PARAMETERS};
 use dequmlo::{Root, Sizes};
+use std::ffi::OsStr;
 use std::path::Path;
 
-const ROOT: &str = "root.txt";
+pub const ROOT: &str = "root.txt";
+
+/// More than a summary has whose file's name is as long as a name can be.
+const MOST_OF_A_SUMMARY: usize = 16_384;
 
 /// The folder that `--seal` names, for what is said where it is missing.
 pub const SEAL_FOLDER: &str = "the folder that `seal commit` wrote";
@@ -23,10 +31,14 @@ pub struct Seal {
     pub shape: Shape,
     pub sizes: Sizes,
     pub root: Root,
+    /// What its summary says of the file, where its check line says that the summary is as it was written.
+    pub summary: Option<String>,
     /// Whether its own check lines say that it is as it was written.
     pub vouched: bool,
     /// What a verdict under this seal has to say of it.
     pub notes: Vec<String>,
+    /// Where it is that of a part of a project, which one.
+    pub part: Option<Part>,
 }
 
 impl Seal {
@@ -38,6 +50,7 @@ impl Seal {
                 folder.display()
             )));
         }
+        all_known(folder, &[PARAMETERS, ROOT])?;
         parts(folder).map_err(|Failure(what)| {
             Failure(format!(
                 "the seal in {} is damaged or cannot be read, so nothing was checked and nothing is said of an opening: {what}. Take the seal from a copy \
@@ -53,25 +66,60 @@ impl Seal {
         let summary = format!(
             "{}\n\nIt stands for the file {file} of {bytes} bytes, as a table of {} words (n = {n}, k = {k}), under the base \
              domain {}.\nRoot: {root}\n\nWhoever keeps this root can check that what a holder shows later is what was deposited:\n\
-             `seal open` makes what is shown, `seal check` checks it.\n",
+             `seal open` makes what is shown, `seal check` checks it.\n\n{}",
             Kind::Seal.heading(),
             1usize << n,
             shape.shown_domain(),
+            signature()
         );
         with_check_lines(vec![
-            (PARAMETERS.into(), shape.text().into_bytes()),
-            (ROOT.into(), root_text(root).into_bytes()),
+            (PARAMETERS.into(), shape.file()),
+            (ROOT.into(), lines::file(&[root])),
+            (SUMMARY.into(), summary.into_bytes()),
+        ])
+    }
+}
+
+impl Seal {
+    /// The files of a project's seal.
+    pub fn project_files(
+        shape: &Shape,
+        root: &Root,
+        project: &str,
+        manifest: &Manifest,
+    ) -> Vec<Named> {
+        let summary = format!(
+            "{}\n\nIt stands for the project {project}: {} files of {} bytes in all, in {} parts.\n\
+             {MANIFEST} lists them with the root of each part, and the root below is that of {MANIFEST}, as a table of {} words (n = {}, k = {}), under the base domain {}.\nRoot: {root}\n\n\
+             Whoever keeps this root can check that what a holder shows later is what was deposited:\n`seal open` makes what is shown of a file, `seal check` \
+             checks it, `seal verify` says what has changed.\n\n{}",
+            Kind::Seal.heading(),
+            manifest.0.len(),
+            manifest.bytes(),
+            manifest.parts(),
+            1usize << shape.n,
+            shape.n,
+            shape.k,
+            shape.shown_domain(),
+            signature()
+        );
+        with_check_lines(vec![
+            (PARAMETERS.into(), shape.file()),
+            (ROOT.into(), lines::file(&[root])),
+            (MANIFEST.into(), manifest.text().into_bytes()),
             (SUMMARY.into(), summary.into_bytes()),
         ])
     }
 }
 
 fn parts(folder: &Path) -> Result<Seal, Failure> {
-    let (shape, sizes, untidy_shape) = Shape::read(folder)?;
+    let parameters = Shape::read(folder)?;
+    let path = folder.join(ROOT);
     let text = text_inside(folder, ROOT, most_bytes(1, 64))?;
-    let root: Root = one(&folder.join(ROOT), &text)?;
+    let root: Root = one(&path, &text)?;
+    let written = Body::of(&path, &text)?.written(&lines::text(&[root]));
     let mut notes = Vec::new();
-    for (name, untidy) in [(PARAMETERS, untidy_shape), (ROOT, text != root_text(&root))] {
+    for (name, untidy) in [(PARAMETERS, parameters.untidy), (ROOT, text != written)] {
         if untidy {
             notes.push(format!("the seal's {name} has blanks, line ends or capital digits that `seal commit` does not write; its content counts"));
         }
@@ -79,22 +127,32 @@ fn parts(folder: &Path) -> Result<Seal, Failure> {
     let lines = CheckLines::read(folder, 8)?;
     match &lines {
         Some(lines) => {
-            agreed(lines, PARAMETERS, &shape.text())?;
-            agreed(lines, ROOT, &root_text(&root))?;
+            agreed(lines, PARAMETERS, &parameters.written)?;
+            agreed(lines, ROOT, &written)?;
         }
         None => notes.push(format!("the seal has no {CHECK}, as an earlier version wrote it: damage to the seal itself cannot be told from a wrong opening")),
     }
     Ok(Seal {
-        shape,
-        sizes,
+        shape: parameters.shape,
+        sizes: parameters.sizes,
         root,
+        summary: lines.as_ref().and_then(|lines| summary(folder, lines)),
         vouched: lines.is_some(),
         notes,
+        part: None,
     })
 }
 
-fn root_text(root: &Root) -> String {
-    format!("{root}\n")
+/// The line of a summary that says what the seal stands for.
+fn summary(folder: &Path, lines: &CheckLines) -> Option<String> {
+    let bytes = inside(folder, SUMMARY, MOST_OF_A_SUMMARY).ok()?;
+    let text = String::from_utf8_lossy(&bytes);
+    let line = text
+        .lines()
+        .find(|line| line.starts_with("It stands for"))?;
+    lines
+        .agree(SUMMARY, &bytes)
+        .then(|| shown_name(OsStr::new(line)))
 }
 
 /// Fails unless the check line of a file is that of its content.

@@ -1,9 +1,11 @@
-//! n, k and the base domain, and `parameters.txt`, which has them in three lines:
+//! n, k and the base domain, and `parameters.txt`, which has them in three lines behind its format:
 //!
+//!     format 1
 //!     n 12
 //!     k 2
 //!     domain magnetar/pcs/balanced     (or domain-hex and hexadecimal digits)
 
+use crate::format::{marked, Body};
 use crate::hex;
 use crate::outcome::Failure;
 use crate::reading::text_inside;
@@ -22,12 +24,23 @@ pub struct Shape {
     pub domain: Vec<u8>,
 }
 
+/// What a folder's `parameters.txt` says.
+pub struct Read {
+    pub shape: Shape,
+    /// The sizes that it fixes.
+    pub sizes: Sizes,
+    /// The file's text as it was written.
+    pub written: String,
+    /// Whether blanks or line ends were passed over.
+    pub untidy: bool,
+}
+
 impl Shape {
-    /// The shape that a folder names, with the sizes that it fixes, and whether the file has blanks or line ends that were passed over.
-    pub fn read(folder: &Path) -> Result<(Shape, Sizes, bool), Failure> {
+    pub fn read(folder: &Path) -> Result<Read, Failure> {
         let path = folder.join(PARAMETERS);
         let text = text_inside(folder, PARAMETERS, MOST_BYTES)?;
-        let shape = Shape::of_text(&text).ok_or_else(|| {
+        let body = Body::of(&path, &text)?;
+        let shape = Shape::of_text(body.text).ok_or_else(|| {
             Failure(format!(
                 "{} does not have its three lines n, k and domain as `seal commit` writes them",
                 path.display()
@@ -35,11 +48,21 @@ impl Shape {
         })?;
         let sizes = Sizes::of(shape.n, shape.k)
             .map_err(|refusal| Failure(format!("{}: {refusal}", path.display())))?;
-        let untidy = text != shape.text();
-        Ok((shape, sizes, untidy))
+        let written = body.written(&shape.text());
+        Ok(Read {
+            untidy: text != written,
+            shape,
+            sizes,
+            written,
+        })
     }
 
-    pub fn text(&self) -> String {
+    /// The bytes of `parameters.txt`.
+    pub fn file(&self) -> Vec<u8> {
+        marked(&self.text()).into_bytes()
+    }
+
+    fn text(&self) -> String {
         let domain = if plain(&self.domain) {
             format!("domain {}", String::from_utf8_lossy(&self.domain))
         } else {

@@ -2,14 +2,16 @@
 
 use crate::check_lines::{CheckLines, CHECK};
 use crate::folder::Kind;
+use crate::format::all_known;
 use crate::lines::{items, most_bytes, one};
+use crate::manifest::MANIFEST;
 use crate::opening::{
     meant_position, record_name, record_position, CHALLENGES, CLAIM, ROOTS, TAIL,
 };
 use crate::outcome::Failure;
 use crate::reading::{inside, listed, reason, shown_name, text_inside, unreadable, Unread};
 use crate::seal::Seal;
-use crate::shape::Shape;
+use crate::shape::{Shape, PARAMETERS};
 use dequmlo::{QueryRecord, Root, Sizes, TailRecord, Word};
 use std::cell::RefCell;
 use std::collections::BTreeMap;
@@ -22,6 +24,8 @@ const OTHER_FILES: usize = 8 + 100;
 pub struct Shown {
     folder: PathBuf,
     sizes: Sizes,
+    /// Whether it is checked as one of a project, whose manifest was looked at before.
+    is_a_project_s: bool,
     /// Every name, and whether it is a regular file.
     names: Vec<(OsString, bool)>,
     lines: Option<CheckLines>,
@@ -65,6 +69,7 @@ impl Shown {
                 )))
             }
         };
+        all_known(folder, &[PARAMETERS, CHALLENGES, ROOTS, CLAIM])?;
         parts(folder, seal, names, most)
             .map(Ok)
             .map_err(|Failure(what)| {
@@ -113,6 +118,7 @@ impl Shown {
     pub fn unchecked(&self, positions: &[usize]) -> Vec<String> {
         let known = |name: &OsString| match name.to_str().and_then(record_position) {
             Some(position) => positions.binary_search(&position).is_ok(),
+            None if name == MANIFEST => self.is_a_project_s,
             None => Kind::Opening.has(name),
         };
         self.names
@@ -154,11 +160,12 @@ fn parts(
     let shown = Shown {
         folder: folder.into(),
         sizes: seal.sizes,
+        is_a_project_s: seal.part.is_some(),
         names,
         // Check lines that cannot be read are as good as none; they decide nothing.
         lines: CheckLines::read(folder, most).unwrap_or(None),
         changed: RefCell::default(),
-        shape: Shape::read(folder).map(|(shape, ..)| shape),
+        shape: Shape::read(folder).map(|read| read.shape),
         roots: items(&folder.join(ROOTS), &roots)?,
         claim: one(&folder.join(CLAIM), &claim)?,
         challenges: challenges.and_then(|text| items(&folder.join(CHALLENGES), &text)),

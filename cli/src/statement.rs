@@ -51,10 +51,10 @@ pub fn roots(options: &Options, seal: &Seal, shown: &Shown) -> Result<Roots, Fai
 
 /// Fails where a file that must be the checker's own is one of the opening's.
 pub fn checker_s_own(options: &Options, opening: &Path) -> Result<(), Failure> {
-    for name in ["--challenges", "--positions", "--roots"] {
+    for name in ["--asked", "--challenges", "--positions", "--roots"] {
         if let Some(path) = options.path(name).filter(|path| lies_in(path, opening)) {
             return Err(Failure(format!(
-                "{} lies in the opening, so it is the holder's; {name} takes the checker's own file",
+                "{} lies in the opening, so it is the holder's; {name} takes the checker's own",
                 path.display()
             )));
         }
@@ -91,20 +91,20 @@ pub fn misfits(seal: &Seal, shown: &Shown, roots: &Roots, challenges: &[Word]) -
         }));
     }
     match &shown.challenges {
-        Ok(words) if words == challenges => (),
-        Ok(words) => {
-            let l = words
-                .iter()
-                .zip(challenges)
-                .take_while(|(a, b)| a == b)
-                .count();
-            notes.push(format!("the opening was made by other challenges than the checker's; the first that differs is that of level {l}"));
-        }
+        Ok(words) => notes.extend(first_difference(words, challenges).map(|l| {
+            format!("the opening was made by other challenges than the checker's; the first that differs is that of level {l}")
+        })),
         Err(Failure(what)) => notes.push(format!(
             "the opening does not say by which challenges it was made: {what}"
         )),
     }
     notes
+}
+
+/// The level of the first challenge in which two lists differ.
+pub fn first_difference(first: &[Word], second: &[Word]) -> Option<usize> {
+    let same = first.iter().zip(second).take_while(|(a, b)| a == b).count();
+    (first != second).then_some(same)
 }
 
 /// An opening that was made for another root: a sound seal speaks against the opening, one without check lines against neither.

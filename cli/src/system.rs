@@ -2,14 +2,15 @@
 //! as the archive).
 
 use std::fs::File;
-use std::io::Error;
-use std::os::raw::c_int;
+use std::io::{Error, ErrorKind};
+use std::os::raw::{c_int, c_uint};
 use std::os::unix::io::AsRawFd;
 
 extern "C" {
     fn signal(number: c_int, handler: usize) -> usize;
     fn flock(file: c_int, operation: c_int) -> c_int;
     fn isatty(file: c_int) -> c_int;
+    fn getrandom(bytes: *mut u8, length: usize, flags: c_uint) -> isize;
 }
 
 /// For opening: a named pipe is opened without waiting for somebody who writes.
@@ -38,4 +39,20 @@ pub fn stderr_is_a_terminal() -> bool {
 pub fn try_lock(file: &File) -> bool {
     let locked = unsafe { flock(file.as_raw_fd(), LOCK_EX | LOCK_NB) } == 0;
     locked || Error::last_os_error().raw_os_error() != Some(EWOULDBLOCK)
+}
+
+/// Fills the bytes from the system's source of randomness, and waits until it has been started.
+pub fn random(bytes: &mut [u8]) -> Result<(), Error> {
+    let mut filled = 0;
+    while filled < bytes.len() {
+        let rest = &mut bytes[filled..];
+        let drawn = unsafe { getrandom(rest.as_mut_ptr(), rest.len(), 0) };
+        match usize::try_from(drawn) {
+            Ok(0) => return Err(ErrorKind::UnexpectedEof.into()),
+            Ok(drawn) => filled += drawn,
+            Err(_) if Error::last_os_error().kind() == ErrorKind::Interrupted => (),
+            Err(_) => return Err(Error::last_os_error()),
+        }
+    }
+    Ok(())
 }

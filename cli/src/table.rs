@@ -13,6 +13,17 @@ pub struct Table {
     pub words: Vec<Word>,
 }
 
+impl Table {
+    /// Word p of the file itself, with zeros behind its end, wherever its table has the length.
+    pub fn file_word(&self, place: usize) -> Word {
+        let of_file = (self.bytes + 15) / 16;
+        match self.words.get(place) {
+            Some(word) if place < of_file => *word,
+            _ => Word(0),
+        }
+    }
+}
+
 /// The table of a file; a sentence where the file is too large, of which then no more is read than shows that.
 pub fn read_table(path: &Path) -> Result<Result<Table, String>, Failure> {
     let bytes = named(path, MOST_BYTES)?;
@@ -23,16 +34,16 @@ pub fn read_table(path: &Path) -> Result<Result<Table, String>, Failure> {
 }
 
 /// The largest file: all of 2^20 words but the last.
-const MOST_BYTES: usize = 16 * ((1 << 20) - 1);
+pub const MOST_BYTES: usize = 16 * ((1 << 20) - 1);
 
 /// The table of these bytes, or a sentence where they are too many.
-fn table_of(bytes: &[u8]) -> Result<Vec<Word>, String> {
+pub fn table_of(bytes: &[u8]) -> Result<Vec<Word>, String> {
     if bytes.len() > MOST_BYTES {
         return Err(format!(
             "the file has more than {MOST_BYTES} bytes, the most that a deposit has (n = 20); divide it and seal each part"
         ));
     }
-    let count = ((bytes.len() + 15) / 16 + 1).next_power_of_two().max(2);
+    let count = words_of(bytes.len());
     let mut table = vec![Word(0); count];
     for (word, chunk) in table.iter_mut().zip(bytes.chunks(16)) {
         let mut padded = [0; 16];
@@ -43,22 +54,38 @@ fn table_of(bytes: &[u8]) -> Result<Vec<Word>, String> {
     Ok(table)
 }
 
-/// Fails where there is no memory for all levels and trees of a deposit of this shape, and the table twice. (Memory that runs out later would
-/// end the program without a sentence.)
+/// Fails where there is no memory for all levels and trees of a deposit of this shape, the room for a fold, and the table twice. (Memory that
+/// runs out later would end the program without a sentence.)
 pub fn room_for(shape: &Shape) -> Result<(), Failure> {
+    room_for_many(shape.n, shape.k, 1).map(|_| ())
+}
+
+/// How many deposits of n and k there is memory for at once, up to so many; fails where there is none for one.
+pub fn room_for_many(n: usize, k: usize, most: usize) -> Result<usize, Failure> {
     // The library refuses parameters that no deposit has; there is nothing to make room for.
-    let sizes = match Sizes::of(shape.n, shape.k) {
+    let sizes = match Sizes::of(n, k) {
         Ok(sizes) => sizes,
-        Err(_) => return Ok(()),
+        Err(_) => return Ok(most),
     };
-    let bytes = 16 * (sizes.levels_words + 2 * sizes.table_words) + sizes.trees_bytes;
-    Vec::<u8>::new().try_reserve_exact(bytes).map_err(|_| {
+    let words = sizes.levels_words + sizes.half_words + 2 * sizes.table_words;
+    let bytes = 16 * words + sizes.trees_bytes;
+    let room = |times: &usize| Vec::<u8>::new().try_reserve_exact(times * bytes).is_ok();
+    (1..=most).rev().find(room).ok_or_else(|| {
         Failure(format!(
-            "there is not enough memory: this file with k = {} takes {} MiB",
-            shape.k,
+            "there is not enough memory: this file with k = {k} takes {} MiB",
             bytes >> 20
         ))
     })
+}
+
+/// The n of a table of a file of so many bytes.
+pub fn variables(bytes: usize) -> usize {
+    words_of(bytes).trailing_zeros() as usize
+}
+
+/// The words of a table of a file of so many bytes: a power of two.
+fn words_of(bytes: usize) -> usize {
+    ((bytes + 15) / 16 + 1).next_power_of_two().max(2)
 }
 
 #[cfg(test)]

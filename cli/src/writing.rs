@@ -3,7 +3,7 @@
 
 use crate::folder::{not_ours, Kind, Named};
 use crate::outcome::Failure;
-use crate::reading::{listed, reason};
+use crate::reading::{lies_in, listed, reason};
 use crate::system::try_lock;
 use std::ffi::{OsStr, OsString};
 use std::fs::{self, File, OpenOptions};
@@ -33,6 +33,14 @@ pub fn beside(path: &Path, added: &str) -> PathBuf {
     path.with_file_name(name)
 }
 
+/// The folder in which something is to stand.
+pub fn parent(path: &Path) -> &Path {
+    match path.parent() {
+        Some(parent) if parent != Path::new("") => parent,
+        _ => Path::new("."),
+    }
+}
+
 impl Target {
     /// Fails where the folder may not be written: it exists and is not to be replaced, or is not this program's. With it, what was found of
     /// interrupted runs.
@@ -40,10 +48,7 @@ impl Target {
         let name = folder
             .file_name()
             .ok_or_else(|| Failure(format!("{} is no name for a new folder", folder.display())))?;
-        let parent = match folder.parent() {
-            Some(parent) if parent != Path::new("") => parent,
-            _ => Path::new("."),
-        };
+        let parent = parent(folder);
         let mut target = Target {
             folder: folder.into(),
             parent: parent.into(),
@@ -214,6 +219,45 @@ impl Target {
             ),
         }
     }
+}
+
+/// Fails where a file of its own cannot be made at a path: something stands there, or it is in a folder that others prepared.
+pub fn may_be_made(path: &Path, prepared: &Path) -> Result<(), Failure> {
+    let shown = path.display();
+    if fs::symlink_metadata(path).is_ok() {
+        return Err(Failure(format!(
+            "{shown} exists; it is left alone, name another file"
+        )));
+    }
+    let folder = parent(path);
+    if lies_in(folder, prepared) {
+        return Err(Failure(format!(
+            "{shown} would lie in the opening; name a file elsewhere"
+        )));
+    }
+    if !folder.is_dir() {
+        return Err(Failure(format!(
+            "cannot write {shown}: there is no folder {}",
+            folder.display()
+        )));
+    }
+    Ok(())
+}
+
+/// Makes a file, whole or not at all, and replaces none.
+pub fn make(path: &Path, bytes: &[u8]) -> Result<(), Failure> {
+    let failed = |e: io::Error| Failure(format!("cannot write {}: {}", path.display(), reason(&e)));
+    let mut file = OpenOptions::new()
+        .write(true)
+        .create_new(true)
+        .open(path)
+        .map_err(failed)?;
+    file.write_all(bytes)
+        .and_then(|()| file.sync_all())
+        .map_err(|e| {
+            let _ = fs::remove_file(path);
+            failed(e)
+        })
 }
 
 /// Device, number and last change of what stands at a path, a link not followed.

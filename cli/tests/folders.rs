@@ -173,8 +173,8 @@ fn of_two_runs_into_one_folder_one_wins() {
         assert_eq!(statuses, [0, 2], "{runs:?}");
         let (won, lost) = if runs[0].status == 0 { (0, 1) } else { (1, 0) };
         runs[lost].says(2, &["another run wrote new in the meantime"]);
-        let root = desk.text("new/root.txt");
-        runs[won].says(0, &[root.trim()]);
+        let root = desk.value("new/root.txt");
+        runs[won].says(0, &[&root]);
         assert_eq!(
             desk.names("new"),
             ["check.txt", "parameters.txt", "root.txt", "summary.txt"]
@@ -336,6 +336,24 @@ fn a_killed_run_leaves_nothing_that_the_next_one_does_not_clear() {
         ["plan.txt", "plan.txt.opening", "plan.txt.seal"]
     );
     desk.check().says(0, &[]);
+}
+
+/// A name may not write lines of its own into a summary.
+#[test]
+fn a_name_cannot_forge_a_summary() {
+    let desk = Desk::new("forged-summary");
+    let name = "x\nRoot: 0\u{1b}[2J";
+    desk.write(name, &plan());
+    desk.seal(["commit", name, "--out", "s"]).says(0, &[]);
+    let open = [
+        "open", name, "--seal", "s", "--seed", "dice", "--at", "7", "--out", "o",
+    ];
+    desk.seal(open).says(0, &[]);
+    for folder in ["s", "o"] {
+        let summary = desk.text(&format!("{folder}/summary.txt"));
+        assert!(summary.contains("x\\u{a}Root: 0\\u{1b}[2J"), "{summary}");
+        assert!(!summary.contains("\nRoot: 0"), "{summary}");
+    }
 }
 
 #[test]

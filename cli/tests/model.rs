@@ -14,6 +14,12 @@ fn seal(folder: &Path, words: &str) {
     assert!(run.status.success(), "seal {words}: {run:?}");
 }
 
+/// The one value of a text file, which stands in its last line.
+fn value(path: &Path) -> String {
+    let text = fs::read_to_string(path).unwrap();
+    text.lines().last().unwrap().into()
+}
+
 /// The digest of a file, in hexadecimal digits.
 fn digest(path: &Path) -> String {
     dequmlo::Root(dequmlo::digest(&fs::read(path).unwrap()).unwrap()).to_string()
@@ -40,9 +46,7 @@ fn files_are_sealed_and_opened_as_the_model_has_it() {
 
         seal(&folder, &format!("commit f --profile {profile}"));
         assert_eq!(
-            fs::read_to_string(folder.join("f.seal/root.txt"))
-                .unwrap()
-                .trim(),
+            value(&folder.join("f.seal/root.txt")),
             *root,
             "{size} {profile}"
         );
@@ -58,9 +62,7 @@ fn files_are_sealed_and_opened_as_the_model_has_it() {
         );
         let opening = folder.join("f.opening");
         assert_eq!(
-            fs::read_to_string(opening.join("claim.txt"))
-                .unwrap()
-                .trim(),
+            value(&opening.join("claim.txt")),
             *claim,
             "{size} {profile}"
         );

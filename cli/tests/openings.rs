@@ -177,7 +177,7 @@ fn files_that_the_command_line_names_are_regular_too() {
         desk.limited(words)
             .says(2, &["it is a named pipe, not a file"]);
     }
-    desk.limited("commit plan.txt.seal")
+    desk.limited(&format!("{check} --challenges plan.txt.seal"))
         .says(2, &["it is a folder, not a file"]);
 }
 

@@ -158,7 +158,18 @@ fn json_is_one_object_whatever_happens() {
             0,
             "open plan.txt --seal plan.txt.seal --seed dice --at 7 --out a",
         ),
+        (0, "ask --seal plan.txt.seal"),
+        (
+            0,
+            "open plan.txt --seal plan.txt.seal --asked plan.txt.asked",
+        ),
+        (
+            0,
+            "ask --seal plan.txt.seal --asked plan.txt.asked --answer plan.txt.answer",
+        ),
         (0, CHECK),
+        (0, "show plan.txt.opening"),
+        (2, "show absent"),
         (1, "check a --seal plan.txt.seal --seed dice --at 8"),
         (
             1,
@@ -196,7 +207,8 @@ fn json_has_the_number_the_level_and_the_sentence() {
         1,
         &[
             first,
-            "{\"position\": 0, \"accepted\": true, \"number\": null, \"level\": null, \"sentence\": \"accepted\", \"ask\": null}",
+            "{\"position\": 0, \"accepted\": true, \"number\": null, \"level\": null, \"sentence\": \"accepted\", \"ask\": null, \
+             \"shows\": \"bytes 0 to 127 of the file\"}",
             "{\"position\": 7, \"accepted\": false, \"number\": 18, \"level\": 0, \"sentence\": \"the group and the path of a do not lead",
         ],
     );

@@ -2,7 +2,7 @@
 
 mod desk;
 
-use desk::Desk;
+use desk::{Desk, FORMAT};
 
 #[test]
 fn a_seal_and_an_opening_are_plain_files() {
@@ -17,7 +17,7 @@ fn a_seal_and_an_opening_are_plain_files() {
     );
     assert_eq!(
         desk.text("plan.txt.seal/parameters.txt"),
-        "n 6\nk 1\ndomain magnetar/pcs/default\n"
+        "format 1\nn 6\nk 1\ndomain magnetar/pcs/default\n"
     );
     let names = [
         "challenges.txt",
@@ -69,10 +69,10 @@ fn check_lines_are_those_of_b3sum() {
 #[test]
 fn an_opening_says_which_root_it_was_made_for() {
     let desk = Desk::opened("made-for");
-    let root = desk.text("plan.txt.seal/root.txt");
+    let root = desk.value("plan.txt.seal/root.txt");
     assert_eq!(
-        desk.text("plan.txt.opening/roots.txt").lines().next(),
-        Some(root.trim())
+        desk.text("plan.txt.opening/roots.txt").lines().nth(1),
+        Some(root.as_str())
     );
     assert!(desk
         .text("plan.txt.opening/summary.txt")
@@ -190,7 +190,7 @@ fn in_rounds_the_roots_come_before_the_positions() {
     desk.run(&check)
         .says(0, &["accepted: 2 records and the tail"]);
     let mut roots = desk.read("first/roots.txt");
-    let third = 2 * 65;
+    let third = FORMAT.len() + 2 * 65;
     roots[third] = if roots[third] == b'0' { b'1' } else { b'0' };
     desk.write("first/roots.txt", &roots);
     desk.run(&check)
@@ -200,7 +200,7 @@ fn in_rounds_the_roots_come_before_the_positions() {
 #[test]
 fn the_tail_by_itself() {
     let desk = Desk::opened("tail");
-    let claim = desk.text("plan.txt.opening/claim.txt");
+    let claim = desk.value("plan.txt.opening/claim.txt");
     desk.keep("roots.txt");
     let tail = "tail plan.txt.opening --seal plan.txt.seal --roots roots.txt";
     desk.run(tail).says(
@@ -268,7 +268,7 @@ fn a_file_too_large() {
 fn parameters_of_one_s_own() {
     let desk = Desk::new("own-parameters");
     desk.write("f", b"words");
-    let parameters = "n 1\nk 0\ndomain-hex 616e206f6666696365\n";
+    let parameters = "format 1\nn 1\nk 0\ndomain-hex 616e206f6666696365\n";
     desk.seal(["commit", "f", "--k", "0", "--domain", "an office"])
         .says(0, &["k = 0"]);
     assert_eq!(desk.text("f.seal/parameters.txt"), parameters);
@@ -348,7 +348,10 @@ fn wrong_use() {
             "commit plan.txt --out a --profile large",
             "there is no profile large; there are default,",
         ),
-        (open, "needs the checker's challenges"),
+        (
+            open,
+            "needs the checker's request, --asked FOLDER, or the checker's challenges",
+        ),
         (
             &format!("{open} --challenges plan.txt.opening/challenges.txt"),
             "needs the checker's positions",
@@ -359,7 +362,7 @@ fn wrong_use() {
         ),
         (
             &format!("{open} --challenges plan.txt.seal/root.txt"),
-            "root.txt, line 1: a word is 32 hexadecimal digits",
+            "root.txt, line 2: a word is 32 hexadecimal digits",
         ),
         (
             &format!("{open} --challenges plan.txt.opening/claim.txt"),

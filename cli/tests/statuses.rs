@@ -11,6 +11,7 @@ fn every_command_ends_with_the_status_that_is_documented() {
     desk.write("other.txt", b"other");
     desk.run("open plan.txt --seal plan.txt.seal --seed dice --at 7 --out damaged")
         .says(0, &[]);
+    desk.run("ask --seal plan.txt.seal").says(0, &[]);
     desk.damage("damaged/query-7.record", 60);
     desk.damage("damaged/tail.record", 10);
     let record = "plan.txt.opening/query-7.record";
@@ -72,6 +73,24 @@ fn every_command_ends_with_the_status_that_is_documented() {
             format!("compare {record} damaged/query-7.record {compare}"),
         ),
         (2, format!("compare {record} absent {compare}")),
+        (0, "ask --seal plan.txt.seal --out e".into()),
+        (
+            1,
+            "ask --seal plan.txt.seal --asked plan.txt.asked --answer plan.txt.opening".into(),
+        ),
+        (2, "ask --seal plan.txt.seal --count 3".into()),
+        (2, "ask --seal absent".into()),
+        (
+            0,
+            "open plan.txt --seal plan.txt.seal --asked plan.txt.asked --out g".into(),
+        ),
+        (
+            2,
+            "check plan.txt.opening --seal plan.txt.seal --asked plan.txt.asked".into(),
+        ),
+        (0, "show plan.txt.opening".into()),
+        (0, "show damaged".into()),
+        (2, "show plan.txt".into()),
         (0, "explain".into()),
         (0, "explain 18".into()),
         (2, "explain 34".into()),
@@ -101,7 +120,8 @@ fn every_command_ends_with_the_status_that_is_documented() {
 
 #[test]
 fn the_help_and_the_page_document_every_status() {
-    let help = Desk::new("status-help").run("help").out;
+    let desk = Desk::new("status-help");
+    let help = desk.run("help").out;
     let page = std::fs::read_to_string(concat!(env!("CARGO_MANIFEST_DIR"), "/README.md")).unwrap();
     let flat = |text: &str| text.split_whitespace().collect::<Vec<_>>().join(" ");
     for text in [
@@ -120,9 +140,7 @@ fn the_help_and_the_page_document_every_status() {
     ] {
         assert!(page.contains(row), "cli/README.md: {row}");
     }
-    for command in [
-        "commit", "open", "check", "tail", "compare", "explain", "demo", "help", "version",
-    ] {
+    for command in desk.commands() {
         assert!(
             help.contains(&format!("seal {command}")) && page.contains(&format!("`seal {command}")),
             "{command}"

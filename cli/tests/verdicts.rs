@@ -2,7 +2,7 @@
 
 mod desk;
 
-use desk::{Desk, CHECK};
+use desk::{Desk, CHECK, FORMAT};
 use std::fs;
 
 const OWN: &str = "check plan.txt.opening --seal plan.txt.seal --own-questions";
@@ -65,7 +65,7 @@ fn a_file_of_the_opening_is_not_the_checker_s_own() {
         .says(
             2,
             &[&format!(
-                "lies in the opening, so it is the holder's; {name} takes the checker's own file"
+                "lies in the opening, so it is the holder's; {name} takes the checker's own"
             )],
         );
     }
@@ -169,9 +169,10 @@ fn a_damaged_seal_is_not_laid_at_the_holder_s_door() {
     let parameters = desk.read("plan.txt.seal/parameters.txt");
     let lines = desk.read("plan.txt.seal/check.txt");
     let text = |bytes: &[u8]| String::from_utf8(bytes.to_vec()).unwrap();
-    let other_digit = if root[5] == b'0' { b'1' } else { b'0' };
+    let digit = FORMAT.len() + 5;
+    let other_digit = if root[digit] == b'0' { b'1' } else { b'0' };
     let mut changed_root = root.clone();
-    changed_root[5] = other_digit;
+    changed_root[digit] = other_digit;
     let mut changed_line = lines.clone();
     changed_line[3] = if lines[3] == b'0' { b'1' } else { b'0' };
     let damages: [(&str, Vec<u8>, &str); 8] = [
@@ -182,13 +183,13 @@ fn a_damaged_seal_is_not_laid_at_the_holder_s_door() {
         ),
         (
             "root.txt",
-            root.repeat(2),
-            "root.txt has 2 lines, and it must have one",
+            [&root[..], &root[FORMAT.len()..]].concat(),
+            "root.txt has 2 values, and it must have one",
         ),
         (
             "root.txt",
             b"".to_vec(),
-            "root.txt has 0 lines, and it must have one",
+            "root.txt has 0 values, and it must have one",
         ),
         (
             "root.txt",
@@ -282,7 +283,7 @@ fn an_old_seal_is_read_and_what_it_lacks_is_said() {
     desk.check().says(0, &[lacks, "verdict: accepted"]);
     let root = desk.read("plan.txt.seal/root.txt");
     desk.write("plan.txt.seal/root.txt", &root.repeat(2));
-    desk.check().says(2, &["root.txt has 2 lines"]);
+    desk.check().says(2, &["root.txt has 2 values"]);
     let mut changed = root.clone();
     changed[5] = if root[5] == b'0' { b'1' } else { b'0' };
     desk.write("plan.txt.seal/root.txt", &changed);
@@ -333,7 +334,8 @@ fn kept_roots_that_are_damaged_are_the_checker_s_own() {
     };
     with(&kept).says(0, &["verdict: accepted"]);
     with(&kept.replace('\n', "\r\n")).says(0, &[]);
-    let zeroed = format!("{}{}", "0".repeat(64), &kept[64..]);
+    let roots = kept.strip_prefix(FORMAT).unwrap();
+    let zeroed = format!("{}{}", "0".repeat(64), &roots[64..]);
     let own = [
         "kept is not the list of roots that was kept for this seal",
         "nothing is said of the opening",
@@ -341,11 +343,12 @@ fn kept_roots_that_are_damaged_are_the_checker_s_own() {
     let run = with(&zeroed);
     run.says(2, &["its first root is not the seal's"]);
     run.says(2, &own);
-    let run = with(&kept[65..]);
+    let run = with(&roots[65..]);
     run.says(2, &["it has 6 roots, and this seal has 7 levels"]);
     run.says(2, &own);
     with(&format!("\0{}", &kept[1..])).says(2, &["kept, line 1: a root is 64 hexadecimal digits"]);
-    let third = 2 * 65;
+    with(&format!("{FORMAT}\0{}", &roots[1..])).says(2, &["kept, line 2: a root is 64"]);
+    let third = FORMAT.len() + 2 * 65;
     let digit = if &kept[third..=third] == "0" {
         "1"
     } else {

@@ -5,8 +5,8 @@ use crate::record::{QueryRecord, TailRecord};
 use crate::refusal::Refusal;
 use crate::ring::variables;
 use crate::root::Root;
-use crate::sizes::{level_words, tree_bytes, Sizes};
-use crate::tree::{build_into, fold_tree_width, level_domain, root_of};
+use crate::sizes::Sizes;
+use crate::tree::root_of;
 use crate::word::{halves, words, Word};
 use std::fmt;
 
@@ -95,66 +95,38 @@ impl Deposit {
         words(&self.levels)
     }
 
-    /// Folds by one challenge for each variable and builds every level's tree.
-    pub fn fold(self, challenges: &[Word]) -> Result<Folded, Refusal> {
-        self.fold_with(challenges, |_| ())
-    }
-
-    /// As [`Deposit::fold`]; `done` is called with each level's number once it and its tree are made.
-    pub fn fold_with(
-        mut self,
-        challenges: &[Word],
-        mut done: impl FnMut(usize),
-    ) -> Result<Folded, Refusal> {
-        let Sizes { n, k, .. } = self.sizes;
-        if challenges.len() != n {
-            return Err(Refusal::of(5));
-        }
-        let mut roots = vec![self.root()];
-        for (l, r) in challenges.iter().enumerate() {
-            roots.push(self.next_level(n, k, l, *r)?);
-            done(l + 1);
-        }
+    /// Folds by one challenge for each variable and builds every level's tree. Refused with 5 where there are fewer or more challenges.
+    pub fn fold(mut self, challenges: &[Word]) -> Result<Folded, Refusal> {
+        let sizes = self.sizes;
+        let challenges = halves(challenges);
+        let mut half = vec![0u64; 2 * sizes.half_words];
+        let mut roots = vec![0u8; sizes.roots_bytes];
+        self.levels.resize(2 * sizes.levels_words, 0);
+        self.trees.resize(sizes.trees_bytes, 0);
+        Refusal::unless_done(unsafe {
+            raw::dequmlo_fold_levels(
+                sizes.n,
+                sizes.k,
+                self.base.as_ptr(),
+                self.base.len(),
+                challenges.as_ptr(),
+                challenges.len(),
+                self.levels.as_mut_ptr(),
+                self.levels.len(),
+                half.as_mut_ptr(),
+                half.len(),
+                self.trees.as_mut_ptr(),
+                self.trees.len(),
+                roots.as_mut_ptr(),
+                roots.len(),
+            )
+        })?;
         Ok(Folded {
-            sizes: self.sizes,
+            sizes,
             levels: self.levels,
             trees: self.trees,
-            roots,
+            roots: roots.chunks_exact(32).map(root_of).collect(),
         })
-    }
-
-    /// Level l + 1 and its tree, after those of level l. Its root.
-    fn next_level(&mut self, n: usize, k: usize, l: usize, r: Word) -> Result<Root, Refusal> {
-        let (from, to) = (2 * level_words(n, k, l), 2 * level_words(n, k, l + 1));
-        let start = self.levels.len();
-        self.levels.resize(start + to, 0);
-        let (before, next) = self.levels.split_at_mut(start);
-        let level = &before[start - from..];
-        let answer = unsafe {
-            raw::dequmlo_fold(
-                n - l,
-                k,
-                0,
-                r.raw(),
-                level.as_ptr(),
-                level.len(),
-                next.as_mut_ptr(),
-                next.len(),
-            )
-        };
-        Refusal::unless_done(answer.number)?;
-        let count = to / 2;
-        let start = self.trees.len();
-        self.trees.resize(start + tree_bytes(count), 0);
-        let tree = &mut self.trees[start..];
-        build_into(
-            &level_domain(&self.base, l + 1),
-            count,
-            fold_tree_width(count),
-            next,
-            tree,
-        )?;
-        Ok(root_of(tree))
     }
 }
 
@@ -222,7 +194,7 @@ impl Folded {
     /// The tail record.
     pub fn tail(&self) -> Result<TailRecord, Refusal> {
         let level = self.last_halves();
-        let tree = &self.trees[self.trees.len() - tree_bytes(level.len() / 2)..];
+        let tree = &self.trees[self.trees.len() - self.sizes.last_tree_bytes..];
         let mut out = vec![0u8; self.sizes.tail_bytes];
         Refusal::unless_done(unsafe {
             raw::dequmlo_build_tail(
@@ -240,6 +212,6 @@ impl Folded {
     }
 
     fn last_halves(&self) -> &[u64] {
-        &self.levels[self.levels.len() - (2 << self.sizes.k)..]
+        &self.levels[self.levels.len() - 2 * self.sizes.last_level_words..]
     }
 }

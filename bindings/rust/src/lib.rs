@@ -35,6 +35,7 @@
 
 #![warn(missing_docs, missing_debug_implementations)]
 
+pub mod code;
 mod deposit;
 mod parameters;
 mod raw;
@@ -48,7 +49,7 @@ mod word;
 
 pub use deposit::{Deposit, Folded};
 pub use parameters::Parameters;
-pub use record::{Collision, QueryRecord, Statement, TailRecord};
+pub use record::{Collision, QueryRecord, ShownLevel, Statement, TailRecord};
 pub use refusal::{Explanation, Refusal, EXPLANATIONS};
 pub use root::{ParseRootError, Root};
 pub use sizes::Sizes;

@@ -16,6 +16,10 @@ pub struct Sizes {
     pub tree: usize,
     pub levels: usize,
     pub trees: usize,
+    pub half: usize,
+    pub roots: usize,
+    pub last_level: usize,
+    pub last_tree: usize,
     pub query: usize,
     pub tail: usize,
 }
@@ -24,6 +28,12 @@ pub struct Sizes {
 pub struct Digested {
     pub number: u32,
     pub bytes: [u8; 32],
+}
+
+#[repr(C)]
+pub struct DomainLength {
+    pub number: u32,
+    pub length: usize,
 }
 
 #[repr(C)]
@@ -91,7 +101,46 @@ extern "C" {
         out: *mut u64,
         out_length: usize,
     ) -> Folded;
+    pub fn dequmlo_fold_levels(
+        n: usize,
+        k: usize,
+        base: *const u8,
+        base_length: usize,
+        challenges: *const u64,
+        challenges_length: usize,
+        levels: *mut u64,
+        levels_length: usize,
+        half: *mut u64,
+        half_length: usize,
+        trees: *mut u8,
+        trees_length: usize,
+        roots: *mut u8,
+        roots_length: usize,
+    ) -> u32;
     pub fn dequmlo_fold_tree_width(length: usize) -> usize;
+    pub fn dequmlo_level_domain_length(
+        base: *const u8,
+        base_length: usize,
+        level: usize,
+    ) -> DomainLength;
+    pub fn dequmlo_level_domain(
+        base: *const u8,
+        base_length: usize,
+        level: usize,
+        out: *mut u8,
+        out_length: usize,
+    ) -> u32;
+    pub fn dequmlo_level_tree(
+        n: usize,
+        k: usize,
+        level: usize,
+        base: *const u8,
+        base_length: usize,
+        values: *const u64,
+        values_length: usize,
+        tree: *mut u8,
+        tree_length: usize,
+    ) -> u32;
     pub fn dequmlo_tree(
         domain: *const u8,
         domain_length: usize,

@@ -32,6 +32,45 @@ impl QueryRecord {
     pub fn bytes(&self) -> &[u8] {
         &self.0
     }
+
+    /// What it shows of each level, level 0 first, by the record's own counts; none where it does not read whole. Only a check says whether it
+    /// is true.
+    #[must_use]
+    pub fn levels(&self) -> Option<Vec<ShownLevel>> {
+        let mut rest = &self.0[..];
+        let mut levels = Vec::new();
+        for _ in 0..count(&mut rest)? {
+            levels.push(ShownLevel {
+                a: Word::of_bytes(taken(&mut rest, 16)?),
+                b: Word::of_bytes(taken(&mut rest, 16)?),
+                c: Word::of_bytes(taken(&mut rest, 16)?),
+                a_group: group(&mut rest)?,
+                c_group: group(&mut rest)?,
+                a_path: path(&mut rest)?,
+                c_path: path(&mut rest)?,
+            });
+        }
+        rest.is_empty().then_some(levels)
+    }
+}
+
+/// What a query record shows of one level.
+#[derive(Clone, Debug, PartialEq, Eq)]
+pub struct ShownLevel {
+    /// The pair's first word.
+    pub a: Word,
+    /// The pair's second word.
+    pub b: Word,
+    /// What they fold to on the next level.
+    pub c: Word,
+    /// The words of the group of a and b.
+    pub a_group: Vec<Word>,
+    /// The words of the group of c.
+    pub c_group: Vec<Word>,
+    /// The path of the group of a and b.
+    pub a_path: Vec<[u8; 32]>,
+    /// The path of the group of c.
+    pub c_path: Vec<[u8; 32]>,
 }
 
 impl TailRecord {
@@ -40,6 +79,56 @@ impl TailRecord {
     pub fn bytes(&self) -> &[u8] {
         &self.0
     }
+
+    /// The words that its groups show, in order, by the record's own counts; none where it does not read whole. Of an accepted record they are
+    /// the last level.
+    #[must_use]
+    pub fn words(&self) -> Option<Vec<Word>> {
+        let mut rest = &self.0[..];
+        let mut words = Vec::new();
+        for _ in 0..count(&mut rest)? {
+            words.extend(group(&mut rest)?);
+            path(&mut rest)?;
+        }
+        rest.is_empty().then_some(words)
+    }
+}
+
+/// A group's words, taken off the front.
+fn group(rest: &mut &[u8]) -> Option<Vec<Word>> {
+    let words = run(rest, 16)?.chunks_exact(16);
+    Some(words.map(Word::of_bytes).collect())
+}
+
+/// A path's digests, taken off the front.
+fn path(rest: &mut &[u8]) -> Option<Vec<[u8; 32]>> {
+    let digests = run(rest, 32)?.chunks_exact(32);
+    Some(
+        digests
+            .map(|d| d.try_into().expect("chunks of 32"))
+            .collect(),
+    )
+}
+
+/// A count of 4 bytes, taken off the front.
+fn count(rest: &mut &[u8]) -> Option<usize> {
+    let bytes = taken(rest, 4)?;
+    Some(u32::from_le_bytes(bytes.try_into().expect("4 bytes")) as usize)
+}
+
+/// A count and as many items of a size, taken off the front: the items.
+fn run<'a>(rest: &mut &'a [u8], item: usize) -> Option<&'a [u8]> {
+    let size = count(rest)? * item;
+    taken(rest, size)
+}
+
+fn taken<'a>(rest: &mut &'a [u8], size: usize) -> Option<&'a [u8]> {
+    if rest.len() < size {
+        return None;
+    }
+    let (front, behind) = rest.split_at(size);
+    *rest = behind;
+    Some(front)
 }
 
 /// Two messages that differ and have one BLAKE3 digest.

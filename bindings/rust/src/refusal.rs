@@ -105,7 +105,7 @@ pub const EXPLANATIONS: [Explanation; 33] = [
     explained(1, "the word to invert is 0, which has no inverse", PROGRAM),
     explained(2, "the number of bytes to pack is not a multiple of 128", PROGRAM),
     explained(3, "a byte to pack is neither 0 nor 1", PROGRAM),
-    explained(4, "n is above 20, or k is above 4, or n is 0 where there must be a level", PARAMETERS),
+    explained(4, "n is above 20, or k is above 4, or n is 0 where there must be a level, or there is no such level", PARAMETERS),
     explained(
         5,
         "a list does not have the length that n, k or a count fixes",

@@ -2,7 +2,6 @@
 
 use crate::raw;
 use crate::refusal::Refusal;
-use crate::tree::fold_tree_width;
 
 /// What n and k fix: how many words and bytes each buffer has.
 ///
@@ -31,6 +30,14 @@ pub struct Sizes {
     pub levels_words: usize,
     /// The bytes of all levels' trees.
     pub trees_bytes: usize,
+    /// The words of the room that folding takes beside the levels: half a codeword.
+    pub half_words: usize,
+    /// The words of the last level.
+    pub last_level_words: usize,
+    /// The bytes of the last level's tree.
+    pub last_tree_bytes: usize,
+    /// The bytes of the roots of all levels.
+    pub roots_bytes: usize,
     /// The bytes of a query record.
     pub query_bytes: usize,
     /// The bytes of a tail record.
@@ -51,20 +58,14 @@ impl Sizes {
             tree_bytes: sizes.tree,
             levels_words: sizes.levels,
             trees_bytes: sizes.trees,
+            half_words: sizes.half,
+            last_level_words: sizes.last_level,
+            last_tree_bytes: sizes.last_tree,
+            roots_bytes: sizes.roots,
             query_bytes: sizes.query,
             tail_bytes: sizes.tail,
         })
     }
-}
-
-/// The words of level l.
-pub(crate) fn level_words(n: usize, k: usize, l: usize) -> usize {
-    1 << (n + k - l)
-}
-
-/// The bytes of the tree over a level of this many words.
-pub(crate) fn tree_bytes(words: usize) -> usize {
-    32 * (2 * (words / fold_tree_width(words)) - 1)
 }
 
 #[cfg(test)]
@@ -115,6 +116,28 @@ mod tests {
                 )
             };
             assert_eq!(committed, 7, "n {n} k {k}");
+            let challenges = vec![0u64; 2 * n];
+            let mut half = vec![0u64; 2 * sizes.half_words];
+            let mut roots = vec![0u8; sizes.roots_bytes];
+            let folded = unsafe {
+                raw::dequmlo_fold_levels(
+                    n,
+                    k,
+                    base.as_ptr(),
+                    base.len(),
+                    challenges.as_ptr(),
+                    challenges.len(),
+                    levels.as_mut_ptr(),
+                    levels.len(),
+                    half.as_mut_ptr(),
+                    half.len(),
+                    trees.as_mut_ptr(),
+                    trees.len(),
+                    roots.as_mut_ptr(),
+                    roots.len(),
+                )
+            };
+            assert_eq!(folded, 7, "n {n} k {k}");
         }
     }
 }

@@ -3,6 +3,7 @@
 use crate::raw;
 use crate::refusal::Refusal;
 use crate::root::Root;
+use crate::sizes::Sizes;
 use crate::word::{halves, Word};
 
 /// The BLAKE3 digest of at most 2^24 bytes.
@@ -23,10 +24,22 @@ pub fn fold_tree_width(length: usize) -> usize {
     unsafe { raw::dequmlo_fold_tree_width(length) }
 }
 
-/// The domain of a level: the base domain, "/level/", the level in decimal.
-#[must_use]
-pub fn level_domain(base: &[u8], level: usize) -> Vec<u8> {
-    [base, format!("/level/{level}").as_bytes()].concat()
+/// The domain of a level's tree, made from the base domain. Refused with 4 for a level above 20, with 7 for a base domain of more than 200
+/// bytes.
+pub fn level_domain(base: &[u8], level: usize) -> Result<Vec<u8>, Refusal> {
+    let answer = unsafe { raw::dequmlo_level_domain_length(base.as_ptr(), base.len(), level) };
+    Refusal::unless_done(answer.number)?;
+    let mut domain = vec![0; answer.length];
+    Refusal::unless_done(unsafe {
+        raw::dequmlo_level_domain(
+            base.as_ptr(),
+            base.len(),
+            level,
+            domain.as_mut_ptr(),
+            domain.len(),
+        )
+    })?;
+    Ok(domain)
 }
 
 /// A tree over groups of words: leaves first, then each level of parents, the root last.
@@ -52,11 +65,55 @@ impl Tree {
     /// The tree over the values in groups of this width, under a domain of at most 255 bytes.
     pub fn build(domain: &[u8], width: usize, values: &[Word]) -> Result<Tree, Refusal> {
         let count = values.len();
+        let values = halves(values);
         let mut digests = vec![0; bytes(count, width)];
-        build_into(domain, count, width, &halves(values), &mut digests)?;
+        Refusal::unless_done(unsafe {
+            raw::dequmlo_tree(
+                domain.as_ptr(),
+                domain.len(),
+                count,
+                width,
+                values.as_ptr(),
+                values.len(),
+                digests.as_mut_ptr(),
+                digests.len(),
+            )
+        })?;
         Ok(Tree {
             count,
             width,
+            digests,
+        })
+    }
+
+    /// The tree of a level of a deposit over the level's words, for a protocol that draws each challenge after the root before it; all others
+    /// have every level's tree from [`crate::Deposit::fold`]. Refused with 4 where there is no such n, k or level, with 5 where the level
+    /// has another number of words, with 7 where the base domain has more than 200 bytes.
+    pub fn of_level(
+        base: &[u8],
+        n: usize,
+        k: usize,
+        level: usize,
+        words: &[Word],
+    ) -> Result<Tree, Refusal> {
+        let values = halves(words);
+        let mut digests = vec![0; level_bytes(n, k, level)?];
+        Refusal::unless_done(unsafe {
+            raw::dequmlo_level_tree(
+                n,
+                k,
+                level,
+                base.as_ptr(),
+                base.len(),
+                values.as_ptr(),
+                values.len(),
+                digests.as_mut_ptr(),
+                digests.len(),
+            )
+        })?;
+        Ok(Tree {
+            count: words.len(),
+            width: fold_tree_width(words.len()),
             digests,
         })
     }
@@ -123,28 +180,6 @@ pub fn root_of_path(
     Ok(Root(answer.bytes))
 }
 
-/// A tree into a buffer.
-pub(crate) fn build_into(
-    domain: &[u8],
-    count: usize,
-    width: usize,
-    values: &[u64],
-    tree: &mut [u8],
-) -> Result<(), Refusal> {
-    Refusal::unless_done(unsafe {
-        raw::dequmlo_tree(
-            domain.as_ptr(),
-            domain.len(),
-            count,
-            width,
-            values.as_ptr(),
-            values.len(),
-            tree.as_mut_ptr(),
-            tree.len(),
-        )
-    })
-}
-
 /// The last digest of a tree.
 pub(crate) fn root_of(tree: &[u8]) -> Root {
     Root(tree[tree.len() - 32..].try_into().expect("32 bytes"))
@@ -156,4 +191,14 @@ fn bytes(count: usize, width: usize) -> usize {
         return 0;
     }
     32 * (2 * (count / width) - 1)
+}
+
+/// The bytes of a level's tree. A level before the last is as long as the codeword of a deposit that has the rest of the variables.
+fn level_bytes(n: usize, k: usize, level: usize) -> Result<usize, Refusal> {
+    let sizes = Sizes::of(n, k)?;
+    match n.checked_sub(level) {
+        None => Err(Refusal::of(4)),
+        Some(0) => Ok(sizes.last_tree_bytes),
+        Some(rest) => Ok(Sizes::of(rest, k)?.tree_bytes),
+    }
 }

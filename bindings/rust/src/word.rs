@@ -64,6 +64,11 @@ impl Word {
     pub(crate) fn of(raw: raw::Word) -> Word {
         Word(u128::from(raw.hi) << 64 | u128::from(raw.lo))
     }
+
+    /// The word of 16 bytes, as records have it.
+    pub(crate) fn of_bytes(bytes: &[u8]) -> Word {
+        Word(u128::from_le_bytes(bytes.try_into().expect("16 bytes")))
+    }
 }
 
 /// The halves of words, the low half of each first.

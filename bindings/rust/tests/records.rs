@@ -1,7 +1,8 @@
 //! Seals of every small shape: built records are accepted, and those of another position, challenge, root or claim are refused by the
 //! check that this breaks.
 
-use dequmlo::{Deposit, Folded, Refusal, Root, Statement, Word};
+use dequmlo::tree::{level_domain, root_of_path};
+use dequmlo::{Deposit, Folded, QueryRecord, Refusal, Root, Statement, TailRecord, Word};
 
 const BASE: &[u8] = b"dequmlo/records";
 
@@ -110,6 +111,56 @@ fn what_belongs_elsewhere_is_refused_by_the_check_that_it_breaks() {
             .check_tail(s.folded.claim(), &record.bytes().to_vec().into()),
         refused(14, None)
     );
+}
+
+#[test]
+fn what_a_record_shows() {
+    let (n, k, position) = (5, 2, 77);
+    let s = sealed(n, k).unwrap();
+    let levels = s.folded.query(position).unwrap().levels().unwrap();
+    assert_eq!(levels.len(), n);
+    for (l, shown) in levels.iter().enumerate() {
+        let (place, count, width) = (position >> l, 1 << (n + k - l), shown.a_group.len());
+        let pair = place % width / 2 * 2;
+        assert_eq!(
+            (shown.a_group[pair], shown.a_group[pair + 1]),
+            (shown.a, shown.b)
+        );
+        assert!(shown.c_group.contains(&shown.c));
+        let domain = level_domain(BASE, l).unwrap();
+        let root = root_of_path(&domain, count, width, place, &shown.a_group, &shown.a_path);
+        assert_eq!(root.unwrap(), s.folded.roots()[l]);
+        if let Some(next) = levels.get(l + 1) {
+            assert_eq!(
+                (&shown.c_group, &shown.c_path),
+                (&next.a_group, &next.a_path)
+            );
+        }
+    }
+    assert_eq!(
+        s.folded.tail().unwrap().words(),
+        Some(s.folded.last_level())
+    );
+}
+
+#[test]
+fn a_record_that_does_not_read_whole_shows_nothing() {
+    let s = sealed(2, 3).unwrap();
+    let (query, tail) = (s.folded.query(9).unwrap(), s.folded.tail().unwrap());
+    assert_eq!(tail.words().map(|words| words.len()), Some(8));
+    for length in 0..query.bytes().len() {
+        let cut = query.bytes()[..length].to_vec();
+        assert_eq!(QueryRecord::from(cut).levels(), None, "{length}");
+    }
+    for length in 0..tail.bytes().len() {
+        let cut = tail.bytes()[..length].to_vec();
+        assert_eq!(TailRecord::from(cut).words(), None, "{length}");
+    }
+    let longer = |bytes: &[u8]| [bytes, &[0]].concat();
+    assert_eq!(QueryRecord::from(longer(query.bytes())).levels(), None);
+    assert_eq!(TailRecord::from(longer(tail.bytes())).words(), None);
+    assert_eq!(QueryRecord::from(vec![255; 64]).levels(), None);
+    assert_eq!(TailRecord::from(vec![255; 64]).words(), None);
 }
 
 #[test]

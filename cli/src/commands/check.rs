@@ -1,17 +1,30 @@
 //! `seal check`: the records of an opening at the checker's positions, and its tail, under the office's root and the checker's challenges.
 
+use crate::clock;
+use crate::found::{Answer, Extent, Found, Item};
 use crate::json::Json;
+use crate::opened::{as_text, Opened};
 use crate::options::Options;
-use crate::outcome::{answer, lines_of, texts, Failure, Outcome, Verdict};
-use crate::questions::{challenges, positions, SEED_WARNING};
+use crate::outcome::{Failure, Outcome};
+use crate::part::{asked_seal, RefusedManifest};
+use crate::questions::{challenges, positions, requested, SEED_WARNING};
+use crate::reading::shown_path;
+use crate::report::{page, Subject};
+use crate::request::{Answered, Request};
 use crate::seal::{Seal, SEAL_FOLDER};
 use crate::shape::Shape;
 use crate::shown::{changed_note, some_of, Record, Shown};
-use crate::statement::{checker_s_own, claim, misfits, roots, statement};
-use dequmlo::{Refusal, Statement, Word};
+use crate::statement::{checker_s_own, claim, misfits, roots, statement, Roots};
+use crate::writing::{make, may_be_made};
+use dequmlo::{QueryRecord, Root, Statement, Word};
+use std::path::PathBuf;
 
-const TAKEN: [&str; 10] = [
+pub const TAKEN: [&str; 15] = [
     "--seal",
+    "--file",
+    "--part",
+    "--offset",
+    "--asked",
     "--challenges",
     "--seed",
     "--at",
@@ -20,64 +33,188 @@ const TAKEN: [&str; 10] = [
     "--roots",
     "--claim",
     "--own-questions",
+    "--report",
     "--json",
 ];
 
 pub fn run(options: &Options) -> Result<Outcome, Failure> {
     options.expect(1, "one OPENING", &TAKEN)?;
-    checker_s_own(options, &options.operands[0])?;
-    let seal = Seal::read(&options.needed_path("--seal", SEAL_FOLDER)?)?;
-    let asked = Asked::read(options, &seal.shape)?;
+    let opening = &options.operands[0];
+    checker_s_own(options, opening)?;
+    let report = options.path("--report");
+    if let Some(report) = &report {
+        may_be_made(report, opening)?;
+    }
+    let folder = options.needed_path("--seal", SEAL_FOLDER)?;
+    let (seal, asked, examined) = match asked_seal(options, Some(opening))? {
+        Ok(seal) => {
+            let asked = Asked::read(options, &seal)?;
+            let examined = examined(options, &seal, &asked)?;
+            (seal, asked, examined)
+        }
+        Err(RefusedManifest { seal, sentence }) => {
+            let examined = Examined::refused(&seal, Item::Manifest, sentence);
+            (seal, Asked::default(), examined)
+        }
+    };
+    let Examined {
+        found,
+        positions,
+        unchecked,
+        roots,
+        challenges,
+    } = examined;
+    let extent = Extent {
+        own: asked.left_to_the_holder(),
+        unchecked: &unchecked,
+        checked: positions.len(),
+        shape: &seal.shape,
+    };
+    if let Some(report) = &report {
+        let subject = Subject {
+            seal: &seal,
+            seal_name: shown_path(&folder),
+            opening_name: shown_path(opening),
+            date: clock::now(),
+            asked: asked.told(options)?,
+            roots: &roots,
+            challenges: &challenges,
+        };
+        let page = page(&subject, &found, &extent);
+        make(report, page.as_bytes()).map_err(|Failure(what)| {
+            let (_, sentence) = found.verdict(&extent);
+            Failure(format!("{what}. The check itself ended: {sentence}"))
+        })?;
+    }
+    let report = report.map(|path| path.display().to_string());
+    let written = report
+        .as_ref()
+        .map(|path| format!("the report is in {path}"));
+    Ok(found
+        .outcome(&extent)
+        .lines(written)
+        .found("report", report.map_or(Json::Null, Json::text)))
+}
+
+/// What was found of an opening, and what it was checked by.
+struct Examined {
+    found: Found,
+    positions: Vec<usize>,
+    unchecked: Vec<String>,
+    roots: Vec<Root>,
+    challenges: Vec<Word>,
+}
+
+impl Examined {
+    /// What is found where nothing of the opening is looked at.
+    fn refused(seal: &Seal, item: Item, sentence: String) -> Examined {
+        let mut found = Found::default();
+        found.declined(item, sentence);
+        Examined {
+            found,
+            positions: Vec::new(),
+            unchecked: Vec::new(),
+            roots: vec![seal.root],
+            challenges: Vec::new(),
+        }
+    }
+}
+
+fn examined(options: &Options, seal: &Seal, asked: &Asked) -> Result<Examined, Failure> {
+    let mut found = Found::default();
     let expected = asked
         .positions
         .as_ref()
         .map_or(seal.shape.queries(), Vec::len);
-    let shown = match Shown::read(&options.operands[0], &seal, expected)? {
+    let shown = match Shown::read(&options.operands[0], seal, expected)? {
         Ok(shown) => shown,
-        Err(sentence) => return Ok(Outcome::declined(sentence)),
+        Err(sentence) => return Ok(Examined::refused(seal, Item::Opening, sentence)),
     };
-    let roots = roots(options, &seal, &shown)?;
-    let words = asked.challenges_for(&shown)?;
+    let roots = match asked.answered() {
+        Some(answered) => Roots {
+            all: answered.roots.clone(),
+            kept: true,
+        },
+        None => roots(options, seal, &shown)?,
+    };
+    let challenges = asked.challenges_for(&shown)?;
     let positions = asked.positions.clone().unwrap_or_else(|| shown.positions());
-    let claim = claim(options, &shown)?;
-    let mut found = Found::default();
-    found.doubles(&shown);
-    match statement(&seal, &roots, &words) {
-        Ok(statement) => found.all(&statement, &shown, &positions, claim)?,
-        Err(refusal) => found.refused_whole(&refusal),
+    let claim = match asked.answered() {
+        Some(answered) => answered.claim,
+        None => claim(options, &shown)?,
+    };
+    if let Some(part) = &seal.part {
+        found.add(Item::Manifest, Answer::Accepted(None));
+        let note = format!("the file that is asked about is {}", part.name());
+        found.notes.push(note);
+    }
+    doubles(&mut found, &shown);
+    match statement(seal, &roots, &challenges) {
+        Ok(statement) => checked(&mut found, seal, &statement, &shown, &positions, claim)?,
+        Err(refusal) => found.add(Item::Opening, Answer::Refused(refusal)),
     }
     found.notes.extend(seal.notes.iter().cloned());
-    found.notes.extend(misfits(&seal, &shown, &roots, &words));
+    found
+        .notes
+        .extend(misfits(seal, &shown, &roots, &challenges));
     found.notes.extend(changed_note(&shown.changed()));
     if options.text("--seed")?.is_some() {
         found.notes.push(SEED_WARNING.into());
     }
-    Ok(found.outcome(
-        &asked,
-        &shown.unchecked(&positions),
-        positions.len(),
-        &seal.shape,
-    ))
+    Ok(Examined {
+        unchecked: shown.unchecked(&positions),
+        found,
+        positions,
+        roots: roots.all,
+        challenges,
+    })
 }
 
 /// What the checker asks; what is none is left to the opening, where that was said.
+#[derive(Default)]
 struct Asked {
     challenges: Option<Vec<Word>>,
     positions: Option<Vec<usize>>,
+    request: Option<Request>,
 }
 
 impl Asked {
-    fn read(options: &Options, shape: &Shape) -> Result<Asked, Failure> {
+    fn read(options: &Options, seal: &Seal) -> Result<Asked, Failure> {
+        match requested(options, seal)? {
+            Some(request) => Asked::by_request(request),
+            None => Asked::by_options(options, &seal.shape),
+        }
+    }
+
+    fn by_request(request: Request) -> Result<Asked, Failure> {
+        let answered = request.answered.as_ref().ok_or_else(|| {
+            Failure(
+                "the request has no positions yet, so there is nothing to check: draw them with `seal ask --seal FOLDER --asked FOLDER --answer ANSWER` \
+                 when the holder has answered with its roots"
+                    .into(),
+            )
+        })?;
+        let asked = Asked {
+            challenges: Some(request.challenges.clone()),
+            positions: Some(answered.positions.clone()),
+            request: Some(request.clone()),
+        };
+        asked.in_range(&request.shape)?;
+        Ok(asked)
+    }
+
+    fn by_options(options: &Options, shape: &Shape) -> Result<Asked, Failure> {
         let asked = Asked {
             challenges: challenges(options, shape.n)?.map(|(words, _)| words),
             positions: positions(options, shape)?,
+            request: None,
         };
         let own = options.has("--own-questions");
         match asked.left_to_the_holder() {
             Some(what) if !own => {
                 return Err(Failure(format!(
-                    "`seal check` needs the checker's own {what}: --challenges FILE, and --at P,P,.. or --positions FILE. (--own-questions checks \
-                     by those that the holder chose, and is never an acceptance)"
+                    "`seal check` needs the checker's own {what}: --asked FOLDER, or --challenges FILE, and --at P,P,.. or --positions FILE. \
+                     (--own-questions checks by those that the holder chose, and is never an acceptance)"
                 )))
             }
             None if own => {
@@ -89,6 +226,46 @@ impl Asked {
         }
         asked.in_range(shape)?;
         Ok(asked)
+    }
+
+    /// The roots and the claim that the request keeps.
+    fn answered(&self) -> Option<&Answered> {
+        self.request.as_ref()?.answered.as_ref()
+    }
+
+    /// Who asked what and when, in words.
+    fn told(&self, options: &Options) -> Result<Vec<String>, Failure> {
+        if let Some(request) = &self.request {
+            return Ok(request.told());
+        }
+        if let Some(path) = options.path("--asked") {
+            let path = shown_path(&path);
+            return Ok(vec![format!(
+                "the checker's request {path}, which was not looked at"
+            )]);
+        }
+        let from =
+            |name: &str, path: PathBuf| format!("the checker's {name}: from {}", shown_path(&path));
+        let seed = options.text("--seed")?;
+        let drawn = |name: &str| match &seed {
+            Some(seed) => format!(
+                "the checker's {name}: drawn from the seed text {}",
+                as_text(seed.as_bytes())
+            ),
+            None => format!("the {name}: the holder's own"),
+        };
+        let challenges = options
+            .path("--challenges")
+            .map(|path| from("challenges", path));
+        let by_name = options.given("--at") || options.given("--offset");
+        let positions = match options.path("--positions") {
+            Some(path) => Some(from("positions", path)),
+            None => by_name.then(|| "the checker's positions: given by name".into()),
+        };
+        Ok(vec![
+            challenges.unwrap_or_else(|| drawn("challenges")),
+            positions.unwrap_or_else(|| drawn("positions")),
+        ])
     }
 
     fn in_range(&self, shape: &Shape) -> Result<(), Failure> {
@@ -121,151 +298,61 @@ impl Asked {
     }
 }
 
-/// What was found so far.
-#[derive(Default)]
-struct Found {
-    lines: Vec<String>,
-    notes: Vec<String>,
-    records: Vec<Json>,
-    tail: Option<Json>,
-    first: Option<Refusal>,
-    accepted: usize,
-    refused: usize,
+/// What an accepted record opens, at its offset in the file.
+fn opened(seal: &Seal, position: usize, record: &QueryRecord) -> Option<Opened> {
+    let opened = Opened::of(seal.shape.n, position, record)?;
+    match &seal.part {
+        None => Some(opened),
+        Some(part) => Some(part.placed(opened)),
+    }
 }
 
-impl Found {
-    fn all(
-        &mut self,
-        statement: &Statement,
-        shown: &Shown,
-        positions: &[usize],
-        claim: Word,
-    ) -> Result<(), Failure> {
-        for position in positions {
-            let name = format!("position {position}");
-            let mut fields = vec![("position", Json::number(*position))];
-            fields.extend(match shown.record(*position)? {
-                Record::Found(record) => {
-                    self.answered(&name, statement.check_query(*position, &record))
-                }
-                Record::Missing => self.declined(
-                    &name,
-                    "the opening has no record at this position; ask the holder for it",
-                ),
-                Record::NotAFile(what) => {
-                    self.declined(&name, &format!("{what}; ask the holder for the file"))
-                }
-            });
-            self.records.push(Json::Object(fields));
-        }
-        if positions.is_empty() {
-            self.declined(
-                "records",
-                "the opening shows no place of the deposit; ask the holder for positions",
-            );
-        }
-        let tail = self.answered("tail", statement.check_tail(claim, &shown.tail));
-        self.tail = Some(Json::Object(tail));
-        Ok(())
-    }
-
-    /// Two files for one position: which of them the holder means is not for the checker to guess.
-    fn doubles(&mut self, shown: &Shown) {
-        for (position, names) in shown.doubles() {
-            let sentence = format!(
-                "the opening has {} files for it: {}; ask the holder for one",
-                names.len(),
-                some_of(&names)
-            );
-            self.declined(&format!("position {position}"), &sentence);
-        }
-    }
-
-    fn answered(&mut self, name: &str, answered: Result<(), Refusal>) -> Vec<(&'static str, Json)> {
-        match answered {
-            Ok(()) => {
-                self.accepted += 1;
-                self.lines.push(format!("{name}: accepted"));
-                answer(true, None, "accepted")
+/// Has the library check each record that was asked for, and the tail.
+fn checked(
+    found: &mut Found,
+    seal: &Seal,
+    statement: &Statement,
+    shown: &Shown,
+    positions: &[usize],
+    claim: Word,
+) -> Result<(), Failure> {
+    for position in positions {
+        let answer = match shown.record(*position)? {
+            Record::Found(record) => match statement.check_query(*position, &record) {
+                Ok(()) => Answer::Accepted(opened(seal, *position, &record)),
+                Err(refusal) => Answer::Refused(refusal),
+            },
+            Record::Missing => Answer::Declined(
+                "the opening has no record at this position; ask the holder for it".into(),
+            ),
+            Record::NotAFile(what) => {
+                Answer::Declined(format!("{what}; ask the holder for the file"))
             }
-            Err(refusal) => {
-                self.refused += 1;
-                self.first.get_or_insert(refusal);
-                let mut lines = lines_of(&refusal).into_iter();
-                self.lines
-                    .push(format!("{name}: {}", lines.next().unwrap_or_default()));
-                self.lines.extend(lines);
-                answer(false, Some(&refusal), refusal.sentence())
-            }
-        }
-    }
-
-    fn declined(&mut self, name: &str, sentence: &str) -> Vec<(&'static str, Json)> {
-        self.refused += 1;
-        self.lines.push(format!("{name}: refused: {sentence}"));
-        answer(false, None, sentence)
-    }
-
-    /// A refusal before any record is read.
-    fn refused_whole(&mut self, refusal: &Refusal) {
-        self.answered("opening", Err(*refusal));
-    }
-
-    fn outcome(
-        self,
-        asked: &Asked,
-        unchecked: &[String],
-        checked: usize,
-        shape: &Shape,
-    ) -> Outcome {
-        let own = asked.left_to_the_holder();
-        let (verdict, sentence) = self.verdict(own, checked, shape);
-        let not_checked =
-            (!unchecked.is_empty()).then(|| format!("not checked: {}", some_of(unchecked)));
-        let said = format!("verdict: {sentence}");
-        Outcome::new(verdict, sentence)
-            .refusal(self.first)
-            .lines(self.lines)
-            .lines(not_checked)
-            .notes(self.notes)
-            .lines([said])
-            .found("records", Json::List(self.records))
-            .found("tail", self.tail.unwrap_or(Json::Null))
-            .found("not_checked", texts(unchecked))
-            .found("own_questions", own.map_or(Json::Null, Json::text))
-            .found("positions_checked", Json::number(checked))
-            .found("positions_of_a_full_check", Json::number(shape.queries()))
-    }
-
-    fn verdict(&self, own: Option<&str>, checked: usize, shape: &Shape) -> (Verdict, String) {
-        let records = if checked == 1 {
-            "1 record".into()
-        } else {
-            format!("{checked} records")
         };
-        let fewer = fewer(checked, shape);
-        match own {
-            _ if self.refused > 0 => (
-                Verdict::Refused,
-                format!("refused: {} refused, {} accepted", self.refused, self.accepted),
-            ),
-            Some(what) => (
-                Verdict::OwnQuestions,
-                format!("sound, but by the holder's own questions: the holder chose the {what}. {records} and the tail were checked{fewer}. This is no acceptance"),
-            ),
-            None => (Verdict::Accepted, format!("accepted: {records} and the tail{fewer}")),
-        }
+        found.add(Item::Record(*position), answer);
     }
+    if positions.is_empty() {
+        found.declined(
+            Item::Records,
+            "the opening shows no place of the deposit; ask the holder for positions",
+        );
+    }
+    let tail = statement.check_tail(claim, &shown.tail);
+    found.add(
+        Item::Tail,
+        tail.map_or_else(Answer::Refused, |()| Answer::Accepted(None)),
+    );
+    Ok(())
 }
 
-/// What a verdict says where fewer positions were checked than the profile has queries.
-fn fewer(checked: usize, shape: &Shape) -> String {
-    let full = shape.queries();
-    if checked >= full {
-        return String::new();
-    }
-    match shape.profile() {
-        Some((name, _)) => format!(", fewer than the {full} positions of the profile {name}"),
-        None => format!(", fewer than the {full} positions of a full check"),
+/// Two files for one position: which of them the holder means is not for the checker to guess.
+fn doubles(found: &mut Found, shown: &Shown) {
+    for (position, names) in shown.doubles() {
+        let sentence = format!(
+            "the opening has {} files for it: {}; ask the holder for one",
+            names.len(),
+            some_of(&names)
+        );
+        found.declined(Item::Doubles(position), sentence);
     }
 }

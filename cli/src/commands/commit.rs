@@ -1,10 +1,12 @@
-//! `seal commit`: a file's root and parameters, as a seal.
+//! `seal commit`: a file's root and parameters, as a seal. A folder is a project (commit_folder.rs).
 
+use crate::commands::commit_folder;
 use crate::folder::Kind;
 use crate::json::Json;
 use crate::options::Options;
 use crate::outcome::{Failure, Outcome, Verdict};
 use crate::progress::Progress;
+use crate::reading::shown_path;
 use crate::seal::Seal;
 use crate::shape::Shape;
 use crate::table::{read_table, room_for};
@@ -12,11 +14,15 @@ use crate::writing::{beside, Target};
 use dequmlo::{Deposit, Parameters, Root};
 use std::path::Path;
 
-const TAKEN: [&str; 6] = ["--profile", "--k", "--domain", "--out", "--force", "--json"];
+pub const TAKEN: [&str; 6] = ["--profile", "--k", "--domain", "--out", "--force", "--json"];
 
 pub fn run(options: &Options) -> Result<Outcome, Failure> {
-    options.expect(1, "one FILE", &TAKEN)?;
+    options.expect(1, "one FILE or FOLDER", &TAKEN)?;
     let file = &options.operands[0];
+    if file.is_dir() {
+        let (k, domain) = parameters(options)?;
+        return commit_folder::run(options, k, domain);
+    }
     let folder = options
         .path("--out")
         .unwrap_or_else(|| beside(file, ".seal"));
@@ -39,7 +45,7 @@ pub fn run(options: &Options) -> Result<Outcome, Failure> {
         Err(refusal) => return Ok(Outcome::refused(&refusal)),
     };
     drop(progress);
-    let files = Seal::files(&shape, &root, &file.to_string_lossy(), table.bytes);
+    let files = Seal::files(&shape, &root, &shown_path(file), table.bytes);
     notes.extend(target.write(&files)?);
     Ok(told(&shape, &root, file, table.bytes, target.folder()).notes(notes))
 }

@@ -3,19 +3,22 @@
 
 use crate::check_lines::with_check_lines;
 use crate::folder::{Kind, Named, SUMMARY};
+use crate::format::signature;
 use crate::json::Json;
 use crate::options::Options;
 use crate::outcome::{lines_of, Failure, Outcome, Verdict};
+use crate::part::asked_seal;
 use crate::questions::challenges;
 use crate::reading::named;
-use crate::seal::{Seal, SEAL_FOLDER};
 use crate::shown::Shown;
 use crate::statement::{roots, statement};
 use crate::writing::{beside, Target};
 use dequmlo::{Collision, QueryRecord, Refusal, Statement};
 
-const TAKEN: [&str; 8] = [
+pub const TAKEN: [&str; 10] = [
     "--seal",
+    "--file",
+    "--part",
     "--opening",
     "--at",
     "--challenges",
@@ -33,11 +36,14 @@ const BROKEN: &str = "two messages with one digest were found, so the hash is br
 
 pub fn run(options: &Options) -> Result<Outcome, Failure> {
     options.expect(2, "two records, FIRST and SECOND", &TAKEN)?;
-    let seal = Seal::read(&options.needed_path("--seal", SEAL_FOLDER)?)?;
     let opening = options.needed_path(
         "--opening",
         "the folder that names the challenges and the roots",
     )?;
+    let seal = match asked_seal(options, Some(&opening))? {
+        Ok(seal) => seal,
+        Err(refused) => return Ok(refused.outcome()),
+    };
     let position = options
         .number("--at")?
         .ok_or_else(|| Failure("`seal compare` needs --at: the position of both records".into()))?;
@@ -122,8 +128,9 @@ fn broken(options: &Options, collision: &Collision) -> Outcome {
 
 fn messages(collision: &Collision) -> Vec<Named> {
     let summary = format!(
-        "{}: {BROKEN}.\n\nfirst.message and second.message differ and have the same BLAKE3 digest.\n",
-        Kind::Collision.heading()
+        "{}: {BROKEN}.\n\nfirst.message and second.message differ and have the same BLAKE3 digest.\n\n{}",
+        Kind::Collision.heading(),
+        signature()
     );
     with_check_lines(vec![
         ("first.message".into(), collision.first.clone()),

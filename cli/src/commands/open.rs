@@ -5,17 +5,25 @@ use crate::json::Json;
 use crate::opening::Opening;
 use crate::options::Options;
 use crate::outcome::{texts, Failure, Outcome, Verdict};
+use crate::part::{asked_seal, Part};
 use crate::progress::Progress;
-use crate::questions::{challenges, positions, SEED_WARNING};
-use crate::seal::{Seal, SEAL_FOLDER};
+use crate::project::file_path;
+use crate::questions::{challenges, positions, requested, SEED_WARNING};
+use crate::reading::{shown_path, stretch, unreadable};
+use crate::request::Request;
+use crate::seal::Seal;
 use crate::shape::Shape;
-use crate::table::{read_table, room_for};
+use crate::table::{read_table, room_for, table_of};
 use crate::writing::{beside, Target};
 use dequmlo::{Deposit, Refusal, Word};
 use std::path::Path;
 
-const TAKEN: [&str; 9] = [
+pub const TAKEN: [&str; 13] = [
     "--seal",
+    "--file",
+    "--part",
+    "--offset",
+    "--asked",
     "--challenges",
     "--seed",
     "--at",
@@ -29,31 +37,58 @@ const TAKEN: [&str; 9] = [
 pub fn run(options: &Options) -> Result<Outcome, Failure> {
     options.expect(1, "one FILE", &TAKEN)?;
     let file = &options.operands[0];
+    let seal = match asked_seal(options, None)? {
+        Ok(seal) => seal,
+        Err(refused) => return Ok(refused.outcome()),
+    };
+    let asked = Asked::read(options, &seal)?;
     let folder = options
         .path("--out")
-        .unwrap_or_else(|| beside(file, ".opening"));
+        .unwrap_or_else(|| beside(file, asked.ending()));
     let (target, mut notes) = Target::new(&folder, Kind::Opening, options.has("--force"))?;
-    let seal = Seal::read(&options.needed_path("--seal", SEAL_FOLDER)?)?;
-    let asked = Asked::read(options, &seal.shape)?;
-    let table = match read_table(file)? {
-        Ok(table) => table.words,
+    if file.is_dir() && seal.part.is_none() {
+        return Err(Failure(format!(
+            "{} is a folder: --file PATH says which file of the project is opened",
+            file.display()
+        )));
+    }
+    let (read, path) = match &seal.part {
+        None => (read_table(file)?.map(|table| table.words), file.clone()),
+        Some(part) => {
+            let path = file_path(file, &part.path);
+            (read_part(&path, part)?, path)
+        }
+    };
+    let table = match read {
+        Ok(table) => table,
         Err(sentence) => return Ok(Outcome::declined(sentence)),
     };
+    let not_the_file = || Ok(Outcome::declined(another_file(&path)));
     if table.len() != seal.sizes.table_words {
-        return Ok(not_the_file(file));
+        return not_the_file();
     }
     room_for(&seal.shape)?;
     let opening = match opened(&seal, &table, &asked) {
         Ok(Some(opening)) => opening,
-        Ok(None) => return Ok(not_the_file(file)),
+        Ok(None) => return not_the_file(),
         Err(refusal) => return Ok(Outcome::refused(&refusal)),
     };
-    notes.extend(target.write(&opening.files(&file.to_string_lossy(), &asked.drawn))?);
+    if asked.keeps_other_roots(&opening) {
+        return Ok(Outcome::declined(
+            "the request keeps other roots or another claim than this file has by its challenges, so it follows another answer than this file's".into(),
+        ));
+    }
+    let name = match &seal.part {
+        None => shown_path(file),
+        Some(part) => part.name(),
+    };
+    let manifest = seal.part.map(|part| part.manifest);
+    notes.extend(target.write(&opening.files(&name, &asked.drawn, manifest))?);
     notes.extend(seal.notes);
     if asked.seeded {
         notes.push(SEED_WARNING.into());
     }
-    Ok(told(&opening, target.folder()).notes(notes))
+    Ok(told(&opening, target.folder(), asked.first_round().is_some()).notes(notes))
 }
 
 /// What the checker asked for.
@@ -62,12 +97,35 @@ struct Asked {
     drawn: String,
     seeded: bool,
     positions: Vec<usize>,
+    request: Option<Request>,
 }
 
 impl Asked {
-    fn read(options: &Options, shape: &Shape) -> Result<Asked, Failure> {
+    fn read(options: &Options, seal: &Seal) -> Result<Asked, Failure> {
+        match requested(options, seal)? {
+            Some(request) => Ok(Asked::by_request(request)),
+            None => Asked::by_options(options, &seal.shape),
+        }
+    }
+
+    fn by_request(request: Request) -> Asked {
+        let answered = request.answered.as_ref();
+        Asked {
+            challenges: request.challenges.clone(),
+            drawn: "those of the checker's request".into(),
+            seeded: false,
+            positions: answered.map_or(Vec::new(), |answered| answered.positions.clone()),
+            request: Some(request),
+        }
+    }
+
+    fn by_options(options: &Options, shape: &Shape) -> Result<Asked, Failure> {
         let (challenges, drawn) = challenges(options, shape.n)?.ok_or_else(|| {
-            Failure("`seal open` needs the checker's challenges: --challenges FILE, or --seed TEXT for trying it out".into())
+            Failure(
+                "`seal open` needs the checker's request, --asked FOLDER, or the checker's challenges: --challenges FILE, or --seed TEXT for trying it \
+                 out"
+                    .into(),
+            )
         })?;
         let positions = positions(options, shape)?.ok_or_else(|| {
             Failure(
@@ -79,8 +137,36 @@ impl Asked {
             drawn,
             seeded: options.text("--seed")?.is_some(),
             positions,
+            request: None,
         })
     }
+
+    /// The request, where it has no positions yet.
+    fn first_round(&self) -> Option<&Request> {
+        self.request
+            .as_ref()
+            .filter(|request| request.answered.is_none())
+    }
+
+    /// How the name of the folder ends that is written beside the file.
+    fn ending(&self) -> &'static str {
+        self.first_round().map_or(".opening", |_| ".answer")
+    }
+
+    /// Whether the request keeps roots or a claim that are not this opening's.
+    fn keeps_other_roots(&self, opening: &Opening) -> bool {
+        let answered = self.request.as_ref().and_then(|r| r.answered.as_ref());
+        answered.map_or(false, |kept| {
+            kept.roots != opening.roots || kept.claim != opening.claim
+        })
+    }
+}
+
+/// The table of a part of a project's file, as the file is now: with a byte more where it does not end with the part.
+fn read_part(path: &Path, part: &Part) -> Result<Result<Vec<Word>, String>, Failure> {
+    let more = usize::from(part.is_last());
+    let bytes = stretch(path, part.start, part.bytes + more).map_err(|e| unreadable(path, e))?;
+    Ok(table_of(&bytes).map_err(|_| another_file(path)))
 }
 
 /// The opening of a table; none where its root is not the seal's.
@@ -91,10 +177,8 @@ fn opened(seal: &Seal, table: &[Word], asked: &Asked) -> Result<Option<Opening>,
     if deposit.root() != seal.root {
         return Ok(None);
     }
-    let n = seal.shape.n;
-    let folded = deposit.fold_with(&asked.challenges, |level| {
-        progress.say(&format!("level {level} of {n} .."))
-    })?;
+    progress.say(&format!("folding {} levels ..", seal.shape.n));
+    let folded = deposit.fold(&asked.challenges)?;
     let queries = asked
         .positions
         .iter()
@@ -110,18 +194,23 @@ fn opened(seal: &Seal, table: &[Word], asked: &Asked) -> Result<Option<Opening>,
     }))
 }
 
-fn not_the_file(file: &Path) -> Outcome {
-    Outcome::declined(format!(
+fn another_file(path: &Path) -> String {
+    format!(
         "{} is not the file that was sealed: its root is another",
-        file.display()
-    ))
+        shown_path(path)
+    )
 }
 
-fn told(opening: &Opening, folder: &Path) -> Outcome {
+fn told(opening: &Opening, folder: &Path, is_answer: bool) -> Outcome {
     let positions = opening.queries.iter().map(|(p, _)| Json::number(*p));
     let count = opening.queries.len();
     let noun = if count == 1 { "position" } else { "positions" };
-    let sentence = format!("opened {count} {noun} into {}", folder.display());
+    let shown = folder.display();
+    let sentence = if is_answer {
+        format!("wrote the answer, with roots, claim and tail, into {shown}; send that folder to the checker, who then draws the positions")
+    } else {
+        format!("opened {count} {noun} into {shown}")
+    };
     Outcome::new(Verdict::Done, sentence)
         .say()
         .found("opening", Json::text(folder.display()))

@@ -3,18 +3,20 @@
 use crate::json::Json;
 use crate::options::Options;
 use crate::outcome::{texts, Failure, Outcome, Verdict};
-use crate::seal::{Seal, SEAL_FOLDER};
+use crate::part::asked_seal;
 use crate::shown::{changed_note, Shown};
 use crate::statement::{checker_s_own, claim, roots, statement};
-use dequmlo::tree::fold_tree_width;
-use dequmlo::{TailRecord, Word};
+use dequmlo::Word;
 
-const TAKEN: [&str; 4] = ["--seal", "--roots", "--claim", "--json"];
+pub const TAKEN: [&str; 6] = ["--seal", "--file", "--part", "--roots", "--claim", "--json"];
 
 pub fn run(options: &Options) -> Result<Outcome, Failure> {
     options.expect(1, "one OPENING", &TAKEN)?;
     checker_s_own(options, &options.operands[0])?;
-    let seal = Seal::read(&options.needed_path("--seal", SEAL_FOLDER)?)?;
+    let seal = match asked_seal(options, Some(&options.operands[0]))? {
+        Ok(seal) => seal,
+        Err(refused) => return Ok(refused.outcome()),
+    };
     let shown = match Shown::read(&options.operands[0], &seal, seal.shape.queries())? {
         Ok(shown) => shown,
         Err(sentence) => return Ok(Outcome::declined(sentence)),
@@ -31,7 +33,10 @@ pub fn run(options: &Options) -> Result<Outcome, Failure> {
         .cloned()
         .chain(changed_note(&shown.changed()));
     let outcome = match checked {
-        Ok(()) => sound(roots.kept, &last_level(&shown.tail, seal.shape.k)),
+        Ok(()) => {
+            let level = shown.tail.words();
+            sound(roots.kept, &level.expect("an accepted record reads whole"))
+        }
         Err(refusal) => Outcome::refused(&refusal),
     };
     Ok(outcome.notes(notes))
@@ -68,18 +73,4 @@ fn sound(kept: bool, level: &[Word]) -> Outcome {
                 Json::text("roots")
             },
         )
-}
-
-/// The words of an accepted tail record: each group's values stand after a count of 4 bytes, and its path after another.
-fn last_level(record: &TailRecord, k: usize) -> Vec<Word> {
-    let (count, width) = (1usize << k, fold_tree_width(1 << k));
-    let group = 8 + 16 * width + 32 * (count / width).trailing_zeros() as usize;
-    let word = |at: usize| {
-        Word(u128::from_le_bytes(
-            record.bytes()[at..at + 16].try_into().expect("16 bytes"),
-        ))
-    };
-    (0..count)
-        .map(|eps| word(8 + eps / width * group + 16 * (eps % width)))
-        .collect()
 }

@@ -9,6 +9,13 @@ use std::process::Command;
 /// The words of a check by the checker's own questions, for what `Desk::opened` made.
 pub const CHECK: &str = "check plan.txt.opening --seal plan.txt.seal --seed dice --at 7,0,127";
 
+/// The words that open and check by a request, for what `Desk::asked` made.
+pub const OPEN_ASKED: &str = "open plan.txt --seal plan.txt.seal --asked plan.txt.asked";
+pub const CHECK_ASKED: &str = "check plan.txt.opening --seal plan.txt.seal --asked plan.txt.asked";
+
+/// The line that a text file begins with.
+pub const FORMAT: &str = "format 1\n";
+
 /// A folder for one test, empty at its start.
 pub struct Desk(pub PathBuf);
 
@@ -30,11 +37,37 @@ impl Desk {
         desk
     }
 
-    /// The same as version 0.1.0 left it, without check lines.
+    /// A desk with a sealed file, a request that was answered and has three positions, and the opening of these.
+    pub fn asked(name: &str) -> Desk {
+        let desk = Desk::answered(name);
+        let ask =
+            "ask --seal plan.txt.seal --asked plan.txt.asked --answer plan.txt.answer --count 3";
+        assert_eq!(desk.run(ask).status, 0);
+        assert_eq!(desk.run(OPEN_ASKED).status, 0);
+        desk
+    }
+
+    /// A desk with a sealed file, a request without positions, and the answer to it.
+    pub fn answered(name: &str) -> Desk {
+        let desk = Desk::new(name);
+        desk.write("plan.txt", &plan());
+        assert_eq!(desk.run("commit plan.txt").status, 0);
+        assert_eq!(desk.run("ask --seal plan.txt.seal").status, 0);
+        assert_eq!(desk.run(OPEN_ASKED).status, 0);
+        desk
+    }
+
+    /// The same as version 0.1.0 left it, without check lines and without the line of the format.
     pub fn old(name: &str) -> Desk {
         let desk = Desk::opened(name);
-        let _ = fs::remove_file(desk.path("plan.txt.seal/check.txt"));
-        let _ = fs::remove_file(desk.path("plan.txt.opening/check.txt"));
+        for folder in ["plan.txt.seal", "plan.txt.opening"] {
+            let _ = fs::remove_file(desk.path(folder).join("check.txt"));
+            for file in desk.names(folder).iter().filter(|n| n.ends_with(".txt")) {
+                let path = format!("{folder}/{file}");
+                let text = desk.text(&path);
+                desk.write(&path, text.strip_prefix(FORMAT).unwrap_or(&text).as_bytes());
+            }
+        }
         desk
     }
 
@@ -54,6 +87,11 @@ impl Desk {
         String::from_utf8(self.read(name)).unwrap()
     }
 
+    /// The one value of a text file, which stands in its last line.
+    pub fn value(&self, name: &str) -> String {
+        self.text(name).lines().last().unwrap().into()
+    }
+
     /// Changes one bit of a byte.
     pub fn damage(&self, name: &str, byte: usize) {
         let mut bytes = self.read(name);
@@ -68,6 +106,29 @@ impl Desk {
 
     pub fn folder(&self, name: &str) {
         fs::create_dir(self.path(name)).unwrap();
+    }
+
+    /// A folder with the files of another.
+    pub fn copy(&self, from: &str, to: &str) {
+        self.folder(to);
+        for name in self.names(from) {
+            fs::copy(self.path(from).join(&name), self.path(to).join(&name)).unwrap();
+        }
+    }
+
+    /// Writes the check lines of a folder anew, as somebody who changes it on purpose does.
+    pub fn vouch(&self, folder: &str) {
+        let digest = |name: &String| {
+            let bytes = self.read(&format!("{folder}/{name}"));
+            dequmlo::Root(dequmlo::digest(&bytes).unwrap())
+        };
+        let lines: String = self
+            .names(folder)
+            .iter()
+            .filter(|name| *name != "check.txt")
+            .map(|name| format!("{}  {name}\n", digest(name)))
+            .collect();
+        self.write(&format!("{folder}/check.txt"), lines.as_bytes());
     }
 
     pub fn names(&self, folder: &str) -> Vec<String> {
@@ -105,6 +166,23 @@ impl Desk {
             .args(line.split_whitespace())
             .current_dir(&self.0);
         Run::of(&mut command)
+    }
+
+    /// The commands that the help lists.
+    pub fn commands(&self) -> Vec<String> {
+        let help = self.run("help").out;
+        let name = |line: &str| {
+            Some(
+                line.strip_prefix("seal ")?
+                    .split([' ', ','])
+                    .next()?
+                    .to_string(),
+            )
+        };
+        let mut commands: Vec<String> = help.lines().filter_map(name).collect();
+        commands.dedup();
+        assert!(commands.len() >= 12, "{commands:?}");
+        commands
     }
 
     pub fn check(&self) -> Run {

@@ -11,7 +11,8 @@ use Rattle.theory_laws.proofs.Lists.{stored-nil, stored-cons}
 
 -- ---- 32 bytes of a list
 
-pub load-step : (t d : List ℕ) (from i : ℕ) → i < 32 → from + 32 ≤ length t → length d ≡ 32 → take i d ≡ take i (drop from t) → take (i + 1) (set d i (getD t (from + i) 0)) ≡ take (i + 1) (drop from t)
+pub load-step : (t d : List ℕ) (from i : ℕ) → i < 32 → from + 32 ≤ length t → length d ≡ 32 → take i d ≡ take i (drop from t)
+    → take (i + 1) (set d i (getD t (from + i) 0)) ≡ take (i + 1) (drop from t)
 load-step t d from i h a c e =
     let z : i < length d = omega arith in
     let y : i < length (drop from t) = simp length-drop (omega arith) in

@@ -23,14 +23,16 @@ number-begin out from size x =
     let f : size - 0 ≡ size = omega arith in
     rw (e, f)
 
-pub number-step : (out : List ℕ) (from size i x v : ℕ) (r : List ℕ) → numberLeft out from size i x ≡ r → v ≡ x % 256 → i < size → numberLeft (set out (from + i) v) from size (i + 1) (x / 256) ≡ r
+pub number-step : (out : List ℕ) (from size i x v : ℕ) (r : List ℕ) → numberLeft out from size i x ≡ r → v ≡ x % 256 → i < size
+    → numberLeft (set out (from + i) v) from size (i + 1) (x / 256) ≡ r
 unfolding numberLeft leBytes
 number-step out from size i x v r e f h =
     let m : size - i ≡ suc (size - (i + 1)) = omega arith in
     let z : from + (i + 1) ≡ suc (from + i) = omega arith in
     rw (z, f) (rw (m, stored-cons) at e)
 
-pub number-put : (o out : List ℕ) (from size i x rest : ℕ) → numberLeft out from size i rest ≡ stored o from (leBytes size x) → size ≤ i → Put o from size (leBytes size x) out (from + size)
+pub number-put : (o out : List ℕ) (from size i x rest : ℕ) → numberLeft out from size i rest ≡ stored o from (leBytes size x) → size ≤ i
+    → Put o from size (leBytes size x) out (from + size)
 unfolding numberLeft leBytes
 number-put o out from size i x rest e h =
     let m : size - i ≡ 0 = omega arith in
@@ -66,7 +68,8 @@ above-fits size i from s h k b =
     leValue-lt 7 (part (size - i) (from + i) s) (omega (arith, length-part-le (size - i) (from + i) s))
     (λ j. omega (arith, part-at-le (size - i) (from + i) s j, b (from + i + j)))
 
-pub above-next : (size i from : ℕ) (s : List ℕ) → 0 < i → i ≤ size → from + size ≤ length s → above size i from s * 256 + at s (from + (i - 1)) ≡ above size (i - 1) from s
+pub above-next : (size i from : ℕ) (s : List ℕ) → 0 < i → i ≤ size → from + size ≤ length s
+    → above size i from s * 256 + at s (from + (i - 1)) ≡ above size (i - 1) from s
 unfolding above leValue
 above-next size i from s h k l =
     let z : size - (i - 1) ≡ suc (size - i) = omega arith in

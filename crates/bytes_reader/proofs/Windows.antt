@@ -50,10 +50,12 @@ pub byte-step : (s b : List ℕ) (i j v : ℕ) → ((k : ℕ) → k < j → getD
     → (k : ℕ) → k < j + 1 → getD (set b j v) k 0 ≡ byteAt s i k
 byte-step s b i j v f e n h = fill-step (byteAt s i) j b v (omega arith) e f
 
-pub window-whole : (s d : List ℕ) (i left : ℕ) → left ≡ length s - i → 32 ≤ left → d ≡ part 32 i s → _≡_ {A = Window} (record { bytes = d; left = left }) (windowAt s i)
+pub window-whole : (s d : List ℕ) (i left : ℕ) → left ≡ length s - i → 32 ≤ left → d ≡ part 32 i s
+    → _≡_ {A = Window} (record { bytes = d; left = left }) (windowAt s i)
 unfolding windowAt
 window-whole s d i left e h f = ap₂ (λ (b : List ℕ) (l : ℕ). record { bytes = b; left = l }) (f ∙ part-window s i (omega arith)) e
 
-pub window-filled : (s b : List ℕ) (i left j : ℕ) → left ≡ length s - i → length b ≡ 32 → 32 ≤ j → ((k : ℕ) → k < j → getD b k 0 ≡ byteAt s i k) → _≡_ {A = Window} (record { bytes = b; left = left }) (windowAt s i)
+pub window-filled : (s b : List ℕ) (i left j : ℕ) → left ≡ length s - i → length b ≡ 32 → 32 ≤ j
+    → ((k : ℕ) → k < j → getD b k 0 ≡ byteAt s i k) → _≡_ {A = Window} (record { bytes = b; left = left }) (windowAt s i)
 unfolding windowAt window
 window-filled s b i left j e n h f = ap₂ (λ (x : List ℕ) (l : ℕ). record { bytes = x; left = l }) (is-tab b 32 (byteAt s i) n (λ k g. f k (omega arith))) e

@@ -1,3 +1,1 @@
-pub mod Laying
-pub mod Slices
 pub mod Turns

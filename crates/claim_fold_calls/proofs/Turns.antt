@@ -1,32 +1,37 @@
 -- The turns of a list of calls: where it stands at the start, after a refused call, after a done one, and at the end.
-use Prim.Native.Nat.{ℕ, zero, suc, _+_, _-_, _*_, _^_, _<_, _≤_}
+use Prim.Native.Nat.{ℕ, zero, suc, _+_, _-_, _*_, _/_, _<_, _≤_}
 use mathlib.Core.Path.{_≡_, refl, sym, _∙_, ap, ap₂, subst}
-use mathlib.Core.Logic.{_⊎_, ⊎-elim}
+use mathlib.Core.Logic.{_⊎_, inl, inr, ⊎-elim}
 use mathlib.Core.Bool.{Bool, true, false}
-use mathlib.Core.List.{List, [], _∷_, _++_, append-assoc, append-nil}
+use mathlib.Core.List.{List, [], _∷_, _++_, map, append-assoc, append-nil}
 use native.Mathlib.Nat.{eq-or-lt-of-le}
 use native.Mathlib.Numerals.{add-one}
 use native.Mathlib.Omega.{arith}
-use borrow.Author.Tests.{eq-eqb, ne-eqb, eqb-true, eqb-false}
-use lib.Dec.{eqb}
-use lib.ListN.{length, take, drop, set, length-map, drop-of-length-le, take-append-drop}
-use lib.Seq.{length-take-le, drop-cons, drop-set-lt, take-suc-set}
-use Rattle.theory_laws.specs.Table.{at}
+use borrow.Author.Tests.{eq-eqb, ne-eqb, eqb-true, eqb-false, ltb-false}
+use lib.Dec.{eqb, ltb}
+use lib.ListN.{length, take, drop, set, length-map, take-append-drop}
+use lib.Seq.{length-take-le, take-at, take-all, drop-set-lt, take-suc-set}
 use Rattle.theory_laws.specs.Questions.{onDone}
+use Rattle.theory_laws.proofs.Questions.{on-refused}
 use Rattle.theory_field.specs.Words.{words}
 use Rattle.theory_field.proofs.Words.{length-words-even}
 use Rattle.theory_multilinear.specs.Fold.{foldList}
 use Rattle.theory_multilinear.specs.Folds.{Fold}
 use Rattle.theory_code.specs.Questions.{foldNumber}
 use Rattle.code_codeword.proofs.Lengths.{fold-sizes}
-use Rattle.theory_laws.proofs.Questions.{on-refused}
 use Rattle.theory_record.specs.Widths.{levelLength, total}
 use Rattle.theory_record.specs.Build.{levelStart, levelsLength, levelValues}
-use Rattle.theory_record.proofs.Offsets.{length-levelValues}
+use Rattle.theory_record.proofs.Offsets.{length-levelValues, level-halves, level-le}
 use Rattle.theory_claim.specs.Calls.{Call, callNumber, callFold, doneFolds, afterFolds}
-use Rattle.claim_fold_calls.specs.Lent.{codewordHalves, foldedHalves, lentCalls}
-use Rattle.claim_fold_calls.specs.helpers.Laid.{laid, challengesOf, callsNumber, Reached, Called, Left}
-use Rattle.claim_fold_calls.proofs.Laying.{next-start, laid-before, laid-there, laid-behind, behind-more, length-fold}
+use Rattle.code_levels.specs.helpers.Levels.{laid, LevelLent}
+use Rattle.code_levels.proofs.Laying.{next-start, laid-before, laid-there, laid-behind, behind-more, length-fold}
+use Rattle.claim_fold_calls.specs.Lent.{callAt, callsFrom, lentCalls}
+use Rattle.claim_fold_calls.specs.helpers.Laid.{challengesOf, numberOn, Reached, Called, Left}
+
+map-take : {A B : Type 0} (f : A → B) (m : ℕ) (xs : List A) → map f (take m xs) ≡ take m (map f xs)
+map-take f zero xs = refl
+map-take f (suc m) [] = refl
+map-take f (suc m) (x ∷ xs) = ap (λ ys. f x ∷ ys) (map-take f m xs)
 
 -- ---- the start
 
@@ -100,16 +105,18 @@ module _ (n k : ℕ) (c old oldKept : List ℕ) (calls rest : List Call) (x : Ca
       }
 
   -- its fold is laid behind the levels, its challenge behind those of the calls before
-  module _ (z : callNumber (levelValues n k (words levels) l) x ≡ 0) (h : l < n) (levels′ kept′ : List ℕ) (long : length levels′ ≡ length levels) (kept-long : length kept′ ≡ length kept)
-      (new : words levels′ ≡ laid n k (suc l) (foldList (x .var) (x .by) (levelValues n k (words levels) l)) (words levels)) (put : words kept′ ≡ set (words kept) l (x .by)) where
+  module _ (z : callNumber (levelValues n k (words levels) l) x ≡ 0) (h : l < n) (levels′ kept′ : List ℕ) (long : length levels′ ≡ length levels)
+      (kept-long : length kept′ ≡ length kept) (new : words levels′ ≡ laid n k (suc l) (callFold (levelValues n k (words levels) l) x) (words levels))
+      (put : words kept′ ≡ set (words kept) l (x .by)) where
     words-long : length (words levels) ≡ levelsLength n k
     words-long = length-words-even levels (levelsLength n k) (s .levels-long)
 
-    next-is : levelValues n k (words levels′) (suc l) ≡ callFold current x
+    length-next : length (callFold current x) ≡ levelLength n k (suc l)
     unfolding callFold
-    next-is =
-        ap (λ (ws : List ℕ). levelValues n k ws (suc l)) new
-        ∙ laid-there n k l _ (words levels) h words-long (length-fold n k l (x .var) (x .by) (words levels) h words-long)
+    length-next = length-fold n k l (x .var) (x .by) (words levels) h words-long
+
+    next-is : levelValues n k (words levels′) (suc l) ≡ callFold current x
+    next-is = ap (λ (ws : List ℕ). levelValues n k ws (suc l)) new ∙ laid-there n k l _ (words levels) h words-long length-next
 
     after : (j : ℕ) → afterFolds c calls (suc l + j) ≡ afterFolds (levelValues n k (words levels′) (suc l)) rest j
     after j =
@@ -119,8 +126,10 @@ module _ (n k : ℕ) (c old oldKept : List ℕ) (calls rest : List Call) (x : Ca
     levels-are : (j : ℕ) → j ≤ suc l → levelValues n k (words levels′) j ≡ afterFolds c calls j
     levels-are j g =
         ⊎-elim
-        (λ (e : j ≡ suc l). rw e (sym (ap (afterFolds c calls) {x = suc l} {y = suc l + 0} (omega arith) ∙ after 0 ∙ first (levelValues n k (words levels′) (suc l)) rest)))
-        (λ (b : j < suc l). ap (λ (ws : List ℕ). levelValues n k ws j) new ∙ laid-before n k l _ (words levels) h words-long j (omega arith) ∙ s .before j (omega arith))
+        (λ (e : j ≡ suc l). rw e
+        (sym (ap (afterFolds c calls) {x = suc l} {y = suc l + 0} (omega arith) ∙ after 0 ∙ first (levelValues n k (words levels′) (suc l)) rest)))
+        (λ (b : j < suc l). ap (λ (ws : List ℕ). levelValues n k ws j) new ∙ laid-before n k l _ (words levels) h words-long j (omega arith)
+        ∙ s .before j (omega arith))
         (eq-or-lt-of-le {n = j} {m = suc l} g)
 
     kept-are : challengesOf (doneFolds c calls) ≡ take (suc l) (words kept′) ++ challengesOf (doneFolds (levelValues n k (words levels′) (suc l)) rest)
@@ -133,7 +142,7 @@ module _ (n k : ℕ) (c old oldKept : List ℕ) (calls rest : List Call) (x : Ca
     levels-behind : drop (levelStart n k (suc (suc l))) (words levels′) ≡ drop (levelStart n k (suc (suc l))) old
     levels-behind =
         ap (drop (levelStart n k (suc (suc l)))) new
-        ∙ laid-behind n k l _ (words levels) h words-long (length-fold n k l (x .var) (x .by) (words levels) h words-long)
+        ∙ laid-behind n k l _ (words levels) h words-long length-next
         ∙ behind-more (levelStart n k (suc l)) (levelLength n k (suc l)) (levelStart n k (suc (suc l))) (words levels) old (next-start n k (suc l)) (s .behind)
 
     kept-behind : drop (suc l) (words kept′) ≡ drop (suc l) oldKept
@@ -155,141 +164,148 @@ module _ (n k : ℕ) (c old oldKept : List ℕ) (calls rest : List Call) (x : Ca
           by = kept-are;
         }
 
--- ---- the end
+-- ---- the end: no call is to come, or n are done
 
-module _ (n k : ℕ) (c old oldKept : List ℕ) (calls : List Call) (l from : ℕ) (levels kept : List ℕ)
-    (s : Reached n k c old oldKept calls [] l from levels kept) where
-  done-kept : challengesOf (doneFolds c calls) ≡ take l (words kept)
+module _ (n k : ℕ) (c old oldKept : List ℕ) (calls rest : List Call) (l from : ℕ) (levels kept : List ℕ)
+    (s : Reached n k c old oldKept calls rest l from levels kept) (end : (rest ≡ []) ⊎ (l ≡ n)) where
+  kept-least : length (take l (words kept)) ≡ l
+  kept-least = length-take-le l (words kept) (omega (arith, s .within, length-words-even kept n (s .kept-long)))
+
+  none-to-come : rest ≡ [] → take n (challengesOf (doneFolds c calls)) ≡ take l (words kept)
   unfolding doneFolds
-  done-kept = s .by ∙ append-nil (take l (words kept))
+  none-to-come e =
+      ap (take n) (s .by ∙ (rw e (append-nil (take l (words kept))))) ∙ take-all n (take l (words kept)) (omega (arith, kept-least, s .within))
 
-  count-is : l ≡ length (doneFolds c calls)
-  count-is =
-      sym (sym (length-map (doneFolds c calls) (λ f. f .by)) ∙ ap length done-kept
-      ∙ length-take-le l (words kept) (omega (arith, s .within, length-words-even kept n (s .kept-long))))
+  all-to-come : l ≡ n → take n (challengesOf (doneFolds c calls)) ≡ take l (words kept)
+  all-to-come e = ap (take n) (s .by) ∙ take-at (take l (words kept)) _ n (kept-least ∙ e)
+
+  done-kept : challengesOf (take n (doneFolds c calls)) ≡ take l (words kept)
+  done-kept = map-take (λ f. f .by) n (doneFolds c calls) ∙ ⊎-elim none-to-come all-to-come end
 
   pub all-left : Left n k c old oldKept calls l levels kept
   all-left =
       record {
-        count = count-is;
-        most = s .within;
+        count = sym (sym (length-map (take n (doneFolds c calls)) (λ f. f .by)) ∙ ap length done-kept ∙ kept-least);
         each = s .before;
         behind = s .behind;
         kept-are = sym (take-append-drop l (words kept)) ∙ ap₂ (λ (rs ws : List ℕ). rs ++ ws) (sym done-kept) (s .behind-kept);
       }
 
--- ---- the calls of two lent lists
+-- ---- the number of a call on a level
 
--- the next of them
-pub next-call : (n k i : ℕ) (vars rs : List ℕ) → i < length vars → i < length rs
-    → lentCalls n k (drop i vars) (drop i rs)
-    ≡ record { n = n; k = k; var = at vars i; by = at rs i; room = foldedHalves n k }
-    ∷ lentCalls (onDone (foldNumber n k (at vars i) (codewordHalves n k) (foldedHalves n k)) (n - 1) n) k (drop (suc i) vars) (drop (suc i) rs)
-unfolding lentCalls
-next-call n k i vars rs h g = rw (drop-cons vars i 0 h, drop-cons rs i 0 g)
+number-on : (n k l : ℕ) (levels : List ℕ) (x : Call) → l ≤ n → length levels ≡ 2 * levelsLength n k
+    → numberOn n k l levels x ≡ foldNumber (x .n) (x .k) (x .var) (2 * levelLength n k l) (x .room)
+unfolding callNumber
+number-on n k l levels x h long =
+    ap (λ (m : ℕ). foldNumber (x .n) (x .k) (x .var) (2 * m) (x .room))
+    (length-levelValues n k l (words levels) h (length-words-even levels (levelsLength n k) long))
 
-pub no-call : (n k i : ℕ) (vars rs : List ℕ) → length vars ≤ i → lentCalls n k (drop i vars) (drop i rs) ≡ []
-unfolding lentCalls
-no-call n k i vars rs h = rw (drop-of-length-le vars {i = i} h)
+-- ---- what one call leaves
 
--- its number, on level l
-pub number-of-call : (n k l v r : ℕ) (ws : List ℕ) → l ≤ n → length ws ≡ levelsLength n k
-    → callNumber (levelValues n k ws l) (record { n = n - l; k = k; var = v; by = r; room = foldedHalves (n - l) k }) ≡ foldNumber (n - l) k v (codewordHalves (n - l) k) (foldedHalves (n - l) k)
-unfolding callNumber levelLength
-number-of-call n k l v r ws h long =
-    ap (λ (x : ℕ). foldNumber (n - l) k v (2 * x) (foldedHalves (n - l) k))
-    (length-levelValues n k l ws h long ∙ ap (λ (i : ℕ). 2 ^ i) {x = n + k - l} {y = n - l + k} (omega arith))
+module _ {n k l from levels half : ℕ} (z : LevelLent n k l from levels half) (x : Call) where
+  number-is : (ws : List ℕ) → length ws ≡ levels → numberOn n k l ws x ≡ foldNumber (x .n) (x .k) (x .var) (2 * levelLength n k l) (x .room)
+  number-is ws e = number-on n k l ws x (z .within) (e ∙ z .room .levels-long)
 
--- ---- a turn
+  -- a done one has half the level's length for its room, in words
+  room-is : (ws : List ℕ) → length ws ≡ levels → numberOn n k l ws x ≡ 0 → x .room ≡ levelLength n k l
+  room-is ws e f = omega (arith, fold-sizes (x .n) (x .k) (x .var) _ _ 0 (sym f ∙ number-is ws e) refl .halved)
 
--- a done one has a level to go to
-pub level-left : (n k l var : ℕ) {q : ℕ} → q ≡ callsNumber n k l var → q ≡ 0 → l < n
-level-left n k l var {q} e z = omega (arith, fold-sizes (n - l) k var _ _ q e z .below)
+  -- so one with more room than there is is refused
+  pub too-long : (ws : List ℕ) → length ws ≡ levels → half < x .room → numberOn n k l ws x ≡ 0 → ⊥
+  too-long ws e h f = absurd (omega (arith, h, room-is ws e f, level-le n k l, z .room .half-long))
 
-module _ {n k : ℕ} {c old oldKept : List ℕ} {calls : List Call} (vars rs : List ℕ) (i : ℕ) {l from : ℕ} {levels kept levels′ kept′ : List ℕ} {l′ from′ : ℕ}
-    (s : Reached n k c old oldKept calls (lentCalls (n - l) k (drop i vars) (drop i rs)) l from levels kept) (hv : i < length vars) (hr : i < length rs)
-    (el : length levels′ ≡ length levels) (ek : length kept′ ≡ length kept) (call : Called n k l from (at vars i) (at rs i) levels kept levels′ kept′ l′ from′) where
+pub called-refused : {n k l from : ℕ} {x : Call} {levels kept : List ℕ} → (numberOn n k l levels x ≡ 0 → ⊥)
+    → Called n k l from x levels kept levels kept l from
+called-refused z =
+    record { count = sym (on-refused _ _ _ z); start = sym (on-refused _ _ _ z); level = sym (on-refused _ _ _ z); challenge = sym (on-refused _ _ _ z) }
+
+module _ {n k l from h : ℕ} (levels : List ℕ) (z : LevelLent n k l from (length levels) h) (below : l < n) (x : Call) {q : ℕ}
+    (e : q ≡ foldNumber (x .n) (x .k) (x .var) (2 * levelLength n k l) (x .room)) where
+  said : q ≡ numberOn n k l levels x
+  said = e ∙ sym (number-is z x levels refl)
+
+  pub called-no : {kept : List ℕ} → (q ≡ 0 → ⊥) → Called n k l from x levels kept levels kept l from
+  called-no w = called-refused (λ f. w (said ∙ f))
+
+  pub called-done : q ≡ 0 → (half : List ℕ) {kept levels′ kept′ : List ℕ} {to : ℕ} (u : List ℕ) → to ≡ 2 * levelStart n k (l + 1)
+      → words (take (x .room) half) ≡ onDone q (foldList (x .var) (x .by) (levelValues n k (words levels) l)) u
+      → words levels′ ≡ laid n k (l + 1) (words (take (2 * levelLength n k (l + 1)) half)) (words levels) → words kept′ ≡ set (words kept) l (x .by)
+      → Called n k l from x levels kept levels′ kept′ (l + 1) to
+  unfolding callFold
+  called-done w half u et ef el ek =
+      let none : numberOn n k l levels x ≡ 0 = sym said ∙ w in
+      let all = eq-eqb (numberOn n k l levels x) 0 none in
+      let room : x .room ≡ 2 * levelLength n k (suc l) = room-is z x levels refl none ∙ level-halves n k l (omega arith) in
+      let f : words (take (2 * levelLength n k (suc l)) half) ≡ foldList (x .var) (x .by) (levelValues n k (words levels) l) = rw (room, w) at ef in
+      record { count = rw (all, add-one); start = rw all (rw add-one at et); level = rw all (rw (add-one, f) at el); challenge = rw all ek }
+
+-- ---- a turn, of the calls of two lent lists
+
+pub next-call : (cs rs : List ℕ) (m i : ℕ) → i < m → callsFrom cs rs i (m - i) ≡ callAt cs rs i ∷ callsFrom cs rs (suc i) (m - suc i)
+unfolding callsFrom
+next-call cs rs m i h = let e : m - i ≡ suc (m - suc i) = omega arith in rw e
+
+pub no-call : (cs rs : List ℕ) (m i : ℕ) → m ≤ i → callsFrom cs rs i (m - i) ≡ []
+unfolding callsFrom
+no-call cs rs m i h = let e : m - i ≡ 0 = omega arith in rw e
+
+module _ {n k : ℕ} {c old oldKept : List ℕ} {calls : List Call} (cs rs : List ℕ) (m i : ℕ) {l from : ℕ} {levels kept levels′ kept′ : List ℕ} {l′ from′ : ℕ}
+    (s : Reached n k c old oldKept calls (callsFrom cs rs i (m - i)) l from levels kept) (h : i < m) (below : l < n)
+    (el : length levels′ ≡ length levels) (ek : length kept′ ≡ length kept) (call : Called n k l from (callAt cs rs i) levels kept levels′ kept′ l′ from′) where
   abbrev Q : ℕ
-  Q = callsNumber n k l (at vars i)
+  Q = numberOn n k l levels (callAt cs rs i)
 
-  abbrev X : Call
-  X = record { n = n - l; k = k; var = at vars i; by = at rs i; room = foldedHalves (n - l) k }
+  abbrev rest : List Call
+  rest = callsFrom cs rs (suc i) (m - suc i)
 
-  number-is : callNumber (levelValues n k (words levels) l) X ≡ Q
-  number-is = number-of-call n k l (at vars i) (at rs i) (words levels) (s .within) (length-words-even levels (levelsLength n k) (s .levels-long))
+  stands : Reached n k c old oldKept calls (callAt cs rs i ∷ rest) l from levels kept
+  stands = rw (next-call cs rs m i h) at s
 
-  stands : Reached n k c old oldKept calls (X ∷ lentCalls (onDone Q (n - l - 1) (n - l)) k (drop (suc i) vars) (drop (suc i) rs)) l from levels kept
-  stands = rw (next-call (n - l) k i vars rs hv hr) at s
-
-  refused : (Q ≡ 0 → ⊥) → Reached n k c old oldKept calls (lentCalls (n - l′) k (drop (suc i) vars) (drop (suc i) rs)) l′ from′ levels′ kept′
+  refused : (Q ≡ 0 → ⊥) → Reached n k c old oldKept calls rest l′ from′ levels′ kept′
   refused z =
       let none = ne-eqb Q 0 z in
       let a : l′ ≡ l = rw none at (call .count) in
       let b : from′ ≡ from = rw none at (call .start) in
-      rw (a, b) (reached-refused n k c old oldKept calls _ X l from levels kept (rw none at stands) levels′ kept′ el ek (rw none at (call .level)) (rw none at (call .challenge)) (λ e. z (sym number-is ∙ e)))
+      rw (a, b)
+      (reached-refused n k c old oldKept calls rest (callAt cs rs i) l from levels kept stands levels′ kept′ el ek
+      (rw none at (call .level)) (rw none at (call .challenge)) z)
 
-  done : Q ≡ 0 → Reached n k c old oldKept calls (lentCalls (n - l′) k (drop (suc i) vars) (drop (suc i) rs)) l′ from′ levels′ kept′
+  done : Q ≡ 0 → Reached n k c old oldKept calls rest l′ from′ levels′ kept′
   done z =
       let all = eq-eqb Q 0 z in
-      let h : l < n = level-left n k l (at vars i) {q = Q} refl z in
       let a : l′ ≡ suc l = rw all at (call .count) in
       let b : from′ ≡ from + 2 * levelLength n k l = (rw all at (call .start)) ∙ omega (arith, s .from=, next-start n k l) in
-      let m : n - l - 1 ≡ n - suc l = omega arith in
-      rw (a, b) (reached-done n k c old oldKept calls _ X l from levels kept (rw (all, m) at stands) (number-is ∙ z) h levels′ kept′ el ek (rw all at (call .level)) (rw all at (call .challenge)))
+      rw (a, b)
+      (reached-done n k c old oldKept calls rest (callAt cs rs i) l from levels kept stands z below levels′ kept′ el ek
+      (rw all at (call .level)) (rw all at (call .challenge)))
 
-  pub turned : Reached n k c old oldKept calls (lentCalls (n - l′) k (drop (i + 1) vars) (drop (i + 1) rs)) l′ from′ levels′ kept′
+  pub turned : Reached n k c old oldKept calls (callsFrom cs rs (i + 1) (m - (i + 1))) l′ from′ levels′ kept′
   turned = rw add-one (go (eqb Q 0) refl)
     where
-      go : (b : Bool) → eqb Q 0 ≡ b → Reached n k c old oldKept calls (lentCalls (n - l′) k (drop (suc i) vars) (drop (suc i) rs)) l′ from′ levels′ kept′
+      go : (b : Bool) → eqb Q 0 ≡ b → Reached n k c old oldKept calls rest l′ from′ levels′ kept′
       go true e = done (eqb-true Q 0 e)
       go false e = refused (eqb-false Q 0 e)
 
--- ---- what one call leaves
-
-module _ {n k l from var by : ℕ} {levels kept : List ℕ} {q : ℕ} (e : q ≡ callsNumber n k l var) where
-  pub called-refused : (q ≡ 0 → ⊥) → Called n k l from var by levels kept levels kept l from
-  called-refused z =
-      let h : callsNumber n k l var ≡ 0 → ⊥ = λ f. z (e ∙ f) in
-      record {
-        count = sym (on-refused _ _ _ h);
-        start = sym (on-refused _ _ _ h);
-        level = sym (on-refused _ _ _ h);
-        challenge = sym (on-refused _ _ _ h);
-      }
-
-  pub called-done : q ≡ 0 → (half : List ℕ) {levels′ kept′ : List ℕ} {to : ℕ} (u : List ℕ) → to ≡ 2 * levelStart n k (l + 1)
-      → words (take (foldedHalves (n - l) k) half) ≡ onDone q (foldList var by (levelValues n k (words levels) l)) u
-      → words levels′ ≡ laid n k (l + 1) (words (take (2 * levelLength n k (l + 1)) half)) (words levels) → words kept′ ≡ set (words kept) l by
-      → Called n k l from var by levels kept levels′ kept′ (l + 1) to
-  unfolding levelLength
-  called-done z half u et ef el ek =
-      let all = eq-eqb (callsNumber n k l var) 0 (sym e ∙ z) in
-      let i : 2 ^ (n - l + k) ≡ 2 * 2 ^ (n + k - suc l) =
-      ap (λ (j : ℕ). 2 ^ j) {x = n - l + k} {y = suc (n + k - suc l)} (omega (arith, level-left n k l var e z)) ∙ omega arith in
-      let room : foldedHalves (n - l) k ≡ 2 * 2 ^ (n + k - suc l) = omega (arith, i) in
-      let f : words (take (2 * 2 ^ (n + k - suc l)) half) ≡ foldList var by (levelValues n k (words levels) l) = rw (room, z) at ef in
-      record { count = rw (all, add-one); start = rw all (rw add-one at et); level = rw all (rw (add-one, f) at el); challenge = rw all ek }
-
 -- ---- as the loop asks for them
 
-pub has-challenge : (count i : ℕ) (challenges : List ℕ) → length challenges ≡ 2 * count → i < count → i < length (words challenges)
-has-challenge count i challenges e h = omega (arith, length-words-even challenges count e)
+pub same-call : {n k l from : ℕ} {x y : Call} {levels kept levels′ kept′ : List ℕ} {l′ from′ : ℕ}
+    → Called n k l from x levels kept levels′ kept′ l′ from′ → x ≡ y → Called n k l from y levels kept levels′ kept′ l′ from′
+same-call {n} {k} {l} {from} {x} {y} {levels} {kept} {levels′} {kept′} {l′} {from′} h e =
+    subst (λ (v : Call). Called n k l from v levels kept levels′ kept′ l′ from′) e h
 
-pub same-challenge : {n k l from var by r : ℕ} {levels kept levels′ kept′ : List ℕ} {l′ from′ : ℕ}
-    → Called n k l from var by levels kept levels′ kept′ l′ from′ → by ≡ r
-    → Called n k l from var r levels kept levels′ kept′ l′ from′
-same-challenge {n = n} {k = k} {l = l} {from = from} {var = var} {levels = levels} {kept = kept} {levels′ = levels′} {kept′ = kept′} {l′ = l′} {from′ =
-    from′} h e =
-    subst (λ (b : ℕ). Called n k l from var b levels kept levels′ kept′ l′ from′) e h
+pub reached-begin : (n k : ℕ) (cs rs levels kept : List ℕ) → length levels ≡ 2 * levelsLength n k → length kept ≡ 2 * n
+    → Reached n k (levelValues n k (words levels) 0) (words levels) (words kept) (lentCalls cs rs) (callsFrom cs rs 0 (length cs / 4 - 0)) 0 0 levels kept
+reached-begin n k cs rs levels kept el ek =
+    let z : length cs / 4 - 0 ≡ length cs / 4 = omega arith in
+    rw z (reached-none n k (lentCalls cs rs) levels kept el ek)
 
-pub reached-begin : (n k : ℕ) (vars rs levels kept : List ℕ) → length levels ≡ 2 * levelsLength n k → length kept ≡ 2 * n
-    → Reached n k (levelValues n k (words levels) 0) (words levels) (words kept) (lentCalls n k vars rs) (lentCalls (n - 0) k (drop 0 vars) (drop 0 rs)) 0 0 levels kept
-reached-begin n k vars rs levels kept el ek =
-    let z : n - 0 ≡ n = omega arith in
-    rw z (reached-none n k (lentCalls n k vars rs) levels kept el ek)
-
-pub left-all : {n k : ℕ} {c old oldKept : List ℕ} (vars rs : List ℕ) (i : ℕ) {l from : ℕ} {levels kept : List ℕ} {calls : List Call}
-    → Reached n k c old oldKept calls (lentCalls (n - l) k (drop i vars) (drop i rs)) l from levels kept → length vars ≤ i
+-- no call is left, or n are done
+pub ended : {n k : ℕ} {c old oldKept : List ℕ} {calls : List Call} (cs rs : List ℕ) (m i : ℕ) {l from : ℕ} {levels kept : List ℕ}
+    → Reached n k c old oldKept calls (callsFrom cs rs i (m - i)) l from levels kept → (m ≤ i) ⊎ (ltb l n ≡ false)
     → Left n k c old oldKept calls l levels kept
-left-all {n} {k} {c} {old} {oldKept} vars rs i {l} {from} {levels} {kept} {calls} s h =
-    all-left n k c old oldKept calls l from levels kept (rw (no-call (n - l) k i vars rs h) at s)
+ended {n} {k} {c} {old} {oldKept} {calls} cs rs m i {l} {from} {levels} {kept} s end =
+    all-left n k c old oldKept calls (callsFrom cs rs i (m - i)) l from levels kept s
+    (⊎-elim (λ (h : m ≤ i). inl (no-call cs rs m i h)) (λ (h : ltb l n ≡ false). inr (omega (arith, ltb-false l n h, s .within))) end)
+
+pub same-by : (x : Call) {by : ℕ} → x .by ≡ by → x ≡ record { n = x .n; k = x .k; var = x .var; by = by; room = x .room }
+same-by x e = ap (λ (r : ℕ). record { n = x .n; k = x .k; var = x .var; by = r; room = x .room }) e

@@ -1,21 +1,20 @@
--- Fold calls lent as two lists, variables and challenges: each call has the n that the codeword has then. Rests on what `fold` answers.
-use Prim.Native.Nat.{ℕ, _+_, _-_, _*_, _/_, _^_}
+-- Fold calls lent as two lists: four numbers each, its n, k, variable and the length of its room, and a challenge each.
+use Prim.Native.Nat.{ℕ, zero, suc, _+_, _*_, _/_}
 use mathlib.Core.List.{List, [], _∷_}
-use Rattle.theory_laws.specs.Questions.{onDone}
-use Rattle.theory_code.specs.Questions.{foldNumber}
+use lib.ListN.{length}
+use Rattle.theory_laws.specs.Table.{at}
 use Rattle.theory_claim.specs.Calls.{Call}
 
--- halves of a codeword of 2^(n+k) words, and of room for half of it
-abbrev pub codewordHalves : ℕ → ℕ → ℕ
-codewordHalves n k = 2 * 2 ^ (n + k)
+-- call i, of its numbers and the words of the challenges
+abbrev pub callAt : List ℕ → List ℕ → ℕ → Call
+callAt calls rs i =
+    record { n = at calls (4 * i); k = at calls (4 * i + 1); var = at calls (4 * i + 2); room = at calls (4 * i + 3); by = at rs i }
 
-abbrev pub foldedHalves : ℕ → ℕ → ℕ
-foldedHalves n k = 2 * (2 ^ (n + k) / 2)
+-- m calls from call i on
+unfoldable pub callsFrom : List ℕ → List ℕ → ℕ → ℕ → List Call
+callsFrom calls rs i zero = []
+callsFrom calls rs i (suc m) = callAt calls rs i ∷ callsFrom calls rs (suc i) m
 
--- a done call lowers n, a refused one leaves it
-unfoldable pub lentCalls : ℕ → ℕ → List ℕ → List ℕ → List Call
-lentCalls n k [] rs = []
-lentCalls n k (v ∷ vs) [] = []
-lentCalls n k (v ∷ vs) (r ∷ rs) =
-    record { n = n; k = k; var = v; by = r; room = foldedHalves n k } ∷
-    lentCalls (onDone (foldNumber n k v (codewordHalves n k) (foldedHalves n k)) (n - 1) n) k vs rs
+-- all of them
+abbrev pub lentCalls : List ℕ → List ℕ → List Call
+lentCalls calls rs = callsFrom calls rs 0 (length calls / 4)

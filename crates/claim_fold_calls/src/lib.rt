@@ -1,50 +1,42 @@
 // A list of fold calls on a committed codeword, each on the codeword as the last done call left it, with every level kept: after code.rs
 // and eval.rs. These are helpers for the crates above: each requires that what it is lent has its length.
 use code_level::level_length;
+use code_levels::fold_level;
+use code_levels::lay;
 use field_gf128::Word;
 use field_words::clear;
-use field_words::copy;
 ghost use mathlib.Core.Path.{_≡_};
 ghost use Prim.Native.Nat.{_*_, _<_};
-ghost use lib.ListN.{length, take};
-ghost use Rattle.theory_laws.specs.Questions.{onDone};
+ghost use lib.ListN.{length};
 ghost use Rattle.theory_field.specs.Words.{words};
 ghost use Rattle.field_gf128.specs.Word.{word};
-ghost use Rattle.theory_record.specs.Widths.{levelLength};
-ghost use Rattle.claim_fold_calls.specs.Lent.{lentCalls};
-ghost use Rattle.claim_fold_calls.specs.helpers.Laid.{laid, zeros, callsNumber, levelFolded, front};
-ghost use Rattle.claim_fold_calls.specs.helpers.Laid.{Room, LevelLent, CallLent, Moved, CallsLeft};
+ghost use Rattle.code_levels.specs.helpers.Levels.{Room};
+ghost use Rattle.claim_fold_calls.specs.Lent.{callAt, lentCalls};
+ghost use Rattle.claim_fold_calls.specs.helpers.Laid.{zeros, asked, CallsLent, CallLent, Moved, CallsLeft};
 
-// Level l, which starts at the half `from`, folded at a variable by r into the front of `half`.
-fn fold_level(
-    n: usize,
-    k: usize,
-    l: usize,
-    from: usize,
-    var: usize,
-    r: Word,
-    levels: &[u64],
-    half: &mut [u64],
-) -> u32
-    requires { ⌜ LevelLent n k l from (length (now levels)) (length (now half)) ⌝ }
-    ensures { λ q. ⌜ q ≡ callsNumber n k l var ⌝ }
-    ensures { λ q. ⌜ front n k l (now (half .exit)) ≡ onDone q (levelFolded n k l var (word r) (now (levels .entry))) (front n k l (now (half .entry))) ⌝ }
-{
-    let size = level_length(n, k, l);
-    let to = from + 2 * size;
-    let room = 2 * (size / 2);
-    let a = code_codeword::fold(n - l, k, var, r, &levels[from..to], &mut half[..room]);
-    a.number
+// A fold call as it is lent: its n, k and variable, the length of the room for its answer, in halves, and its challenge.
+pub struct FoldCall {
+    pub n: usize,
+    pub k: usize,
+    pub var: usize,
+    pub room: usize,
+    pub by: Word,
 }
 
-// The front of `half` laid as level l, which starts at the half `from`.
-fn lay(n: usize, k: usize, l: usize, from: usize, half: &[u64], levels: &mut [u64])
-    requires { ⌜ (LevelLent n k l from (length (now levels)) (length (now half))) × (0 < l) ⌝ }
-    ensures { λ _. ⌜ words (now (levels .exit)) ≡ laid n k l (words (take (2 * levelLength n k l) (now (half .entry)))) (words (now (levels .entry))) ⌝ }
+// Call i of a lent list: four numbers and a challenge each.
+fn call_at(calls: &[usize], challenges: &[u64], i: usize) -> FoldCall
+    requires { ⌜ CallsLent (length (now calls)) (length (now challenges)) × (4 * i < length (now calls)) ⌝ }
+    ensures { λ x. ⌜ asked x ≡ callAt (now (calls .entry)) (words (now (challenges .entry))) i ⌝ }
 {
-    let room = 2 * level_length(n, k, l);
-    let to = from + room;
-    copy(&half[..room], &mut levels[from..to]);
+    let from = 4 * i;
+    let by = field_words::get(challenges, i);
+    FoldCall {
+        n: calls[from],
+        k: calls[from + 1],
+        var: calls[from + 2],
+        room: calls[from + 3],
+        by,
+    }
 }
 
 // Where a list of calls stands: how many are done, and where the codeword starts in the levels, in halves.
@@ -53,23 +45,28 @@ pub struct Progress {
     pub from: usize,
 }
 
-// One call on level l, the codeword as the last done call left it: a done one is laid as the next level, and its challenge kept.
+// One call on level l below n, the codeword as the last done call left it: a done one is laid as the next level, and its challenge kept. A call with
+// more room than `half` has is a call that `fold` refuses: no level's fold is so long.
 fn call(
     n: usize,
     k: usize,
     at: Progress,
-    var: usize,
-    r: Word,
+    x: FoldCall,
     levels: &mut [u64],
     half: &mut [u64],
     kept: &mut [u64],
 ) -> Progress
     requires { ⌜ CallLent n k at (length (now levels)) (length (now half)) (length (now kept)) ⌝ }
-    ensures { λ p. ⌜ Moved n k at var (word r) (now (levels .entry)) (now (kept .entry)) (now (levels .exit)) (now (kept .exit)) p ⌝ }
+    ensures { λ p. ⌜ Moved n k at (asked x) (now (levels .entry)) (now (kept .entry)) (now (levels .exit)) (now (kept .exit)) p ⌝ }
 {
     let done = at.done;
     let from = at.from;
-    let number = fold_level(n, k, done, from, var, r, levels, half);
+    let room = x.room;
+    let r = x.by;
+    if room > half.len() {
+        return at;
+    }
+    let number = fold_level(n, k, done, from, x.n, x.k, x.var, r, room, levels, half);
     if number != 0 {
         return at;
     }
@@ -82,27 +79,27 @@ fn call(
     }
 }
 
-// The calls of a lent list of variables and challenges, in order, on the codeword that stands as level 0: how many are done.
-// `half`, room for a fold, is left with zeros.
+// The calls of a lent list, in order until n are done, on the codeword that stands as level 0: how many are done. `half`, room for a fold, is left
+// with zeros.
 pub fn fold_calls(
     n: usize,
     k: usize,
-    vars: &[usize],
+    calls: &[usize],
     challenges: &[u64],
     levels: &mut [u64],
     half: &mut [u64],
     kept: &mut [u64],
 ) -> usize
-    requires { ⌜ (Room n k (length (now levels)) (length (now half))) × (length (now kept) ≡ 2 * n) × (length (now challenges) ≡ 2 * length (now vars)) ⌝ }
-    ensures { λ done. ⌜ CallsLeft n k (lentCalls n k (now (vars .entry)) (words (now (challenges .entry)))) levels kept done ⌝ }
+    requires { ⌜ Room n k (length (now levels)) (length (now half)) × (length (now kept) ≡ 2 * n) × CallsLent (length (now calls)) (length (now challenges)) ⌝ }
+    ensures { λ done. ⌜ CallsLeft n k (lentCalls (now (calls .entry)) (words (now (challenges .entry)))) levels kept done ⌝ }
     ensures { λ _. ⌜ now (half .exit) ≡ zeros (length (now (half .entry))) ⌝ }
 {
+    let count = calls.len() / 4;
     let mut at = Progress { done: 0, from: 0 };
     let mut i: usize = 0;
-    while i < vars.len() {
-        let r = field_words::get(challenges, i);
-        let var = vars[i];
-        at = call(n, k, at, var, r, levels, half, kept);
+    while i < count && at.done < n {
+        let x = call_at(calls, challenges, i);
+        at = call(n, k, at, x, levels, half, kept);
         i += 1;
     }
     clear(half);

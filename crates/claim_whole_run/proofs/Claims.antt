@@ -1,149 +1,230 @@
--- The claim applied to what a run leaves.
-use Prim.Native.Nat.{ℕ, suc, _-_, _*_, _≤_}
+-- The claim applied to what a run leaves, clause by clause.
+use Prim.Native.Nat.{ℕ, suc, _+_, _-_, _*_, _<_, _≤_}
 use mathlib.Core.Path.{_≡_, refl, sym, _∙_, ap, subst}
+use mathlib.Core.Logic.{inl, inr, ⊎-elim}
 use mathlib.Core.List.{List, [], _∷_, _++_}
 use native.Mathlib.Omega.{arith}
-use lib.ListN.{length, take, drop, length-append, length-drop, length-map}
-use lib.Seq.{take-at, take-all, drop-at}
+use lib.ListN.{length, take, drop, getD, length-drop, length-map}
+use lib.Seq.{take-at, take-all}
 use Rattle.theory_laws.specs.Table.{at}
-use Rattle.theory_laws.specs.Lists.{flat}
+use Rattle.theory_laws.specs.Lists.{part, flat, Bytes}
 use Rattle.theory_field.specs.Words.{words}
-use Rattle.theory_field.proofs.Words.{drop-words, length-words-even}
-use Rattle.theory_multilinear.specs.Folds.{atFirst}
+use Rattle.theory_field.proofs.Words.{length-words-even}
+use Rattle.theory_multilinear.specs.Folds.{Fold, atFirst}
+use Rattle.theory_code.specs.Questions.{foldNumber}
 use Rattle.theory_blake3.proofs.HashMode.{length-hash}
 use Rattle.theory_record.specs.Widths.{present, levelLength, treeLength}
-use Rattle.theory_record.specs.Trees.{endToEnd, treeFor, rootFor, levelsLent, treesLent, rootsLent}
-use Rattle.theory_record.specs.Query.{Answer, checkQuery}
+use Rattle.theory_record.specs.Trees.{treeFor, rootFor, levelsLent, treesLent, rootsLent}
+use Rattle.theory_record.specs.Query.{Answer, accepted, rootAt, checkQuery}
 use Rattle.theory_record.specs.Tail.{checkTail}
 use Rattle.theory_record.specs.Build.{levelsLength, levelValues, buildQuery, buildTail}
+use Rattle.theory_record.specs.Scheme.{Scheme, scheme}
+use Rattle.theory_record.proofs.Ranges.{sizes-small}
 use Rattle.theory_record.proofs.Widths.{present-powers}
-use Rattle.theory_record.proofs.Totals.{endToEnd-ext}
+use Rattle.theory_record.proofs.Totals.{endToEnd-ext, part-endToEnd, total-same}
 use Rattle.theory_record.proofs.Offsets.{level-within, tree-within, length-levelValues}
 use Rattle.theory_record.proofs.Accepted.{length-rootFor}
-use Rattle.theory_claim.specs.Calls.{Call, doneFolds, afterFolds}
-use Rattle.theory_claim.specs.Claim.{Deposit, Lent, LastLent, After}
-use Rattle.theory_claim.proofs.Claim.{claim}
+use Rattle.theory_compare.specs.Compare.{Comparison, compared, firstMessage, secondMessage}
+use Rattle.theory_claim.specs.Calls.{Call, callNumber, doneFolds, afterFolds}
+use Rattle.theory_claim.specs.Claim.{Lent, LastLent, After, Outcome, Claim}
+use Rattle.theory_claim.proofs.Lent as L
+use Rattle.code_levels.proofs.Laying.{levels-laid}
 use Rattle.claim_fold_calls.specs.helpers.Laid.{challengesOf}
-use Rattle.claim_fold_calls.proofs.Laying.{levels-laid}
-use Rattle.claim_level_trees.proofs.Growing.{length-tree}
-use Rattle.claim_whole_run.specs.Whole.{Room, RecordRoom, LastRoom, codeword, calls, Deposited, Claimed}
-use Rattle.theory_record.specs.Scheme.{scheme}
+use Rattle.claim_whole_run.specs.Whole as whole
+use Rattle.claim_whole_run.specs.Whole.{Given, Buffers, Deposited, Claimed, AfterCalls, lastLevel, lastTree, lastRoot}
+use Rattle.claim_whole_run.specs.helpers.Room.{Room, RecordRoom, LastRoom}
+use Rattle.claim_whole_run.proofs.Deposits.{deposit-of, claim-of}
 
 -- room for the last level, its tree and its root
-pub last-room : (n k base table vars challenges gammas levels half kept trees roots : ℕ) → Room n k base table vars challenges gammas levels half kept trees roots → LastRoom n k levels trees roots
-last-room n k base table vars challenges gammas levels half kept trees roots r =
+pub last-room : {n k base table calls challenges gammas levels half kept trees roots : ℕ}
+    → Room n k base table calls challenges gammas levels half kept trees roots → LastRoom n k levels trees roots
+last-room {n} {k} r =
     record {
-      small = omega (arith, r .n-most, r .k-most);
-      levels-least = omega (arith, r .levels-long, level-within n k n (omega arith));
-      trees-least = omega (arith, r .trees-long, tree-within present n k n (omega arith));
+      small = sizes-small n k (r .commit .sizes);
+      levels-least = omega (arith, r .commit .levels-long, level-within n k n (omega arith));
+      trees-least = omega (arith, r .commit .trees-long, tree-within present n k n (omega arith));
       roots-least = omega (arith, r .roots-long);
     }
 
--- the end of a list
-drop-last : (m : ℕ) (xs ys zs : List ℕ) → xs ≡ ys ++ zs → length zs ≡ m → drop (length xs - m) xs ≡ zs
-drop-last m xs ys zs e l =
-    rw e (drop-at ys zs (length (ys ++ zs) - m) (omega (arith, length-append ys zs)))
+-- lengths that a step kept
+pub room-same : {n k base table calls challenges gammas levels half kept trees roots levels′ kept′ trees′ roots′ : ℕ}
+    → Room n k base table calls challenges gammas levels half kept trees roots → levels′ ≡ levels → kept′ ≡ kept → trees′ ≡ trees → roots′ ≡ roots
+    → Room n k base table calls challenges gammas levels′ half kept′ trees′ roots′
+room-same r el ek et er = rw (el, ek, et, er) r
 
-module _ (n k : ℕ) (base table vars challenges old oldKept gammas levels kept trees roots : List ℕ) (g h : ℕ)
-    (r : Room n k (length base) (length table) (length vars) (length challenges) g (length levels) h (length kept) (length trees) (length roots))
-    (done : ℕ) (d : Deposited n k base table vars challenges old oldKept gammas levels kept trees roots done)
-    (all-first : doneFolds (codeword n k base table vars challenges) (calls n k base table vars challenges) ≡ atFirst (words kept)) where
-  abbrev c : List ℕ
-  c = codeword n k base table vars challenges
-
-  abbrev xs : List Call
-  xs = calls n k base table vars challenges
-
-  abbrev level : ℕ → List ℕ
-  level = afterFolds c xs
-
-  deposit : Deposit n k base table kept
-  deposit = record { n-least = r .n-least; n-most = r .n-most; k-most = r .k-most; base-short = r .base-short; table-long = r .table-long; challenges-long = r .kept-long }
-
-  after : After n k base table kept xs
-  after = claim n k base table kept deposit .after-calls xs all-first
-
-  all-done : done ≡ n
-  all-done =
-      d .left .count ∙ ap length all-first ∙ length-map (words kept) (λ (x : ℕ). record { var = 0; by = x })
-      ∙ length-words-even kept n (r .kept-long)
-
-  each : (l : ℕ) → l ≤ n → levelValues n k (words levels) l ≡ level l
-  each l h = d .left .each l (omega (arith, all-done))
-
-  words-are : words levels ≡ levelsLent n level
-  words-are = levels-laid n k (words levels) level (length-words-even levels (levelsLength n k) (r .levels-long)) each
-
-  trees-are : trees ≡ treesLent (scheme base n k) level
-  trees-are = d .trees-are ∙ endToEnd-ext (suc n) _ _ (λ l h. ap (λ (x : List ℕ). flat (treeFor (scheme base n k) l x)) (each l (omega arith)))
-
-  roots-are : roots ≡ rootsLent (scheme base n k) level
-  roots-are = d .roots-are ∙ endToEnd-ext (suc n) _ _ (λ l h. ap (rootFor (scheme base n k) l) (each l (omega arith)))
-
-  lent : Lent n k base table kept xs levels trees roots
-  lent = record { levels-long = r .levels-long; levels-are = words-are; trees-are = trees-are; roots-are = roots-are }
-
-  length-last : length (level n) ≡ levelLength n k n
-  length-last = ap length (sym (each n (omega arith))) ∙ length-levelValues n k n (words levels) (omega arith) (length-words-even levels (levelsLength n k) (r .levels-long))
-
-  -- the last level, its tree and its root stand at the end
-  abbrev last : List ℕ
-  last = drop (length levels - 2 * levelLength n k n) levels
-
-  last-long : length last ≡ 2 * levelLength n k n
-  last-long = length-drop (length levels - 2 * levelLength n k n) levels ∙ omega (arith, r .levels-long, level-within n k n (omega arith))
-
-  last-is : words last ≡ level n
-  unfolding endToEnd
-  last-is =
-      let m : length (words levels) ≡ levelsLength n k = length-words-even levels (levelsLength n k) (r .levels-long) in
-      let e : length levels - 2 * levelLength n k n ≡ 2 * (length (words levels) - levelLength n k n) = omega (arith, r .levels-long, m) in
-      ap (λ (i : ℕ). words (drop i levels)) e ∙ drop-words (length (words levels) - levelLength n k n) levels
-      ∙ drop-last (levelLength n k n) (words levels) (endToEnd n level) (level n) words-are length-last
-
-  tree-is : drop (length trees - 32 * treeLength present n k n) trees ≡ flat (treeFor (scheme base n k) n (level n))
-  unfolding endToEnd
-  tree-is = drop-last (32 * treeLength present n k n) trees (endToEnd n (λ l. flat (treeFor (scheme base n k) l (level l)))) _ trees-are (length-tree base n k n (level n))
-
-  root-is : drop (length roots - 32) roots ≡ rootFor (scheme base n k) n (level n)
-  unfolding endToEnd
-  root-is = drop-last 32 roots (endToEnd n (λ l. rootFor (scheme base n k) l (level l))) _ roots-are (length-rootFor (scheme base n k) length-hash n (level n) present-powers)
-
-  last-lent : LastLent n k base table kept xs last (drop (length trees - 32 * treeLength present n k n) trees) (drop (length roots - 32) roots)
-  last-lent = record { level-long = last-long; level-is = last-is; tree-is = tree-is; root-is = root-is }
-
-  module _ (position : ℕ) (query tail : List ℕ) (q : RecordRoom n k position (length query) (length tail)) where
-    claim-holds : (query′ tail′ : List ℕ) (answer : Answer) (number terminal : ℕ) → query′ ≡ buildQuery present n k levels trees position query → answer ≡ checkQuery (scheme base n k) position kept roots query′
-        → tail′ ≡ buildTail present n k last (drop (length trees - 32 * treeLength present n k n) trees) tail → number ≡ checkTail (scheme base n k) (drop (length roots - 32) roots) terminal tail′
-        → Claimed n k base table vars challenges levels kept answer number terminal (words kept)
-    claim-holds query′ tail′ answer number terminal eq ea et en =
-        record {
-          kept-are = refl;
-          last-entry = λ eps low. ap (λ (ws : List ℕ). at ws eps) (each n (omega arith)) ∙ after .last-entry eps low;
-          query-accepted = ea ∙ ap (checkQuery (scheme base n k) position kept roots) eq ∙ after .query-record levels trees roots lent position (q .position-low) query (q .query-long);
-          tail-accepted = rw (en, et) (after .tail-record last _ _ last-lent tail (q .tail-long) terminal);
-        }
-
--- ---- by the challenges of the done calls
-
+-- the challenges of folds at variable 0
 challenges-first : (r : List ℕ) → challengesOf (atFirst r) ≡ r
 challenges-first [] = refl
 challenges-first (x ∷ r) = ap (λ (rs : List ℕ). x ∷ rs) (challenges-first r)
 
-module _ (n k : ℕ) (base table vars challenges old oldKept gammas levels kept trees roots : List ℕ) (g h : ℕ)
-    (room : Room n k (length base) (length table) (length vars) (length challenges) g (length levels) h (length kept) (length trees) (length roots))
-    (done : ℕ) (d : Deposited n k base table vars challenges old oldKept gammas levels kept trees roots done)
-    (r : List ℕ) (long : length r ≡ n) (all-first : doneFolds (codeword n k base table vars challenges) (calls n k base table vars challenges) ≡ atFirst r) where
-  -- what is kept is r, all of it
-  kept-is : words kept ≡ r
-  kept-is =
-      let e : words kept ≡ r ++ drop done (words oldKept) = d .left .kept-are ∙ ap (λ (rs : List ℕ). rs ++ drop done (words oldKept)) (ap challengesOf all-first ∙ challenges-first r) in
-      sym (take-all n (words kept) (omega (arith, length-words-even kept n (room .kept-long)))) ∙ ap (take n) e ∙ take-at r (drop done (words oldKept)) n long
+module _ (G : Given) (old new : Buffers) (h done : ℕ)
+    (room : Room (G .n) (G .k) (length (G .base)) (length (G .table)) (length (G .calls)) (length (G .challenges)) (length (old .gammas))
+    (length (new .levels)) h (length (new .kept)) (length (new .trees)) (length (new .roots)))
+    (d : Deposited (G .n) (G .k) (G .base) (G .table) (G .calls) (G .challenges) (old .levels) (old .kept) (new .gammas) (new .levels) (new .kept)
+    (new .trees) (new .roots) done) where
+  open Given G using (n, k, position, base, table)
+  open Buffers new using (levels, kept, trees, roots)
 
-  pub claimed-by : (position : ℕ) (query tail : List ℕ) → RecordRoom n k position (length query) (length tail) → (query′ tail′ : List ℕ) (answer : Answer) (number terminal : ℕ)
-      → query′ ≡ buildQuery present n k levels trees position query → answer ≡ checkQuery (scheme base n k) position kept roots query′
-      → tail′ ≡ buildTail present n k (drop (length levels - 2 * levelLength n k n) levels) (drop (length trees - 32 * treeLength present n k n) trees) tail
-      → number ≡ checkTail (scheme base n k) (drop (length roots - 32) roots) terminal tail′ → Claimed n k base table vars challenges levels kept answer number terminal r
-  claimed-by position query tail q query′ tail′ answer number terminal eq ea et en =
-      subst (λ (x : List ℕ). Claimed n k base table vars challenges levels kept answer number terminal x) kept-is
-      (claim-holds n k base table vars challenges old oldKept gammas levels kept trees roots g h room done d (all-first ∙ ap atFirst (sym kept-is)) position query tail q query′ tail′ answer number terminal eq ea et en)
+  abbrev S : Scheme
+  S = scheme base n k
+
+  abbrev c : List ℕ
+  c = whole.codeword G
+
+  abbrev xs : List Call
+  xs = whole.made G
+
+  abbrev values : ℕ → List ℕ
+  values l = levelValues n k (words levels) l
+
+  -- the claim, with what is kept for its challenges
+  pub theorem : Claim n k base table kept
+  theorem = claim-of base table kept (room .commit) (room .kept-long)
+
+  words-long : length (words levels) ≡ levelsLength n k
+  words-long = length-words-even levels (levelsLength n k) (room .commit .levels-long)
+
+  length-values : (l : ℕ) → l ≤ n → length (values l) ≡ levelLength n k l
+  length-values l g = length-levelValues n k l (words levels) g words-long
+
+  -- the fold of a level by the challenge that is kept for it
+  pub fold-done : (l : ℕ) → l < n → callNumber (values l) (whole.keptCall G old new l) ≡ 0
+  unfolding callNumber
+  fold-done l g =
+      ap (λ (m : ℕ). foldNumber (n - l) k 0 (2 * m) (2 * levelLength n k (suc l))) (length-values l (omega arith)) ∙ theorem .fold-done l g
+
+  -- the root of a level
+  root-at : (l : ℕ) → l ≤ n → rootAt roots l ≡ rootFor S l (values l)
+  unfolding rootAt
+  root-at l g =
+      ap (part 32 (32 * l)) (d .roots-are)
+      ∙ ap (λ (i : ℕ). part 32 i (rootsLent S values)) (sym (total-same 32 l))
+      ∙ part-endToEnd (suc n) l (λ i. rootFor S i (values i)) (λ i. 32) (λ i f. length-rootFor S length-hash i (values i) present-powers) (omega arith)
+
+  pub root-last : (l : ℕ) → l ≤ n → getD (treeFor S l (values l)) (treeLength present n k l - 1) [] ≡ rootAt roots l
+  root-last l g = theorem .root-last l g (values l) ∙ sym (root-at l g)
+
+  -- the last level has its length
+  last-long : length (lastLevel n k levels) ≡ 2 * levelLength n k n
+  last-long =
+      length-drop (length levels - 2 * levelLength n k n) levels
+      ∙ omega (arith, room .commit .levels-long, level-within n k n (omega arith))
+
+  last-tree-long : length (lastTree n k trees) ≡ 32 * treeLength present n k n
+  last-tree-long =
+      length-drop (length trees - 32 * treeLength present n k n) trees
+      ∙ omega (arith, room .commit .trees-long, tree-within present n k n (omega arith))
+
+  -- ---- where the done calls are n folds at variable 0 by what is kept
+
+  module _ (all-first : doneFolds c xs ≡ atFirst (words kept)) where
+    abbrev level : ℕ → List ℕ
+    level = afterFolds c xs
+
+    after : After n k base table kept xs
+    after = theorem .after-calls xs all-first
+
+    first-long : length (doneFolds c xs) ≡ n
+    first-long =
+        ap length all-first ∙ length-map (words kept) (λ (x : ℕ). record { var = 0; by = x }) ∙ length-words-even kept n (room .kept-long)
+
+    all-done : done ≡ n
+    all-done = d .left .count ∙ ap length (take-all n (doneFolds c xs) (omega (arith, first-long))) ∙ first-long
+
+    each : (l : ℕ) → l ≤ n → values l ≡ level l
+    each l g = d .left .each l (omega (arith, all-done))
+
+    words-are : words levels ≡ levelsLent n level
+    words-are = levels-laid n k (words levels) level words-long each
+
+    trees-are : trees ≡ treesLent S level
+    trees-are = d .trees-are ∙ endToEnd-ext (suc n) _ _ (λ l g. ap (λ (x : List ℕ). flat (treeFor S l x)) (each l (omega arith)))
+
+    roots-are : roots ≡ rootsLent S level
+    roots-are = d .roots-are ∙ endToEnd-ext (suc n) _ _ (λ l g. ap (rootFor S l) (each l (omega arith)))
+
+    lent : Lent n k base table kept xs levels trees roots
+    lent = record { levels-long = room .commit .levels-long; levels-are = words-are; trees-are = trees-are; roots-are = roots-are }
+
+    last-lent : LastLent n k base table kept xs (lastLevel n k levels) (lastTree n k trees) (lastRoot roots)
+    last-lent = L.last-lent n k base table kept (deposit-of base table kept (room .commit) (room .kept-long)) xs all-first levels trees roots lent
+
+  -- ---- with the records and their checks
+
+  module _ (q : RecordRoom n k position (length (old .query)) (length (old .tail)) (length (old .one)) (length (old .two))) {query : Answer} {tail : ℕ}
+      (query-is : new .query ≡ buildQuery present n k levels trees position (old .query))
+      (tail-is : new .tail ≡ buildTail present n k (lastLevel n k levels) (lastTree n k trees) (old .tail))
+      (answer-is : query ≡ checkQuery S position kept roots (new .query)) (number-is : tail ≡ checkTail S (lastRoot roots) (G .claim) (new .tail)) where
+    -- by what is kept
+    after-kept : doneFolds c xs ≡ atFirst (words kept) → AfterCalls G old new (words kept) query tail
+    after-kept all-first =
+        record {
+          kept-are = refl;
+          level-long = λ l g. ap length (each all-first l g) ∙ after all-first .level-long l g;
+          last-left = after all-first .last-left ∙ sym (each all-first n (omega arith));
+          last-entry = λ eps low. ap (λ (ws : List ℕ). at ws eps) (each all-first n (omega arith)) ∙ after all-first .last-entry eps low;
+          query-accepted =
+              answer-is ∙ ap (checkQuery S position kept roots) query-is
+              ∙ after all-first .query-record levels trees roots (lent all-first) position (q .position-low) (old .query) (q .query-long);
+          tail-accepted = rw (number-is, tail-is) (after all-first .tail-record _ _ _ (last-lent all-first) (old .tail) (q .tail-long) (G .claim));
+        }
+
+    -- what is kept is r, all of it
+    kept-is : (r : List ℕ) → length r ≡ n → doneFolds c xs ≡ atFirst r → words kept ≡ r
+    kept-is r long all-first =
+        let f : length (doneFolds c xs) ≡ n = ap length all-first ∙ length-map r (λ (x : ℕ). record { var = 0; by = x }) ∙ long in
+        let t : take n (doneFolds c xs) ≡ atFirst r = take-all n (doneFolds c xs) (omega (arith, f)) ∙ all-first in
+        let e : words kept ≡ r ++ drop done (words (old .kept)) =
+        d .left .kept-are ∙ ap (λ (fs : List Fold). challengesOf fs ++ drop done (words (old .kept))) t
+        ∙ ap (λ (rs : List ℕ). rs ++ drop done (words (old .kept))) (challenges-first r) in
+        sym (take-all n (words kept) (omega (arith, length-words-even kept n (room .kept-long)))) ∙ ap (take n) e
+        ∙ take-at r (drop done (words (old .kept))) n long
+
+    after-calls : (r : List ℕ) → length r ≡ n → doneFolds c xs ≡ atFirst r → AfterCalls G old new r query tail
+    after-calls r long all-first =
+        let e = kept-is r long all-first in
+        subst (λ (x : List ℕ). AfterCalls G old new x query tail) e (after-kept (all-first ∙ ap atFirst (sym e)))
+
+    -- what comparing left, where both lent records are accepted
+    module _ {found : Comparison} (found-is : found ≡ compared S position kept roots (G .first) (G .second) (old .one) (old .two))
+        (one-is : new .one ≡ firstMessage S position kept roots (G .first) (G .second) (old .one) (old .two))
+        (two-is : new .two ≡ secondMessage S position kept roots (G .first) (G .second) (old .one) (old .two)) where
+      number-same : (m : ℕ) → compared S position kept roots (G .first) (G .second) (old .one) (old .two) .number ≡ m → found .number ≡ m
+      number-same m e = ap (λ (x : Comparison). x .number) found-is ∙ e
+
+      settled : Outcome n k base table kept position kept roots (G .first) (G .second) (old .one) (old .two) → whole.Settled G old new found
+      settled =
+          ⊎-elim (λ x. inl (number-same 33 (x .0), x .1))
+          (λ x. inr (
+            number-same 0 (x .gives-0),
+            rw (found-is, one-is, two-is) (record {
+              unequal = x .unequal;
+              differ = x .differ;
+              one-digest = x .one-digest;
+              lengths = x .lengths;
+              fit = (omega (arith, x .fit .0, q .one-long), omega (arith, x .fit .1, q .two-long));
+              nearest = x .nearest;
+            }),
+          ))
+
+      pub claimed-by : Bytes (new .query) → Bytes (new .tail) → Bytes (G .first) → Bytes (G .second) → Claimed G old new query tail found
+      claimed-by bq bt bu bv =
+          record {
+            commit-done = rw (room .commit .gammas-long) (theorem .commit-done);
+            fold-done = fold-done;
+            tree-done = theorem .tree-done;
+            root-last = root-last;
+            query-done =
+                theorem .query-done levels trees (old .query) position (room .commit .levels-long) (room .commit .trees-long) (q .query-long) (q .position-low);
+            tail-done = theorem .tail-done (lastLevel n k levels) (lastTree n k trees) (old .tail) last-long last-tree-long (q .tail-long);
+            calls-exist = theorem .calls-exist;
+            refused-among = λ before after x e z. ap (doneFolds c) e ∙ theorem .refused-among before after x z;
+            refused-exist = λ l. theorem .refused-exist (values l);
+            after-calls = after-calls;
+            query-exactly = rw answer-is (theorem .query-exactly position kept roots (new .query) bq);
+            first-exactly = theorem .query-exactly position kept roots (G .first) bu;
+            second-exactly = theorem .query-exactly position kept roots (G .second) bv;
+            tail-exactly = rw number-is (theorem .tail-exactly (lastRoot roots) (G .claim) (new .tail) bt);
+            two-records =
+                λ a b. settled (theorem .two-records position kept roots (G .first) (G .second) (old .one) (old .two) bu bv (q .one-long) (q .two-long) a b);
+          }

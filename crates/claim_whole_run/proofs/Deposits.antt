@@ -1,36 +1,37 @@
 -- Committing, the calls and the trees, one after the other: no step is refused, and each finds what the one before left.
-use Prim.Native.Nat.{ℕ, zero, suc, _+_, _-_, _*_, _^_, _≤_}
+use Prim.Native.Nat.{ℕ, zero, suc, _+_, _-_, _*_, _≤_}
 use mathlib.Core.Path.{_≡_, refl, sym, _∙_, ap, subst}
 use mathlib.Core.List.{List, _++_}
 use native.Mathlib.Omega.{arith}
-use borrow.Author.Tests.{le-leb, eq-eqb}
 use lib.ListN.{length, take, drop, length-drop}
-use lib.Seq.{take-at, take-all, drop-drop, drop-append-add}
+use lib.Seq.{take-at, take-all, drop-at}
 use Rattle.theory_laws.specs.Lists.{part, flat}
-use Rattle.theory_laws.proofs.Questions.{yes-all}
+use Rattle.theory_laws.specs.Table.{tab}
+use Rattle.theory_laws.proofs.Table.{length-tab}
 use Rattle.theory_field.specs.Words.{words}
 use Rattle.theory_field.proofs.Words.{words-append, drop-words, length-words-even}
-use Rattle.theory_blake3.specs.Digest.{hash}
+use Rattle.theory_multilinear.proofs.Codeword.{length-encode}
 use Rattle.theory_record.specs.Widths.{present, levelLength, treeLength, total}
 use Rattle.theory_record.specs.Trees.{treeFor}
 use Rattle.theory_record.specs.Tail.{checkTail}
 use Rattle.theory_record.specs.Build.{levelStart, treeStart, levelValues, buildTail}
-use Rattle.theory_record.proofs.Offsets.{level-within, tree-within}
-use Rattle.theory_claim.specs.Commit.{commitQuestions, commitNumber, committedCodeword, committedTree}
-use Rattle.theory_claim.specs.Calls.{Call, afterFolds}
-use Rattle.claim_fold_calls.specs.helpers.Laid.{Left}
-use Rattle.claim_whole_run.specs.Whole.{Room}
 use Rattle.theory_record.specs.Scheme.{scheme}
+use Rattle.theory_record.proofs.Ranges.{sizes-small}
+use Rattle.theory_record.proofs.Offsets.{first-length, level-within, tree-within}
+use Rattle.theory_claim.specs.Commit.{commitNumber, committedCodeword, committedTree}
+use Rattle.theory_claim.specs.Calls.{Call, afterFolds}
+use Rattle.theory_claim.specs.Claim.{Deposit, Claim}
+use Rattle.theory_claim.proofs.Claim.{claim}
+use Rattle.code_levels.proofs.Laying.{behind-more}
+use Rattle.claim_fold_calls.specs.helpers.Laid.{Left}
+use Rattle.claim_whole_run.specs.Whole.{lastLevel, lastTree, lastRoot}
+use Rattle.claim_whole_run.specs.helpers.Room.{CommitRoom}
 
 -- ---- level 0 and its tree, at the front
 
-first-length : (n k : ℕ) → levelLength n k 0 ≡ 2 ^ (n + k)
-unfolding levelLength
-first-length n k = ap (λ (i : ℕ). 2 ^ i) {x = n + k - 0} {y = n + k} (omega arith)
-
-module _ (n k base table vars challenges gammas levels half kept trees roots : ℕ) (r : Room n k base table vars challenges gammas levels half kept trees roots) where
+module _ {n k base table gammas levels trees : ℕ} (r : CommitRoom n k base table gammas levels trees) where
   pub small : n + k ≤ 24
-  small = omega (arith, r .n-most, r .k-most)
+  small = sizes-small n k (r .sizes)
 
   pub front-fits : (size : ℕ) → size ≡ levelLength n k 0 → 2 * size ≤ levels
   unfolding levelStart total
@@ -40,17 +41,43 @@ module _ (n k base table vars challenges gammas levels half kept trees roots : �
   unfolding treeStart total
   tree-fits bytes e = omega (arith, r .trees-long, tree-within present n k 0 (omega arith))
 
+-- a table that is lent, with any challenges, is within the claim's ranges
+pub deposit-of : {n k gammas levels trees : ℕ} (base table challenges : List ℕ) → CommitRoom n k (length base) (length table) gammas levels trees
+    → length challenges ≡ 2 * n → Deposit n k base table challenges
+deposit-of base table challenges r long =
+    record {
+      n-least = r .sizes .n-least;
+      n-most = r .sizes .n-most;
+      k-most = r .sizes .k-most;
+      base-short = r .base-short;
+      table-long = r .table-long;
+      challenges-long = long;
+    }
+
+-- the claim of it
+pub claim-of : {n k gammas levels trees : ℕ} (base table challenges : List ℕ) → CommitRoom n k (length base) (length table) gammas levels trees
+    → length challenges ≡ 2 * n → Claim n k base table challenges
+claim-of {n} {k} base table challenges r long = claim n k base table challenges (deposit-of base table challenges r long)
+
+codeword-long : (n k : ℕ) (base table : List ℕ) → length (committedCodeword base n k table) ≡ levelLength n k 0
+unfolding committedCodeword
+codeword-long n k base table = length-encode n k _ table ∙ sym (first-length n k)
+
+module _ {n k gammas levels trees : ℕ} (base table : List ℕ) (r : CommitRoom n k (length base) (length table) gammas levels trees) where
+  abbrev C : Claim n k base table (tab (2 * n) (λ v. 0))
+  C = claim-of base table (tab (2 * n) (λ v. 0)) r (length-tab (2 * n) (λ v. 0))
+
   -- committing is not refused
-  pub commit-allowed : (size bytes : ℕ) → size ≡ 2 * levelLength n k 0 → bytes ≡ 32 * treeLength present n k 0 → commitNumber present n k base table gammas size bytes ≡ 0
-  unfolding commitNumber
+  pub commit-allowed : (size bytes : ℕ) → size ≡ 2 * levelLength n k 0 → bytes ≡ 32 * treeLength present n k 0
+      → commitNumber present n k (length base) (length table) gammas size bytes ≡ 0
   commit-allowed size bytes es eb =
-      yes-all (commitQuestions present n k base table gammas size bytes) (
-        le-leb n 20 (r .n-most),
-        (
-          le-leb k 4 (r .k-most),
-          (eq-eqb _ _ (r .table-long), (eq-eqb _ _ (r .gammas-long), (eq-eqb _ _ (es ∙ ap (λ (x : ℕ). 2 * x) (first-length n k)), (eq-eqb _ _ eb, (le-leb base 200 (r .base-short), tt))))),
-        ),
-      )
+      let s : size ≡ 2 * length (committedCodeword base n k (words table)) = es ∙ ap (λ (x : ℕ). 2 * x) (sym (codeword-long n k base (words table))) in
+      rw (r .gammas-long, s, eb) (C .commit-done)
+
+  -- and leaves level 0's tree
+  pub tree-left : {tree : List ℕ} → tree ≡ committedTree (scheme base n k) (words table)
+      → tree ≡ flat (treeFor (scheme base n k) 0 (committedCodeword base n k (words table)))
+  tree-left e = e ∙ C .commit-leaves
 
 -- the next levels start behind level 0
 first-before : (n k l : ℕ) → levelLength n k 0 ≤ levelStart n k (suc l)
@@ -62,27 +89,30 @@ first-before n k (suc l) = omega (arith, first-before n k l)
 pub first-level : (n k : ℕ) (front rest : List ℕ) → length front ≡ 2 * levelLength n k 0 → levelValues n k (words (front ++ rest)) 0 ≡ words front
 unfolding levelValues levelStart total part
 first-level n k front rest e =
-    ap (take (levelLength n k 0)) (words-append front rest (levelLength n k 0) e) ∙ take-at (words front) (words rest) (levelLength n k 0) (length-words-even front (levelLength n k 0) e)
+    ap (take (levelLength n k 0)) (words-append front rest (levelLength n k 0) e)
+    ∙ take-at (words front) (words rest) (levelLength n k 0) (length-words-even front (levelLength n k 0) e)
+
+-- what was behind it stays
+pub same-behind : (n k : ℕ) {size : ℕ} (front xs : List ℕ) → size ≡ levelLength n k 0 → length front ≡ 2 * levelLength n k 0
+    → drop (levelLength n k 0) (words (front ++ drop (2 * size) xs)) ≡ drop (levelLength n k 0) (words xs)
+same-behind n k {size} front xs es el =
+    ap (drop (levelLength n k 0)) (words-append front (drop (2 * size) xs) (levelLength n k 0) el)
+    ∙ drop-at (words front) _ (levelLength n k 0) (length-words-even front (levelLength n k 0) el)
+    ∙ drop-words size xs ∙ ap (λ (i : ℕ). drop i (words xs)) es
 
 -- the calls are on the committed codeword, and behind level 0 stands what was there before
-pub calls-left : (n k size : ℕ) (c front xs oldKept : List ℕ) (calls : List Call) (done : ℕ) (levels kept : List ℕ) → size ≡ levelLength n k 0 → length front ≡ 2 * levelLength n k 0
-    → levelValues n k (words (front ++ drop (2 * size) xs)) 0 ≡ c
-    → Left n k (levelValues n k (words (front ++ drop (2 * size) xs)) 0) (words (front ++ drop (2 * size) xs)) oldKept calls done levels kept → Left n k c (words xs) oldKept calls done levels kept
-calls-left n k size c front xs oldKept calls done levels kept es el e h =
-    let here = subst (λ (x : List ℕ). Left n k x (words (front ++ drop (2 * size) xs)) oldKept calls done levels kept) e h in
-    record { count = here .count; most = here .most; each = here .each; behind = here .behind ∙ same-behind (levelStart n k (suc done)) (start-after done); kept-are = here .kept-are }
-  where
-    start-after : (l : ℕ) → levelLength n k 0 ≤ levelStart n k (suc l)
-    start-after l = omega (arith, first-before n k l)
-
-    same-behind : (i : ℕ) → levelLength n k 0 ≤ i → drop i (words (front ++ drop (2 * size) xs)) ≡ drop i (words xs)
-    same-behind i g =
-        let m : ℕ = i - levelLength n k 0 in
-        let f : length (words front) ≡ levelLength n k 0 = length-words-even front (levelLength n k 0) el in
-        let a : i ≡ length (words front) + m = omega (arith, f) in
-        let w : words (front ++ drop (2 * size) xs) ≡ words front ++ drop size (words xs) = words-append front (drop (2 * size) xs) (levelLength n k 0) el ∙ ap (λ (u : List ℕ). words front ++ u) (drop-words size xs) in
-        ap (drop i) w ∙ ap (λ (j : ℕ). drop j (words front ++ drop size (words xs))) a ∙ drop-append-add (words front) (drop size (words xs)) m
-        ∙ drop-drop m size (words xs) ∙ ap (λ (j : ℕ). drop j (words xs)) {x = size + m} {y = i} (omega (arith, es))
+pub calls-left : {n k : ℕ} {c old first : List ℕ} {oldKept : List ℕ} {calls : List Call} {done : ℕ} {levels kept : List ℕ}
+    → levelValues n k first 0 ≡ c → drop (levelLength n k 0) first ≡ drop (levelLength n k 0) old
+    → Left n k (levelValues n k first 0) first oldKept calls done levels kept → Left n k c old oldKept calls done levels kept
+calls-left {n} {k} {c} {old} {first} {oldKept} {calls} {done} {levels} {kept} e b h =
+    let here = subst (λ (x : List ℕ). Left n k x first oldKept calls done levels kept) e h in
+    let m : ℕ = levelStart n k (suc done) - levelLength n k 0 in
+    record {
+      count = here .count;
+      each = here .each;
+      behind = here .behind ∙ behind-more (levelLength n k 0) m (levelStart n k (suc done)) first old (omega (arith, first-before n k done)) b;
+      kept-are = here .kept-are;
+    }
 
 -- before any call
 pub after-none : (c : List ℕ) (calls : List Call) → afterFolds c calls 0 ≡ c
@@ -90,28 +120,27 @@ unfolding afterFolds
 after-none c calls = refl
 
 -- the tree that committing left is that of level 0
-pub first-tree : (n k : ℕ) (base table levels front rest : List ℕ) → length front ≡ 32 * treeLength present n k 0 → front ≡ committedTree (scheme base n k) (words table)
-    → levelValues n k (words levels) 0 ≡ committedCodeword base n k (words table) → take (32 * treeLength present n k 0) (front ++ rest) ≡ flat (treeFor (scheme base n k) 0 (levelValues n k (words levels) 0))
-unfolding committedTree
-first-tree n k base table levels front rest l e f =
-    take-at front rest (32 * treeLength present n k 0) l ∙ e ∙ ap (λ (x : List ℕ). flat (treeFor (scheme base n k) 0 x)) (sym f)
-
--- lengths that a step kept
-pub room-same : (n k base table vars challenges gammas levels half kept trees roots levels′ kept′ trees′ roots′ : ℕ) → Room n k base table vars challenges gammas levels half kept trees roots
-    → levels′ ≡ levels → kept′ ≡ kept → trees′ ≡ trees → roots′ ≡ roots → Room n k base table vars challenges gammas levels′ half kept′ trees′ roots′
-room-same n k base table vars challenges gammas levels half kept trees roots levels′ kept′ trees′ roots′ r el ek et er = rw (el, ek, et, er) r
+pub first-tree : (n k : ℕ) (base trees : List ℕ) {c values : List ℕ}
+    → take (32 * treeLength present n k 0) trees ≡ flat (treeFor (scheme base n k) 0 c) → values ≡ c
+    → take (32 * treeLength present n k 0) trees ≡ flat (treeFor (scheme base n k) 0 values)
+first-tree n k base trees e f = e ∙ ap (λ (x : List ℕ). flat (treeFor (scheme base n k) 0 x)) (sym f)
 
 -- ---- the last level, its tree and its root, from a place to the end
 
 to-end : (i : ℕ) (xs : List ℕ) → take (length xs - i) (drop i xs) ≡ drop i xs
 to-end i xs = take-all (length xs - i) (drop i xs) (omega (arith, length-drop i xs))
 
+-- as code takes them
+abbrev taken : ℕ → List ℕ → List ℕ
+taken i xs = take (length xs - (length xs - i)) (drop (length xs - i) xs)
+
 -- the sizes as code computes them
 pub tail-built : (n k size bytes : ℕ) (levels trees out out′ : List ℕ) → size ≡ levelLength n k n → bytes ≡ 32 * treeLength present n k n
-    → out′ ≡ buildTail present n k (take (length levels - (length levels - 2 * size)) (drop (length levels - 2 * size) levels)) (take (length trees - (length trees - bytes)) (drop (length trees - bytes) trees)) out
-    → out′ ≡ buildTail present n k (drop (length levels - 2 * levelLength n k n) levels) (drop (length trees - 32 * treeLength present n k n) trees) out
-tail-built n k size bytes levels trees out out′ es eb e = rw (to-end (length levels - 2 * size) levels, to-end (length trees - bytes) trees, es, eb) at e
+    → out′ ≡ buildTail present n k (taken (2 * size) levels) (taken bytes trees) out
+    → out′ ≡ buildTail present n k (lastLevel n k levels) (lastTree n k trees) out
+tail-built n k size bytes levels trees out out′ es eb e =
+    rw (to-end (length levels - 2 * size) levels, to-end (length trees - bytes) trees, es, eb) at e
 
-pub tail-checked : (base : List ℕ) (n k claim number : ℕ) (roots out : List ℕ) → number ≡ checkTail (scheme base n k) (take (length roots - (length roots - 32)) (drop (length roots - 32) roots)) claim out
-    → number ≡ checkTail (scheme base n k) (drop (length roots - 32) roots) claim out
+pub tail-checked : (base : List ℕ) (n k claim number : ℕ) (roots out : List ℕ) → number ≡ checkTail (scheme base n k) (taken 32 roots) claim out
+    → number ≡ checkTail (scheme base n k) (lastRoot roots) claim out
 tail-checked base n k claim number roots out e = rw (to-end (length roots - 32) roots) at e

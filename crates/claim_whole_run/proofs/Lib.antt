@@ -1,2 +1,3 @@
-pub mod Deposits
 pub mod Claims
+pub mod Deposits
+pub mod Numbers

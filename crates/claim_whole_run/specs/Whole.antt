@@ -1,10 +1,12 @@
--- The whole run: a table committed, a list of fold calls on its codeword, the levels' trees and roots, the records after it and their checks.
--- What is lent to it, what it leaves, and the claim (SPECIFICATION 10.2) about that.
+-- The whole run: a table committed, a list of fold calls on its codeword, the levels' trees and roots, both records and their checks, and two lent
+-- records compared. What is lent to it, what it leaves, and what the claim (SPECIFICATION 10.2) says of that, clause by clause.
 use Prim.Native.Nat.{ℕ, suc, _+_, _-_, _*_, _^_, _<_, _≤_}
 use mathlib.Core.Path.{_≡_}
-use mathlib.Core.Logic.{_↔_}
-use mathlib.Core.List.{List}
-use lib.ListN.{length, drop}
+use mathlib.Core.Logic.{_↔_, _⊎_}
+use mathlib.Core.List.{List, [], _∷_, _++_}
+use lib.ListN.{length, take, drop, getD}
+use denote.Ref.{now}
+use denote.Triple.Both.{Both}
 use Rattle.theory_laws.specs.Table.{at}
 use Rattle.theory_field.specs.Words.{words}
 use Rattle.theory_multilinear.specs.Multilinear.{mle}
@@ -13,75 +15,235 @@ use Rattle.theory_multilinear.specs.Codeword.{shift}
 use Rattle.theory_multilinear.specs.Points.{addPoint}
 use Rattle.theory_blake3.specs.Digest.{hash}
 use Rattle.theory_code.specs.Gammas.{gammas}
-use Rattle.theory_record.specs.Widths.{present, levelLength, treeLength}
-use Rattle.theory_record.specs.Trees.{treesLent, rootsLent}
-use Rattle.theory_record.specs.Sizes.{querySize, tailSize}
-use Rattle.theory_record.specs.Query.{Answer, accepted, checkQuery}
+use Rattle.theory_merkle.specs.Numbers.{buildNumber}
+use Rattle.theory_record.specs.Widths.{present, levelLength, levelWidth, treeLength}
+use Rattle.theory_record.specs.Domain.{levelDomain}
+use Rattle.theory_record.specs.Trees.{treeFor, treesLent, rootsLent}
+use Rattle.theory_record.specs.Query.{Answer, accepted, rootAt, checkQuery}
 use Rattle.theory_record.specs.Tail.{checkTail}
-use Rattle.theory_record.specs.Build.{levelsLength, treeStart, levelValues, buildQuery, buildTail}
-use Rattle.theory_claim.specs.Commit.{committedCodeword}
-use Rattle.theory_claim.specs.Calls.{Call, doneFolds}
+use Rattle.theory_record.specs.Accepted.{AcceptedQuery, AcceptedTail}
+use Rattle.theory_record.specs.Build.{levelValues, buildQueryNumber, buildQuery, buildTailNumber, buildTail}
+use Rattle.theory_record.specs.Scheme.{Scheme, scheme}
+use Rattle.record_query_check.specs.Answer.{answer}
+use Rattle.theory_compare.specs.Compare.{Comparison, compared, firstMessage, secondMessage, messageBuffer}
+use Rattle.theory_compare.specs.Nearest.{NearestRoot}
+use Rattle.theory_compare.specs.Lent.{Slice}
+use Rattle.compare_records.specs.helpers.Numbers.{comparison}
+use Rattle.theory_claim.specs.Commit.{commitNumber, committedCodeword}
+use Rattle.theory_claim.specs.Calls.{Call, callNumber, doneFolds, leftBy}
 use Rattle.claim_fold_calls.specs.Lent.{lentCalls}
-use Rattle.claim_fold_calls.specs.helpers.Laid.{Left}
-use Rattle.theory_record.specs.Scheme.{scheme}
+use Rattle.claim_fold_calls.specs.helpers.Laid.{zeros, Left}
+use Rattle.claim_whole_run.specs.Questions.{runNumber}
+use Rattle.claim_whole_run.specs.declared.Answers.{Answers}
 
--- what is lent for the levels: n, k and the base domain within their ranges, a table of 2^n words, as many challenges as variables, and room for
--- the gammas, all levels, a fold, n challenges, all trees and all roots, in halves and bytes
-pub record Room (n k base table vars challenges gammas levels half kept trees roots : ℕ) : Type 0 where
-  pub n-least : 1 ≤ n
-  pub n-most : n ≤ 20
-  pub k-most : k ≤ 4
-  pub base-short : base ≤ 200
-  pub table-long : table ≡ 2 * 2 ^ n
-  pub challenges-long : challenges ≡ 2 * vars
-  pub gammas-long : gammas ≡ 2 * (k * n)
-  pub levels-long : levels ≡ 2 * levelsLength n k
-  pub half-long : half ≡ 2 ^ (n + k)
-  pub kept-long : kept ≡ 2 * n
-  pub trees-long : trees ≡ 32 * treeStart present n k (suc n)
-  pub roots-long : roots ≡ 32 * (n + 1)
+-- ---- what is lent
 
--- and for the records: a position, and room for both
-pub record RecordRoom (n k position query tail : ℕ) : Type 0 where
-  pub position-low : position < 2 ^ (n + k)
-  pub query-long : query ≡ querySize present n k
-  pub tail-long : tail ≡ tailSize present n k
+-- the numbers, and what is lent for reading: base domain, table, fold calls and their challenges, two records to compare
+pub record Given : Type 0 where
+  pub n : ℕ
+  pub k : ℕ
+  pub position : ℕ
+  pub claim : ℕ
+  pub base : List ℕ
+  pub table : List ℕ
+  pub calls : List ℕ
+  pub challenges : List ℕ
+  pub first : List ℕ
+  pub second : List ℕ
 
--- what is lent to the tail record: at least the last level, its tree and its root
-pub record LastRoom (n k levels trees roots : ℕ) : Type 0 where
-  pub small : n + k ≤ 24
-  pub levels-least : 2 * levelLength n k n ≤ levels
-  pub trees-least : 32 * treeLength present n k n ≤ trees
-  pub roots-least : 32 ≤ roots
+-- what is lent for writing: one buffer for each thing that a run leaves, and `half`, room for a fold
+pub record Buffers : Type 0 where
+  pub gammas : List ℕ
+  pub levels : List ℕ
+  pub half : List ℕ
+  pub kept : List ℕ
+  pub trees : List ℕ
+  pub roots : List ℕ
+  pub query : List ℕ
+  pub tail : List ℕ
+  pub one : List ℕ
+  pub two : List ℕ
 
-module _ (n k : ℕ) (base table vars challenges : List ℕ) where
-  -- the codeword as `commit` leaves it, and the calls on it
-  abbrev pub codeword : List ℕ
-  codeword = committedCodeword base n k (words table)
+-- these, of the slices that a contract names
+abbrev pub given : ℕ → ℕ → ℕ → ℕ → Slice → Slice → Slice → Slice → Slice → Slice → Given
+given n k position claim base table calls challenges first second =
+    record {
+      n = n;
+      k = k;
+      position = position;
+      claim = claim;
+      base = now (base .entry);
+      table = now (table .entry);
+      calls = now (calls .entry);
+      challenges = now (challenges .entry);
+      first = now (first .entry);
+      second = now (second .entry);
+    }
 
-  abbrev pub calls : List Call
-  calls = lentCalls n k vars (words challenges)
+abbrev pub buffers : Slice → Slice → Slice → Slice → Slice → Slice → Slice → Slice → Slice → Slice → Both Buffers Buffers
+buffers gammas levels half kept trees roots query tail one two =
+    record {
+      entry = record {
+        gammas = now (gammas .entry);
+        levels = now (levels .entry);
+        half = now (half .entry);
+        kept = now (kept .entry);
+        trees = now (trees .entry);
+        roots = now (roots .entry);
+        query = now (query .entry);
+        tail = now (tail .entry);
+        one = now (one .entry);
+        two = now (two .entry);
+      };
+      exit = record {
+        gammas = now (gammas .exit);
+        levels = now (levels .exit);
+        half = now (half .exit);
+        kept = now (kept .exit);
+        trees = now (trees .exit);
+        roots = now (roots .exit);
+        query = now (query .exit);
+        tail = now (tail .exit);
+        one = now (one .exit);
+        two = now (two .exit);
+      };
+    }
 
-  -- what committing, the calls and the trees leave, lent the halves `old` for the levels and `oldKept` for the challenges
+-- the number that a run answers
+abbrev pub numberFor : Given → Buffers → ℕ
+numberFor G B =
+    runNumber (G .n) (G .k) (G .position) (length (G .base)) (length (G .table)) (length (G .calls)) (length (G .challenges))
+    (length (B .gammas)) (length (B .levels)) (length (B .half)) (length (B .kept)) (length (B .trees)) (length (B .roots))
+    (length (B .query)) (length (B .tail)) (length (B .one)) (length (B .two))
+
+-- ---- what committing, the calls and the trees leave, lent the halves `old` for the levels and `oldKept` for the challenges
+
+module _ (n k : ℕ) (base table calls challenges : List ℕ) where
   pub record Deposited (old oldKept gammas′ levels kept trees roots : List ℕ) (done : ℕ) : Type 0 where
     pub gammas-are : words gammas′ ≡ gammas hash base n k
-    pub left : Left n k codeword (words old) (words oldKept) calls done levels kept
+    pub left : Left n k (committedCodeword base n k (words table)) (words old) (words oldKept) (lentCalls calls (words challenges)) done levels kept
     pub trees-are : trees ≡ treesLent (scheme base n k) (levelValues n k (words levels))
     pub roots-are : roots ≡ rootsLent (scheme base n k) (levelValues n k (words levels))
 
-  -- the claim, for done calls that are n folds at variable 0 by r: r is kept, entry eps of the last level is P(r + L(eps)), the query record is
-  -- accepted, and the tail record exactly for the claim P(r)
-  pub record Claimed (levels kept : List ℕ) (answer : Answer) (tail claim : ℕ) (r : List ℕ) : Type 0 where
-    pub kept-are : words kept ≡ r
-    pub last-entry : (eps : ℕ) → eps < 2 ^ k → at (levelValues n k (words levels) n) eps ≡ mle (at (words table)) (addPoint r (shift n k (gammas hash base n k) eps))
-    pub query-accepted : answer ≡ accepted
-    pub tail-accepted : (tail ≡ 0) ↔ (claim ≡ mle (at (words table)) r)
+-- ---- what a run leaves
 
-  -- the run: what is left, what the records are and what their checks answer
-  pub record Ran (position claim : ℕ) (old oldKept gammas′ levels kept trees roots query query′ tail tail′ : List ℕ) (done : ℕ) (answer : Answer) (number : ℕ) : Type 0 where
-    pub deposited : Deposited old oldKept gammas′ levels kept trees roots done
-    pub query-is : query′ ≡ buildQuery present n k levels trees position query
-    pub tail-is : tail′ ≡ buildTail present n k (drop (length levels - 2 * levelLength n k n) levels) (drop (length trees - 32 * treeLength present n k n) trees) tail
-    pub answer-is : answer ≡ checkQuery (scheme base n k) position kept roots query′
-    pub number-is : number ≡ checkTail (scheme base n k) (drop (length roots - 32) roots) claim tail′
-    pub claimed : (r : List ℕ) → length r ≡ n → doneFolds codeword calls ≡ atFirst r → Claimed levels kept answer number claim r
+-- the last level, its tree and its root: they stand at the end
+abbrev pub lastLevel : ℕ → ℕ → List ℕ → List ℕ
+lastLevel n k levels = drop (length levels - 2 * levelLength n k n) levels
+
+abbrev pub lastTree : ℕ → ℕ → List ℕ → List ℕ
+lastTree n k trees = drop (length trees - 32 * treeLength present n k n) trees
+
+abbrev pub lastRoot : List ℕ → List ℕ
+lastRoot roots = drop (length roots - 32) roots
+
+module _ (G : Given) where
+  open Given G using (n, k, position, claim, base, table, calls, challenges, first, second)
+
+  -- what the deposit fixes, the codeword as `commit` leaves it, and the calls on it
+  abbrev pub S : Scheme
+  S = scheme base n k
+
+  abbrev pub codeword : List ℕ
+  codeword = committedCodeword base n k (words table)
+
+  abbrev pub made : List Call
+  made = lentCalls calls (words challenges)
+
+  -- from the buffers as they were to the buffers as they are
+  module _ (old new : Buffers) where
+    open Buffers new using (levels, kept, trees, roots)
+
+    abbrev pub level : ℕ → List ℕ
+    level l = levelValues n k (words levels) l
+
+    -- the fold of level l by the challenge that is kept for it
+    abbrev pub keptCall : ℕ → Call
+    keptCall l = record { n = n - l; k = k; var = 0; by = at (words kept) l; room = 2 * levelLength n k (suc l) }
+
+    -- where the done calls are n folds at variable 0 by r: r is kept, every level has its length, the calls leave the last one, its entry eps is
+    -- P(r + L(eps)), the query record is accepted, and the tail record exactly for the claim P(r)
+    pub record AfterCalls (r : List ℕ) (query : Answer) (tail : ℕ) : Type 0 where
+      pub kept-are : words kept ≡ r
+      pub level-long : (l : ℕ) → l ≤ n → length (level l) ≡ levelLength n k l
+      pub last-left : leftBy codeword made ≡ level n
+      pub last-entry : (eps : ℕ) → eps < 2 ^ k → at (level n) eps ≡ mle (at (words table)) (addPoint r (shift n k (gammas hash base n k) eps))
+      pub query-accepted : query ≡ accepted
+      pub tail-accepted : (tail ≡ 0) ↔ (claim ≡ mle (at (words table)) r)
+
+    -- the two messages that comparing left, each to its length: they differ, have one digest, and are the ones nearest the root
+    module _ (found : Comparison) where
+      abbrev pub message : List ℕ
+      message = take (found .first) (new .one)
+
+      abbrev pub message′ : List ℕ
+      message′ = take (found .second) (new .two)
+
+      pub record Differ : Type 0 where
+        pub unequal : first ≡ second → ⊥
+        pub differ : message ≡ message′ → ⊥
+        pub one-digest : hash message ≡ hash message′
+        pub lengths : (length message ≡ found .first) × (length message′ ≡ found .second)
+        pub fit : (found .first ≤ messageBuffer) × (found .second ≤ messageBuffer)
+        pub nearest : NearestRoot S position first second message message′
+
+      -- 33 and the records are equal, or 0 and such messages
+      abbrev pub Settled : Type 0
+      Settled = ((found .number ≡ 33) × (first ≡ second)) ⊎ ((found .number ≡ 0) × Differ)
+
+    -- what the claim says of a run, clause by clause: of the query check's answer, the tail check's number and what comparing answered
+    pub record Claimed (query : Answer) (tail : ℕ) (found : Comparison) : Type 0 where
+      -- 0. committing, the fold of each level by its kept challenge, its tree and both records are done; the last digest of a tree is its root
+      pub commit-done :
+          commitNumber present n k (length base) (length table) (length (old .gammas)) (2 * length codeword) (32 * treeLength present n k 0) ≡ 0
+      pub fold-done : (l : ℕ) → l < n → callNumber (level l) (keptCall l) ≡ 0
+      pub tree-done : (l : ℕ) → l ≤ n
+          → buildNumber (length (levelDomain base l)) (levelLength n k l) (levelWidth present n k l) (2 * levelLength n k l) (32 * treeLength present n k l) ≡ 0
+      pub root-last : (l : ℕ) → l ≤ n → getD (treeFor S l (level l)) (treeLength present n k l - 1) [] ≡ rootAt roots l
+      pub query-done : buildQueryNumber present n k levels trees position (old .query) ≡ 0
+      pub tail-done : buildTailNumber present n k (lastLevel n k levels) (lastTree n k trees) (old .tail) ≡ 0
+      -- 1. there are calls that do n folds at variable 0 by what is kept; a refused call anywhere among the lent ones changes nothing, and there is
+      -- one for every level
+      pub calls-exist : (xs : List Call) × (doneFolds codeword xs ≡ atFirst (words kept))
+      pub refused-among : (before after : List Call) (x : Call) → made ≡ before ++ x ∷ after → (callNumber (leftBy codeword before) x ≡ 0 → ⊥)
+          → doneFolds codeword made ≡ doneFolds codeword (before ++ after)
+      pub refused-exist : (l : ℕ) → (x : Call) × (callNumber (level l) x ≡ 4)
+      -- 2. after the lent calls
+      pub after-calls : (r : List ℕ) → length r ≡ n → doneFolds codeword made ≡ atFirst r → AfterCalls r query tail
+      -- 3. what is in the buffers, and what was lent to compare, is accepted exactly when every listed check holds
+      pub query-exactly : (query ≡ accepted) ↔ AcceptedQuery S position kept roots (new .query)
+      pub first-exactly : (checkQuery S position kept roots first ≡ accepted) ↔ AcceptedQuery S position kept roots first
+      pub second-exactly : (checkQuery S position kept roots second ≡ accepted) ↔ AcceptedQuery S position kept roots second
+      pub tail-exactly : (tail ≡ 0) ↔ AcceptedTail S (lastRoot roots) claim (new .tail)
+      -- 4. the two lent records, where both are accepted under what is kept and the roots
+      pub two-records : checkQuery S position kept roots first ≡ accepted → checkQuery S position kept roots second ≡ accepted → Settled found
+
+    -- the run: what is left, what the records are and what their checks answer, what comparing answers and leaves, and the claim of all that
+    pub record Ran (r : Answers) : Type 0 where
+      pub deposited : Deposited n k base table calls challenges (old .levels) (old .kept) (new .gammas) levels kept trees roots (r .done)
+      pub half-cleared : new .half ≡ zeros (length (old .half))
+      pub query-is : new .query ≡ buildQuery present n k levels trees position (old .query)
+      pub tail-is : new .tail ≡ buildTail present n k (lastLevel n k levels) (lastTree n k trees) (old .tail)
+      pub answer-is : answer (r .query) ≡ checkQuery S position kept roots (new .query)
+      pub number-is : r .tail ≡ checkTail S (lastRoot roots) claim (new .tail)
+      pub compared-is : comparison (r .compared) ≡ compared S position kept roots first second (old .one) (old .two)
+      pub one-is : new .one ≡ firstMessage S position kept roots first second (old .one) (old .two)
+      pub two-is : new .two ≡ secondMessage S position kept roots first second (old .one) (old .two)
+      pub claimed : Claimed (answer (r .query)) (r .tail) (comparison (r .compared))
+
+-- the answer of a refused run: every field but the number is 0
+abbrev pub refusal : ℕ → Answers
+refusal number =
+    record {
+      number = number;
+      done = 0;
+      query = record { number = 0; level = 0 };
+      tail = 0;
+      compared = record { number = 0; first = 0; second = 0 };
+    }
+
+-- what the entry ensures: its number; refused, every other field 0 and every buffer as it was; done, what a run leaves
+pub record RunLeft (G : Given) (B : Both Buffers Buffers) (r : Answers) : Type 0 where
+  pub number-is : r .number ≡ numberFor G (B .entry)
+  pub refused : (r .number ≡ 0 → ⊥) → (r ≡ refusal (r .number)) × (B .exit ≡ B .entry)
+  pub done : r .number ≡ 0 → Ran G (B .entry) (B .exit) r

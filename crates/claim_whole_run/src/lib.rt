@@ -1,48 +1,49 @@
-// The whole run (SPECIFICATION 10.1) over plain lent buffers, after eval.rs and ring.rs. These are helpers: each requires that what it is lent has its
-// length.
+// The whole run (SPECIFICATION 10.1) over plain lent buffers, after eval.rs and ring.rs. The entry is `run`; the other functions require that what
+// they are lent has its length.
+mod questions;
+
 use claim_fold_calls::fold_calls;
-use claim_level_trees::level_trees;
 use code_commit::commit;
 use code_commit::trees::tree_bytes;
 use code_level::level_length;
+use code_level_trees::level_trees;
+use compare_records::Compared;
+use compare_records::compare;
 use field_gf128::Word;
+use questions::run_number;
 use record_query_build::build_query;
 use record_query_check::Checked;
 use record_query_check::check_query;
 use record_tail_build::build_tail;
 use record_tail_check::check_tail;
+use tree_place::Place;
 ghost use mathlib.Core.Path.{_≡_};
-ghost use Prim.Native.Nat.{_-_, _*_};
-ghost use lib.ListN.{length, drop};
+ghost use lib.ListN.{length};
 ghost use Rattle.field_gf128.specs.Word.{word};
-ghost use Rattle.theory_record.specs.Widths.{present, levelLength, treeLength};
+ghost use Rattle.theory_record.specs.Widths.{present};
 ghost use Rattle.theory_record.specs.Query.{checkQuery};
 ghost use Rattle.theory_record.specs.Tail.{checkTail};
 ghost use Rattle.theory_record.specs.Build.{buildQuery, buildTail};
-ghost use Rattle.record_query_check.specs.Answer.{answer};
-ghost use Rattle.claim_fold_calls.specs.helpers.Laid.{zeros};
-ghost use Rattle.claim_whole_run.specs.Whole.{Room, RecordRoom, LastRoom, Deposited, Ran};
 ghost use Rattle.theory_record.specs.Scheme.{scheme};
+ghost use Rattle.record_query_check.specs.Answer.{answer};
+ghost use Rattle.theory_compare.specs.Lent.{comparedLent, firstLeft, secondLeft};
+ghost use Rattle.compare_records.specs.helpers.Numbers.{comparison};
+ghost use Rattle.claim_fold_calls.specs.helpers.Laid.{zeros};
+ghost use Rattle.claim_whole_run.specs.Whole.{given, buffers, lastLevel, lastTree, lastRoot, RunLeft};
+ghost use Rattle.claim_whole_run.specs.helpers.Room.{CommitLent, CommitLeft, DepositLent, DepositLeft, RecordLent, LastRoom, RunDone};
 
-// A table committed, the calls of a lent list of variables and challenges on its codeword, and the trees and roots of all levels: how many
-// calls are done. The challenges of the done ones are kept; `half` is room for a fold and is left with zeros.
-fn deposit(
+// A table committed: its gammas, level 0 at the front of the levels and level 0's tree at the front of the trees.
+fn commit_first(
     n: usize,
     k: usize,
     base: &[u8],
     table: &[u64],
-    vars: &[usize],
-    challenges: &[u64],
     gammas: &mut [u64],
     levels: &mut [u64],
-    half: &mut [u64],
-    kept: &mut [u64],
     trees: &mut [u8],
-    roots: &mut [u8],
-) -> usize
-    requires { ⌜ Room n k (length (now base)) (length (now table)) (length (now vars)) (length (now challenges)) (length (now gammas)) (length (now levels)) (length (now half)) (length (now kept)) (length (now trees)) (length (now roots)) ⌝ }
-    ensures { λ done. ⌜ Deposited n k (now (base .entry)) (now (table .entry)) (now (vars .entry)) (now (challenges .entry)) (now (levels .entry)) (now (kept .entry)) (now (gammas .exit)) (now (levels .exit)) (now (kept .exit)) (now (trees .exit)) (now (roots .exit)) done ⌝ }
-    ensures { λ _. ⌜ now (half .exit) ≡ zeros (length (now (half .entry))) ⌝ }
+)
+    requires { ⌜ CommitLent n k base table gammas levels trees ⌝ }
+    ensures { λ _. ⌜ CommitLeft n k base table gammas levels trees ⌝ }
 {
     let size = 2 * level_length(n, k, 0);
     let bytes = tree_bytes(n, k, 0);
@@ -55,7 +56,30 @@ fn deposit(
         &mut levels[..size],
         &mut trees[..bytes],
     );
-    let done = fold_calls(n, k, vars, challenges, levels, half, kept);
+}
+
+// A table committed, the calls of a lent list on its codeword, and the trees and roots of all levels: how many calls are done. The challenges of
+// the done ones are kept; `half` is room for a fold and is left with zeros.
+fn deposit(
+    n: usize,
+    k: usize,
+    base: &[u8],
+    table: &[u64],
+    calls: &[usize],
+    challenges: &[u64],
+    gammas: &mut [u64],
+    levels: &mut [u64],
+    half: &mut [u64],
+    kept: &mut [u64],
+    trees: &mut [u8],
+    roots: &mut [u8],
+) -> usize
+    requires { ⌜ DepositLent n k base table calls challenges gammas levels half kept trees roots ⌝ }
+    ensures { λ done. ⌜ DepositLeft n k base table calls challenges gammas levels kept trees roots done ⌝ }
+    ensures { λ _. ⌜ now (half .exit) ≡ zeros (length (now (half .entry))) ⌝ }
+{
+    commit_first(n, k, base, table, gammas, levels, trees);
+    let done = fold_calls(n, k, calls, challenges, levels, half, kept);
     level_trees(n, k, base, levels, trees, roots);
     done
 }
@@ -75,8 +99,9 @@ fn query_record(
     ensures { λ _. ⌜ now (out .exit) ≡ buildQuery present n k (now (levels .entry)) (now (trees .entry)) position (now (out .entry)) ⌝ }
     ensures { λ r. ⌜ answer r ≡ checkQuery (scheme (now (base .entry)) n k) position (now (kept .entry)) (now (roots .entry)) (now (out .exit)) ⌝ }
 {
-    build_query(out, levels, trees, n, k, position);
-    check_query(base, n, k, position, kept, roots, out)
+    let place = Place::at(position);
+    build_query(out, levels, trees, n, k, place);
+    check_query(base, n, k, place, kept, roots, out)
 }
 
 // The tail record, built from the last level and its tree, and checked under the last root.
@@ -91,8 +116,8 @@ fn tail_record(
     out: &mut [u8],
 ) -> u32
     requires { ⌜ LastRoom n k (length (now levels)) (length (now trees)) (length (now roots)) ⌝ }
-    ensures { λ _. ⌜ now (out .exit) ≡ buildTail present n k (drop (length (now (levels .entry)) - 2 * levelLength n k n) (now (levels .entry))) (drop (length (now (trees .entry)) - 32 * treeLength present n k n) (now (trees .entry))) (now (out .entry)) ⌝ }
-    ensures { λ r. ⌜ r ≡ checkTail (scheme (now (base .entry)) n k) (drop (length (now (roots .entry)) - 32) (now (roots .entry))) (word claim) (now (out .exit)) ⌝ }
+    ensures { λ _. ⌜ now (out .exit) ≡ buildTail present n k (lastLevel n k (now (levels .entry))) (lastTree n k (now (trees .entry))) (now (out .entry)) ⌝ }
+    ensures { λ r. ⌜ r ≡ checkTail (scheme (now (base .entry)) n k) (lastRoot (now (roots .entry))) (word claim) (now (out .exit)) ⌝ }
 {
     let from = levels.len() - 2 * level_length(n, k, n);
     let at = trees.len() - tree_bytes(n, k, n);
@@ -101,24 +126,49 @@ fn tail_record(
     check_tail(base, n, k, &roots[last..], claim, out)
 }
 
-// What the run answers: how many calls are done, the answer of the query record's check, and the number of the tail record's.
-pub struct Answers {
-    pub done: usize,
-    pub query: Checked,
-    pub tail: u32,
-}
-
-// The whole run: commit, the calls, the levels' trees, the query record at a position and the tail record, and their checks, the tail's for a
-// claim. Where the done calls are n folds at variable 0 by r, the query record is accepted, and the tail record exactly for the claim P(r).
-pub fn run(
+// Two records for a position compared, into two message buffers.
+fn two_records(
     n: usize,
     k: usize,
     base: &[u8],
-    table: &[u64],
-    vars: &[usize],
-    challenges: &[u64],
+    position: usize,
+    kept: &[u64],
+    roots: &[u8],
+    first: &[u8],
+    second: &[u8],
+    one: &mut [u8],
+    two: &mut [u8],
+) -> Compared
+    ensures { λ r. ⌜ comparison r ≡ comparedLent base n k position kept roots first second one two ⌝ }
+    ensures { λ _. ⌜ now (one .exit) ≡ firstLeft base n k position kept roots first second one two ⌝ }
+    ensures { λ _. ⌜ now (two .exit) ≡ secondLeft base n k position kept roots first second one two ⌝ }
+{
+    let place = Place::at(position);
+    compare(base, n, k, place, kept, roots, first, second, one, two)
+}
+
+// What a run answers: its number; how many calls are done; what the check of the query record answered, and the number of the tail record's; and what
+// comparing the two lent records answered.
+pub struct Answers {
+    pub number: u32,
+    pub done: usize,
+    pub query: Checked,
+    pub tail: u32,
+    pub compared: Compared,
+}
+
+// The run, once its questions are answered.
+fn made(
+    n: usize,
+    k: usize,
     position: usize,
     claim: Word,
+    base: &[u8],
+    table: &[u64],
+    calls: &[usize],
+    challenges: &[u64],
+    first: &[u8],
+    second: &[u8],
     gammas: &mut [u64],
     levels: &mut [u64],
     half: &mut [u64],
@@ -127,18 +177,19 @@ pub fn run(
     roots: &mut [u8],
     query: &mut [u8],
     tail: &mut [u8],
+    one: &mut [u8],
+    two: &mut [u8],
 ) -> Answers
-    requires { ⌜ Room n k (length (now base)) (length (now table)) (length (now vars)) (length (now challenges)) (length (now gammas)) (length (now levels)) (length (now half)) (length (now kept)) (length (now trees)) (length (now roots)) ⌝ }
-    requires { ⌜ RecordRoom n k position (length (now query)) (length (now tail)) ⌝ }
-    ensures { λ r. ⌜ Ran n k (now (base .entry)) (now (table .entry)) (now (vars .entry)) (now (challenges .entry)) position (word claim) (now (levels .entry)) (now (kept .entry)) (now (gammas .exit)) (now (levels .exit)) (now (kept .exit)) (now (trees .exit)) (now (roots .exit)) (now (query .entry)) (now (query .exit)) (now (tail .entry)) (now (tail .exit)) (r .done) (answer (r .query)) (r .tail) ⌝ }
-    ensures { λ _. ⌜ now (half .exit) ≡ zeros (length (now (half .entry))) ⌝ }
+    requires { ⌜ DepositLent n k base table calls challenges gammas levels half kept trees roots × RecordLent n k position query tail one two ⌝ }
+    ensures { λ r. ⌜ RunDone (given n k position (word claim) base table calls challenges first second)
+        (buffers gammas levels half kept trees roots query tail one two) r ⌝ }
 {
     let done = deposit(
         n,
         k,
         base,
         table,
-        vars,
+        calls,
         challenges,
         gammas,
         levels,
@@ -149,9 +200,100 @@ pub fn run(
     );
     let checked = query_record(n, k, base, position, levels, trees, kept, roots, query);
     let number = tail_record(n, k, base, claim, levels, trees, roots, tail);
+    let compared = two_records(n, k, base, position, kept, roots, first, second, one, two);
     Answers {
+        number: 0,
         done,
         query: checked,
         tail: number,
+        compared,
     }
+}
+
+// The whole run: a table committed, the calls of a lent list on its codeword, the levels' trees and roots, the query record at a position and the
+// tail record, built and checked, the tail's for a claim, and two lent records for that position compared under the kept challenges and the roots.
+// Where the done calls are n folds at variable 0 by r, the query record is accepted, and the tail record exactly for the claim P(r). It refuses
+// with 4, 5, 7 and 11, and then changes no lent byte.
+pub fn run(
+    n: usize,
+    k: usize,
+    position: usize,
+    claim: Word,
+    base: &[u8],
+    table: &[u64],
+    calls: &[usize],
+    challenges: &[u64],
+    first: &[u8],
+    second: &[u8],
+    gammas: &mut [u64],
+    levels: &mut [u64],
+    half: &mut [u64],
+    kept: &mut [u64],
+    trees: &mut [u8],
+    roots: &mut [u8],
+    query: &mut [u8],
+    tail: &mut [u8],
+    one: &mut [u8],
+    two: &mut [u8],
+) -> Answers
+    ensures { λ r. ⌜ RunLeft (given n k position (word claim) base table calls challenges first second)
+        (buffers gammas levels half kept trees roots query tail one two) r ⌝ }
+{
+    let number = run_number(
+        n,
+        k,
+        position,
+        base.len(),
+        table.len(),
+        calls.len(),
+        challenges.len(),
+        gammas.len(),
+        levels.len(),
+        half.len(),
+        kept.len(),
+        trees.len(),
+        roots.len(),
+        query.len(),
+        tail.len(),
+        one.len(),
+        two.len(),
+    );
+    if number != 0 {
+        return Answers {
+            number,
+            done: 0,
+            query: Checked {
+                number: 0,
+                level: 0,
+            },
+            tail: 0,
+            compared: Compared {
+                number: 0,
+                first: 0,
+                second: 0,
+            },
+        };
+    }
+    made(
+        n,
+        k,
+        position,
+        claim,
+        base,
+        table,
+        calls,
+        challenges,
+        first,
+        second,
+        gammas,
+        levels,
+        half,
+        kept,
+        trees,
+        roots,
+        query,
+        tail,
+        one,
+        two,
+    )
 }

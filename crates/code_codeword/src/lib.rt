@@ -12,10 +12,12 @@ ghost use Rattle.theory_code.specs.Questions.{shiftNumber, encodeNumber, foldNu
 ghost use Rattle.code_codeword.specs.Answers.{blockOf, foldedOf};
 ghost use Rattle.code_codeword.specs.helpers.Sizes.{ShiftSizes, EncodeSizes};
 
+pub mod folding;
 pub mod sizes;
 
 use field_gf128::Word;
 use field_words::copy;
+use folding::fold_into;
 use sizes::holds;
 use sizes::holds_half;
 use sizes::power;
@@ -219,8 +221,7 @@ pub fn fold(n: usize, k: usize, var: usize, r: Word, src: &[u64], out: &mut [u64
     if number != 0 {
         return Folded { number, n: 0 };
     }
-    let mut multiples = [0u64; 8192];
-    field_runs::fold(out, src, var as u64, r, &mut multiples);
+    fold_into(var, r, src, out);
     Folded {
         number: 0,
         n: n - 1,

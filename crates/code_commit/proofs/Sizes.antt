@@ -1,7 +1,7 @@
--- What the questions of `commit`, all answered yes, say of sizes and lengths; with them no step of the work is refused.
+-- What the questions of `commit` and `level_tree`, all answered yes, say of sizes and lengths; with them no step of the work is refused.
 use Prim.Native.Nat.{ℕ, _+_, _-_, _*_, _^_, _≤_}
 use mathlib.Core.Path.{_≡_, sym, _∙_, ap}
-use mathlib.Core.List.{List}
+use mathlib.Core.List.{List, _++_}
 use native.Mathlib.Omega.{arith}
 use borrow.Author.Tests.{leb-true, eqb-true, le-leb, eq-eqb}
 use Rattle.theory_laws.specs.Lists.{flat}
@@ -15,7 +15,10 @@ use Rattle.theory_code.specs.Gammas.{gammas}
 use Rattle.theory_code.specs.Questions.{deriveNumber}
 use Rattle.theory_record.specs.Widths.{present, levelLength, treeLength}
 use Rattle.theory_record.specs.Trees.{treeFor}
+use Rattle.theory_record.specs.Query.{sizeQuestions}
+use Rattle.theory_record.proofs.Ranges.{sizes-fit, sizes-small}
 use Rattle.theory_claim.specs.Commit.{commitQuestions, commitNumber, committedCodeword, committedTree}
+use Rattle.code_commit.specs.Level.{levelQuestions, levelTreeNumber}
 use Rattle.code_commit.specs.helpers.LevelTree.{LevelTree}
 use Rattle.theory_record.specs.Scheme.{scheme}
 
@@ -74,3 +77,19 @@ module _ (base table : List ℕ) (n k : ℕ) {g c : List ℕ} (eg : g ≡ gammas
   pub tree-made : (t : List ℕ) → t ≡ flat (treeFor (scheme base n k) 0 c) → t ≡ committedTree (scheme base n k) table
   unfolding committedTree
   tree-made t e = e ∙ ap (λ (x : List ℕ). flat (treeFor (scheme base n k) 0 x)) codeword-made
+
+-- ---- the tree of a level
+
+-- where no question of its entry said no
+pub level-allowed : (n k l base values tree : ℕ) {number : ℕ} → number ≡ levelTreeNumber present n k l base values tree → number ≡ 0
+    → LevelTree n k l base values tree
+unfolding levelTreeNumber
+level-allowed n k l base values tree e z =
+    let y = sizes-fit n k (all-yes (sizeQuestions n k ++ levelQuestions present n k l base values tree) tt (sym e ∙ z)) in
+    record {
+      small = sizes-small n k (y .0);
+      level-le = leb-true l n (y .1 .0);
+      base-le = leb-true base 200 (y .1 .1 .1 .1 .0);
+      values-are = eqb-true _ _ (y .1 .1 .0);
+      tree-is = eqb-true _ _ (y .1 .1 .1 .0);
+    }

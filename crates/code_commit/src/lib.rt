@@ -1,5 +1,6 @@
-// Committing a table, after eval.rs: its gammas, its codeword and level 0's tree, into three lent buffers. A refused call changes no
-// lent byte.
+// Committing a table, after eval.rs: its gammas, its codeword and level 0's tree, into three lent buffers; and the tree of any level. A
+// refused call changes no lent byte.
+pub mod level;
 pub mod trees;
 
 use code_codeword::sizes::holds;

@@ -1,9 +1,13 @@
 -- A level's sizes, from its length and its width as code computes them.
 use Prim.Native.Nat.{ℕ, _+_, _-_, _*_, _/_, _%_, _^_, _<_, _≤_}
 use mathlib.Core.Path.{_≡_, refl, sym, _∙_, ap, ap₂}
+use mathlib.Core.Bool.{Bool, true, false}
 use native.Mathlib.Nat.{mod-eq-of-lt}
 use native.Mathlib.Omega.{arith}
+use borrow.Author.Tests.{le-leb, eq-eqb, ne-eqb}
+use lib.Dec.{leb, eqb}
 use lib.Pow.{pow-mono}
+use Rattle.theory_laws.specs.Questions.{pick}
 use Rattle.theory_merkle.specs.Tree.{depthOf}
 use Rattle.theory_record.specs.Widths.{present, widthFor, levelLength, levelWidth, levelGroups, levelDepth}
 use Rattle.theory_laws.proofs.Questions.{all-yes}
@@ -40,3 +44,33 @@ module _ (n k l x w : ℕ) where
 pub sizes-said : (n k x : ℕ) → x ≡ sizeNumber n k → x ≡ 0 → SizesFit n k
 unfolding sizeNumber
 sizes-said n k x e z = sizes-fit n k (all-yes (sizeQuestions n k) tt (sym e ∙ z)) .0
+
+-- the three parts of question 4 in front of further questions, of which X is the number, by what `size_number` gave: `search (asks, asks-sizes)`
+abbrev sizesThen : Bool → Bool → Bool → ℕ → ℕ
+sizesThen a b c X = pick a (pick b (pick c X 4) 4) 4
+
+module _ (n k x X : ℕ) (e : x ≡ sizeNumber n k) where
+  pub yes-sizes : (r : ℕ) → x ≡ 0 → r ≡ X → r ≡ sizesThen (leb n 20) (leb k 4) (leb 1 n) X
+  yes-sizes r z f =
+      let s = sizes-said n k x e z in
+      rw (le-leb n 20 (s .n-most), le-leb k 4 (s .k-most), le-leb 1 n (s .n-least)) f
+
+  pub no-sizes : (x ≡ 0 → ⊥) → x ≡ sizesThen (leb n 20) (leb k 4) (leb 1 n) X
+  unfolding sizeNumber
+  no-sizes h = go (leb n 20) (leb k 4) (leb 1 n) e
+    where
+      go : (a b c : Bool) → x ≡ sizesThen a b c 0 → x ≡ sizesThen a b c X
+      go true true true f = absurd (h f)
+      go true true false f = f
+      go true false c f = f
+      go false b c f = f
+
+-- a lent length in halves, compared with a number of words that a function gave
+module _ {A : Type 0} (r x y : A) (a b q : ℕ) (e : q ≡ b) where
+  pub yes-halves : a ≡ 2 * q → r ≡ x → r ≡ pick (eqb a (2 * b)) x y
+  yes-halves h f = rw (← e, eq-eqb a (2 * q) h) f
+
+  pub no-halves : (a ≡ 2 * q → ⊥) → r ≡ y → r ≡ pick (eqb a (2 * b)) x y
+  no-halves h f = rw (← e, ne-eqb a (2 * q) h) f
+
+pub ruleset asks-sizes = (yes-sizes, no-sizes, yes-halves, no-halves)

@@ -1,1 +1,2 @@
+pub mod Domain
 pub mod helpers

@@ -1,13 +1,17 @@
-// The levels of a commitment: their widths, lengths, depths and domains. `fold_tree_width` is an entry; the other functions serve the
-// crates above and require.
+// The levels of a commitment: their widths, lengths, depths and domains. `fold_tree_width` and the functions of `domain` are entries; the
+// other functions serve the crates above and require.
+pub mod domain;
+
 use bytes_numbers::put;
 use tree_place::depth_of;
 ghost use mathlib.Core.Path.{_≡_};
-ghost use Prim.Native.Nat.{_+_, _≤_, _<_};
+ghost use Prim.Native.Nat.{suc, _+_, _*_, _≤_, _<_};
 ghost use lib.ListN.{length};
 ghost use Rattle.bytes_numbers.specs.helpers.Put.{Put};
 ghost use Rattle.theory_record.specs.Widths.{present, widthFor, levelLength, levelWidth, levelGroups, levelDepth};
 ghost use Rattle.theory_record.specs.Domain.{digit, decimal, levelDomain};
+ghost use Rattle.theory_record.specs.Build.{levelsLength, treeStart};
+ghost use Rattle.theory_record.proofs.Ranges.{SizesFit};
 ghost use Rattle.code_level.specs.helpers.Numbers.{sizeNumber};
 
 // How many bytes the longest level domain has, `domainRoom` of the definitions: a base domain of 200, "/level/" and two digits.
@@ -74,6 +78,28 @@ pub fn level_depth(n: usize, k: usize, l: usize) -> usize
     depth_of(level_length(n, k, l), level_width(n, k, l))
 }
 
+// How many words the levels have: twice as many as the first, less the last.
+pub fn levels_length(n: usize, k: usize) -> usize
+    requires { ⌜ SizesFit n k ⌝ }
+    ensures { λ r. ⌜ r ≡ levelsLength n k ⌝ }
+{
+    2 * level_length(n, k, 0) - level_length(n, k, n)
+}
+
+// How many bytes their trees have.
+pub fn trees_size(n: usize, k: usize) -> usize
+    requires { ⌜ SizesFit n k ⌝ }
+    ensures { λ r. ⌜ r ≡ 32 * treeStart present n k (suc n) ⌝ }
+{
+    let mut digests: usize = 0;
+    let mut l: usize = 0;
+    while l <= n {
+        digests += 2 * level_groups(n, k, l) - 1;
+        l += 1;
+    }
+    32 * digests
+}
+
 // The ASCII code of a digit.
 fn digit_of(d: usize) -> u8
     requires { ⌜ d < 10 ⌝ }
@@ -84,7 +110,7 @@ fn digit_of(d: usize) -> u8
 
 // A number below 100 in decimal, without leading zeros.
 fn put_decimal(out: &mut [u8], from: usize, x: usize) -> usize
-    requires { ⌜ (x < 100) × (from + 2 ≤ length (now out)) ⌝ }
+    requires { ⌜ (x < 100) × (from + length (decimal x) ≤ length (now out)) ⌝ }
     ensures { λ r. ⌜ Put (now (out .entry)) from (length (decimal x)) (decimal x) (now (out .exit)) r ⌝ }
 {
     if x < 10 {
@@ -96,12 +122,20 @@ fn put_decimal(out: &mut [u8], from: usize, x: usize) -> usize
     from + 2
 }
 
-// The domain of level l: the base domain, "/level/", the level in decimal.
-pub fn level_domain(out: &mut [u8], base: &[u8], l: usize) -> usize
-    requires { ⌜ (l < 100) × (length (now base) + 9 ≤ length (now out)) ⌝ }
+// The domain of level l, put at the front of a buffer with room for it: the base domain, "/level/", the level in decimal. How long it is.
+pub fn put_domain(out: &mut [u8], base: &[u8], l: usize) -> usize
+    requires { ⌜ (l < 100) × (length (levelDomain (now base) l) ≤ length (now out)) ⌝ }
     ensures { λ r. ⌜ Put (now (out .entry)) 0 (length (levelDomain (now (base .entry)) l)) (levelDomain (now (base .entry)) l) (now (out .exit)) r ⌝ }
 {
     let a = put(out, 0, base);
     let b = put(out, a, b"/level/");
     put_decimal(out, b, l)
+}
+
+// The same in a buffer with room for any level's.
+pub fn level_domain(out: &mut [u8], base: &[u8], l: usize) -> usize
+    requires { ⌜ (l < 100) × (length (now base) + 9 ≤ length (now out)) ⌝ }
+    ensures { λ r. ⌜ Put (now (out .entry)) 0 (length (levelDomain (now (base .entry)) l)) (levelDomain (now (base .entry)) l) (now (out .exit)) r ⌝ }
+{
+    put_domain(out, base, l)
 }

@@ -15,9 +15,10 @@ use tree_walk::children;
 ghost use mathlib.Core.Path.{_≡_};
 ghost use Prim.Native.Nat.{_+_, _*_, _≤_};
 ghost use lib.ListN.{length};
+ghost use Rattle.tree_place.specs.Place.{index, number};
 ghost use Rattle.compare_chain.specs.helpers.Nodes.{LeafNoted, LeafRoom, NodeNoted, nodesInto, chainInto, ChainRoom};
 
-// The leaf message of the group whose values stand from a place of a record on; its digest.
+// The leaf message of the group whose values stand from a byte of a record on; its digest.
 fn put_leaf(
     out: &mut [u8],
     domain: &[u8],
@@ -28,26 +29,26 @@ fn put_leaf(
     from: usize,
 ) -> [u8; 32]
     requires { ⌜ LeafRoom (length (now domain)) width (length (now s)) from (length (now out)) ⌝ }
-    ensures { λ r. ⌜ LeafNoted (now (out .entry)) (now (domain .entry)) count width (group .0) (now (s .entry)) from (now (out .exit)) r ⌝ }
+    ensures { λ r. ⌜ LeafNoted (now (out .entry)) (now (domain .entry)) count width (number group) (now (s .entry)) from (now (out .exit)) r ⌝ }
 {
     let values = group_values(s, from, width);
     let prefix = leaf_prefix(out, domain, count, width);
-    let n = leaf_rest(out, prefix, width, group.0, &values[..2 * width]);
+    let n = leaf_rest(out, prefix, width, group, &values[..2 * width]);
     digest(&out[..n])
 }
 
-// The node message of a digest, number g of its level, and its sibling; its digest.
+// The node message of a digest, by its number on its level, and its sibling; its digest.
 fn put_node(
     out: &mut [u8],
     at: usize,
     domain: &[u8],
     level: usize,
-    g: usize,
+    g: Group,
     d: [u8; 32],
     sibling: [u8; 32],
 ) -> [u8; 32]
     requires { ⌜ (length (now domain) ≤ 255) × (at + (136 + length (now domain)) ≤ length (now out)) ⌝ }
-    ensures { λ r. ⌜ NodeNoted (now (out .entry)) at (now (domain .entry)) level g d sibling (now (out .exit)) r ⌝ }
+    ensures { λ r. ⌜ NodeNoted (now (out .entry)) at (now (domain .entry)) level (number g) d sibling (now (out .exit)) r ⌝ }
 {
     let c = children(g, d, sibling);
     let l = c.left;
@@ -59,35 +60,35 @@ fn put_node(
     digest(&message[..n])
 }
 
-// The node messages on the way of a leaf digest, by its number, along the digests that stand from a place of a record on.
+// The node messages on the way of a leaf digest, by its group, along the digests that stand from a byte of a record on.
 fn put_nodes(
     out: &mut [u8],
     from: usize,
     domain: &[u8],
-    group: usize,
+    group: Group,
     leaf: [u8; 32],
     s: &[u8],
-    path: usize,
+    path_from: usize,
     depth: usize,
 )
-    requires { ⌜ (length (now domain) ≤ 255) × (path + 32 * depth ≤ length (now s)) × (from + (136 + length (now domain)) * depth ≤ length (now out)) ⌝ }
-    ensures { λ _. ⌜ now (out .exit) ≡ nodesInto (now (out .entry)) from (now (domain .entry)) group leaf (now (s .entry)) path depth ⌝ }
+    requires { ⌜ (length (now domain) ≤ 255) × («path_from» + 32 * depth ≤ length (now s)) × (from + (136 + length (now domain)) * depth ≤ length (now out)) ⌝ }
+    ensures { λ _. ⌜ now (out .exit) ≡ nodesInto (now (out .entry)) from (now (domain .entry)) (number group) leaf (now (s .entry)) «path_from» depth ⌝ }
 {
     let mut at = from;
     let mut d = leaf;
     let mut g = group;
     let mut l: usize = 0;
     while l < depth {
-        let e = digest_at(s, path + 32 * l);
+        let e = digest_at(s, path_from + 32 * l);
         let p = put_node(out, at, domain, l, g, d, e);
         d = p;
         at += 136 + domain.len();
-        g = g / 2;
+        g = g.parent();
         l += 1;
     }
 }
 
-// The messages from the group of a place, whose values stand from one place of a record on, along the path from another.
+// The messages from the group of a place, whose values stand from one byte of a record on, along the digests from another.
 pub fn put_chain(
     out: &mut [u8],
     domain: &[u8],
@@ -96,11 +97,11 @@ pub fn put_chain(
     place: Place,
     s: &[u8],
     from: usize,
-    path: usize,
+    path_from: usize,
     depth: usize,
 )
-    requires { ⌜ ChainRoom (length (now domain)) width (length (now s)) from path depth (length (now out)) ⌝ }
-    ensures { λ _. ⌜ now (out .exit) ≡ chainInto (now (out .entry)) (now (domain .entry)) count width (place .0) (now (s .entry)) from path depth ⌝ }
+    requires { ⌜ ChainRoom (length (now domain)) width (length (now s)) from «path_from» depth (length (now out)) ⌝ }
+    ensures { λ _. ⌜ now (out .exit) ≡ chainInto (now (out .entry)) (now (domain .entry)) count width (index place) (now (s .entry)) from «path_from» depth ⌝ }
 {
     let g = group_of(place, width);
     let d = put_leaf(out, domain, count, width, g, s, from);
@@ -108,10 +109,10 @@ pub fn put_chain(
         out,
         97 + domain.len() + 16 * width,
         domain,
-        g.0,
+        g,
         d,
         s,
-        path,
+        path_from,
         depth,
     );
 }

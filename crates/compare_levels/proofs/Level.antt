@@ -33,15 +33,16 @@ places-found S l q s i x t j y ex ey =
 
 -- path c, or path a
 module _ (S : Scheme) (l q : ℕ) {next : Bool} (s : List ℕ) (x : Level) (t : List ℕ) (y : Level) {old old′ new new′ : List ℕ} {r : ℕ} where
-  pub path-c : next ≡ true → Picked (foundAt S (l + 1) q s (x .«c_group») (x .«c_path») t (y .«c_group») (y .«c_path»)) old old′ new new′ r
+  pub path-c : next ≡ true → Picked (foundAt S (l + 1) q s (x .«c_group_at») (x .«c_path_at») t (y .«c_group_at») (y .«c_path_at»)) old old′ new new′ r
       → Picked (pathFound S l q next s x t y) old old′ new new′ r
   unfolding pathFound
   path-c e p = rw e p
 
-  pub path-a : next ≡ false → Picked (foundAt S l (2 * q) s (x .«a_group») (x .«a_path») t (y .«a_group») (y .«a_path»)) old old′ new new′ r
+  pub path-a : {first : ℕ} → first ≡ 2 * q → next ≡ false
+      → Picked (foundAt S l first s (x .«a_group_at») (x .«a_path_at») t (y .«a_group_at») (y .«a_path_at»)) old old′ new new′ r
       → Picked (pathFound S l q next s x t y) old old′ new new′ r
   unfolding pathFound
-  path-a e p = rw e p
+  path-a ef e p = rw (e, ← ef) p
 
 -- what is left of an accepted record, from level l on, which starts at this place: it is there, and 16 to 26 hold of each level
 pub record Rest (S : Scheme) (position l : ℕ) (s : List ℕ) (i : ℕ) : Type 0 where

@@ -4,18 +4,20 @@ use compare_opening::pick_opening;
 use record_query_check::pair_of;
 use record_reader::Level;
 use record_reader::level_at;
+use tree_place::Place;
 ghost use Rattle.theory_compare.specs.Compare.{recordsFound};
 ghost use Rattle.compare_pick.specs.helpers.Chains.{PickedIn};
+ghost use Rattle.tree_place.specs.Place.{index};
 ghost use Rattle.compare_levels.specs.helpers.Levels.{pathFound, placesFound, LevelsSized, Comparable};
 ghost use Rattle.theory_record.specs.Scheme.{scheme};
 
-// Of the levels at these places of two records: path c, which is of the next level, or else path a.
+// Of level l of two records, as it was read of each: path c, which is of the next level, or else path a. The pair folds to place q there.
 fn pick_path(
     base: &[u8],
     n: usize,
     k: usize,
     l: usize,
-    q: usize,
+    q: Place,
     next: bool,
     s: &[u8],
     x: Level,
@@ -24,8 +26,8 @@ fn pick_path(
     first: &mut [u8],
     second: &mut [u8],
 ) -> usize
-    requires { ⌜ LevelsSized (scheme (now base) n k) l q (now s) x (now t) y (now first) (now second) ⌝ }
-    ensures { λ r. ⌜ PickedIn (pathFound (scheme (now (base .entry)) n k) l q next (now (s .entry)) x (now (t .entry)) y) first second r ⌝ }
+    requires { ⌜ LevelsSized (scheme (now base) n k) l (index q) (now s) x (now t) y (now first) (now second) ⌝ }
+    ensures { λ r. ⌜ PickedIn (pathFound (scheme (now (base .entry)) n k) l (index q) next (now (s .entry)) x (now (t .entry)) y) first second r ⌝ }
 {
     if next {
         return pick_opening(
@@ -35,11 +37,11 @@ fn pick_path(
             l + 1,
             q,
             s,
-            x.c_group,
-            x.c_path,
+            x.c_group_at,
+            x.c_path_at,
             t,
-            y.c_group,
-            y.c_path,
+            y.c_group_at,
+            y.c_path_at,
             first,
             second,
         );
@@ -49,13 +51,13 @@ fn pick_path(
         n,
         k,
         l,
-        2 * q,
+        q.first_of_pair(),
         s,
-        x.a_group,
-        x.a_path,
+        x.a_group_at,
+        x.a_path_at,
         t,
-        y.a_group,
-        y.a_path,
+        y.a_group_at,
+        y.a_path_at,
         first,
         second,
     )
@@ -67,7 +69,7 @@ fn pick_level(
     n: usize,
     k: usize,
     l: usize,
-    q: usize,
+    q: Place,
     s: &[u8],
     x: Level,
     t: &[u8],
@@ -75,8 +77,8 @@ fn pick_level(
     first: &mut [u8],
     second: &mut [u8],
 ) -> usize
-    requires { ⌜ LevelsSized (scheme (now base) n k) l q (now s) x (now t) y (now first) (now second) ⌝ }
-    ensures { λ r. ⌜ PickedIn (placesFound (scheme (now (base .entry)) n k) l q (now (s .entry)) x (now (t .entry)) y) first second r ⌝ }
+    requires { ⌜ LevelsSized (scheme (now base) n k) l (index q) (now s) x (now t) y (now first) (now second) ⌝ }
+    ensures { λ r. ⌜ PickedIn (placesFound (scheme (now (base .entry)) n k) l (index q) (now (s .entry)) x (now (t .entry)) y) first second r ⌝ }
 {
     let m = pick_path(base, n, k, l, q, false, s, x, t, y, first, second);
     if m != 0 {
@@ -90,14 +92,14 @@ pub fn pick_levels(
     base: &[u8],
     n: usize,
     k: usize,
-    position: usize,
+    position: Place,
     s: &[u8],
     t: &[u8],
     first: &mut [u8],
     second: &mut [u8],
 ) -> usize
-    requires { ⌜ Comparable (scheme (now base) n k) position (now s) (now t) (now first) (now second) ⌝ }
-    ensures { λ r. ⌜ PickedIn (recordsFound (scheme (now (base .entry)) n k) position (now (s .entry)) (now (t .entry))) first second r ⌝ }
+    requires { ⌜ Comparable (scheme (now base) n k) (index position) (now s) (now t) (now first) (now second) ⌝ }
+    ensures { λ r. ⌜ PickedIn (recordsFound (scheme (now (base .entry)) n k) (index position) (now (s .entry)) (now (t .entry))) first second r ⌝ }
 {
     let mut l: usize = 0;
     let mut i: usize = 4;

@@ -13,14 +13,15 @@ ghost use lib.ListN.{length};
 ghost use Rattle.theory_laws.specs.Lists.{stored};
 ghost use Rattle.theory_record.specs.Domain.{levelDomain};
 ghost use Rattle.record_opening.specs.helpers.Opening.{Sized};
-ghost use Rattle.compare_opening.specs.helpers.Messages.{chainAt, foundAt, BothSized, chainBuffer};
+ghost use Rattle.tree_place.specs.Place.{index};
+ghost use Rattle.compare_opening.specs.helpers.Messages.{chainLent, foundLent, BothSized, chainBuffer};
 ghost use Rattle.compare_pick.specs.helpers.Chains.{PickedIn};
 ghost use Rattle.theory_record.specs.Scheme.{scheme};
 
 // How many bytes a buffer for a chain of messages has: `chainBuffer` of the conditions.
 const CHAIN: usize = 8714;
 
-// The messages from the group of a place of level l along the path, which stand at these places of a record, end to end in a buffer. The
+// The messages from the group of a place of level l along the path, which stand at these bytes of a record, end to end in a buffer. The
 // length of the level's domain.
 fn level_chain(
     out: &mut [u8],
@@ -28,14 +29,14 @@ fn level_chain(
     n: usize,
     k: usize,
     l: usize,
-    place: usize,
+    place: Place,
     s: &[u8],
-    group: usize,
-    path: usize,
+    group_at: usize,
+    path_at: usize,
 ) -> usize
-    requires { ⌜ (Sized (scheme (now base) n k) l (now s) group path) × (length (now out) ≡ chainBuffer) ⌝ }
+    requires { ⌜ (Sized (scheme (now base) n k) l (now s) «group_at» «path_at») × (length (now out) ≡ chainBuffer) ⌝ }
     ensures { λ r. ⌜ r ≡ length (levelDomain (now (base .entry)) l) ⌝ }
-    ensures { λ _. ⌜ now (out .exit) ≡ stored (now (out .entry)) 0 (chainAt (scheme (now (base .entry)) n k) l place (now (s .entry)) group path) ⌝ }
+    ensures { λ _. ⌜ now (out .exit) ≡ stored (now (out .entry)) 0 (chainLent base n k l (index place) s «group_at» «path_at») ⌝ }
 {
     let mut domain = [0u8; DOMAIN];
     let d = level_domain(&mut domain, base, l);
@@ -47,10 +48,10 @@ fn level_chain(
         &domain[..d],
         count,
         width,
-        Place(place),
+        place,
         s,
-        group + 4,
-        path + 4,
+        group_at + 4,
+        path_at + 4,
         depth,
     );
     d
@@ -62,23 +63,23 @@ pub fn pick_opening(
     n: usize,
     k: usize,
     l: usize,
-    place: usize,
+    place: Place,
     s: &[u8],
-    sgroup: usize,
-    spath: usize,
+    s_group_at: usize,
+    s_path_at: usize,
     t: &[u8],
-    tgroup: usize,
-    tpath: usize,
+    t_group_at: usize,
+    t_path_at: usize,
     first: &mut [u8],
     second: &mut [u8],
 ) -> usize
-    requires { ⌜ BothSized (scheme (now base) n k) l (now s) sgroup spath (now t) tgroup tpath (now first) (now second) ⌝ }
-    ensures { λ r. ⌜ PickedIn (foundAt (scheme (now (base .entry)) n k) l place (now (s .entry)) sgroup spath (now (t .entry)) tgroup tpath) first second r ⌝ }
+    requires { ⌜ BothSized (scheme (now base) n k) l (now s) «s_group_at» «s_path_at» (now t) «t_group_at» «t_path_at» (now first) (now second) ⌝ }
+    ensures { λ r. ⌜ PickedIn (foundLent base n k l (index place) s «s_group_at» «s_path_at» t «t_group_at» «t_path_at») first second r ⌝ }
 {
     let mut a = [0u8; CHAIN];
-    let d = level_chain(&mut a, base, n, k, l, place, s, sgroup, spath);
+    let d = level_chain(&mut a, base, n, k, l, place, s, s_group_at, s_path_at);
     let mut b = [0u8; CHAIN];
-    level_chain(&mut b, base, n, k, l, place, t, tgroup, tpath);
+    level_chain(&mut b, base, n, k, l, place, t, t_group_at, t_path_at);
     let width = level_width(n, k, l);
     let depth = level_depth(n, k, l);
     pick_last(&a, &b, 97 + d + 16 * width, 136 + d, depth, first, second)

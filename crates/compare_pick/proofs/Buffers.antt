@@ -9,7 +9,8 @@ use Rattle.theory_laws.proofs.Lists.{length-stored, stored-all, then-stored}
 use Rattle.bytes_numbers.specs.helpers.Put.{Put}
 use Rattle.theory_compare.specs.Compare.{inBuffer}
 
-pub message-put : (out m out1 out2 : List ℕ) (end : ℕ) → length out ≡ 512 → length m ≤ 512 → Put out 0 (length m) m out1 end → out2 ≡ stored out1 end (replicate (length out1 - end) 0) → out2 ≡ inBuffer m
+pub message-put : (out m out1 out2 : List ℕ) (end : ℕ) → length out ≡ 512 → length m ≤ 512 → Put out 0 (length m) m out1 end
+    → out2 ≡ stored out1 end (replicate (length out1 - end) 0) → out2 ≡ inBuffer m
 unfolding inBuffer
 message-put out m out1 out2 end n k p e =
     let n1 : length out1 ≡ 512 = ap length (p .bytes) ∙ length-stored out 0 m ∙ n in

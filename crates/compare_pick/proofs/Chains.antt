@@ -16,7 +16,8 @@ orElse-assoc : (f g h : Found) → orElse (orElse f g) h ≡ orElse f (orElse g 
 orElse-assoc none g h = refl
 orElse-assoc (pair m m′) g h = refl
 
-last-of : (xs ys : List (List ℕ)) (x y : List ℕ) → length xs ≡ length ys → lastDiffering (xs ++ (x ∷ [])) (ys ++ (y ∷ [])) ≡ orElse (differing x y) (lastDiffering xs ys)
+last-of : (xs ys : List (List ℕ)) (x y : List ℕ) → length xs ≡ length ys
+    → lastDiffering (xs ++ (x ∷ [])) (ys ++ (y ∷ [])) ≡ orElse (differing x y) (lastDiffering xs ys)
 unfolding lastDiffering
 last-of [] [] x y e = orElse-none (differing x y)
   where
@@ -33,7 +34,8 @@ unfolding runs part
 runs-last n zero l = let z : n * 0 ≡ 0 = omega arith in rw z
 runs-last n (suc c) l =
     let z : n + n * c ≡ n * suc c = omega (arith, mul-suc n c) in
-    ap (λ (r : List (List ℕ)). take n l ∷ r) (runs-last n c (drop n l) ∙ ap (λ (r : List ℕ). runs n c (drop n l) ++ (take n r ∷ [])) (drop-drop (n * c) n l ∙ ap (λ (i : ℕ). drop i l) z))
+    ap (λ (r : List (List ℕ)). take n l ∷ r)
+    (runs-last n c (drop n l) ∙ ap (λ (r : List ℕ). runs n c (drop n l) ++ (take n r ∷ [])) (drop-drop (n * c) n l ∙ ap (λ (i : ℕ). drop i l) z))
 
 length-chain : (leaf node depth : ℕ) (a : List ℕ) → length (chainOf leaf node depth a) ≡ suc depth
 unfolding chainOf
@@ -42,7 +44,8 @@ length-chain leaf node depth a = ap suc (length-runs node depth (drop leaf a))
 chain-last : (leaf node i : ℕ) (a : List ℕ) → chainOf leaf node (suc i) a ≡ chainOf leaf node i a ++ (part node (leaf + node * i) a ∷ [])
 unfolding chainOf part
 chain-last leaf node i a =
-    ap (λ (r : List (List ℕ)). take leaf a ∷ r) (runs-last node i (drop leaf a) ∙ ap (λ (r : List ℕ). runs node i (drop leaf a) ++ (take node r ∷ [])) (drop-drop (node * i) leaf a))
+    ap (λ (r : List (List ℕ)). take leaf a ∷ r)
+    (runs-last node i (drop leaf a) ∙ ap (λ (r : List ℕ). runs node i (drop leaf a) ++ (take node r ∷ [])) (drop-drop (node * i) leaf a))
 
 -- what is found below the last i messages of two chains
 unfoldable pub foundBelow : ℕ → ℕ → ℕ → List ℕ → List ℕ → Found
@@ -53,7 +56,8 @@ unfolding foundBelow
 below-all leaf node depth a b = refl
 
 below-last : (leaf node i : ℕ) (a b : List ℕ) → 0 < i
-    → foundBelow leaf node i a b ≡ orElse (differing (part node (leaf + node * (i - 1)) a) (part node (leaf + node * (i - 1)) b)) (foundBelow leaf node (i - 1) a b)
+    → foundBelow leaf node i a b
+    ≡ orElse (differing (part node (leaf + node * (i - 1)) a) (part node (leaf + node * (i - 1)) b)) (foundBelow leaf node (i - 1) a b)
 unfolding foundBelow
 below-last leaf node i a b h =
     let j : ℕ = i - 1 in
@@ -63,7 +67,8 @@ below-last leaf node i a b h =
     ∙ last-of (chainOf leaf node j a) (chainOf leaf node j b) _ _ (length-chain leaf node j a ∙ sym (length-chain leaf node j b))
 
 -- the loop: nothing was found above place i, so that the buffers are as they were
-module _ (leaf node i : ℕ) (a b : List ℕ) (F : Found) (e : foundBelow leaf node i a b ≡ F) (old old′ mid mid′ new new′ : List ℕ) (same : mid ≡ old) (same′ : mid′ ≡ old′) (m : ℕ) where
+module _ (leaf node i : ℕ) (a b : List ℕ) (F : Found) (e : foundBelow leaf node i a b ≡ F) (old old′ mid mid′ new new′ : List ℕ) (same : mid ≡ old)
+    (same′ : mid′ ≡ old′) (m : ℕ) where
   module _ (from : ℕ) (h : 0 < i) (f : from ≡ leaf + node * (i - 1)) (p : Picked (differing (part node from a) (part node from b)) mid mid′ new new′ m) where
     found-here : foundBelow leaf node i a b ≡ orElse (differing (part node from a) (part node from b)) (foundBelow leaf node (i - 1) a b)
     found-here = rw f (below-last leaf node i a b h)

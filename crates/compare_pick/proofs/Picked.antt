@@ -17,19 +17,23 @@ between : (from len : ℕ) (a : List ℕ) → take (from + len - from) (drop fro
 unfolding part
 between from len a = ap (λ (i : ℕ). take i (drop from a)) (let z : from + len - from ≡ len = omega arith in z)
 
-same-between : (from len : ℕ) (a b : List ℕ) (q t : Bool) → q ≡ same (take (from + len - from) (drop from a)) (take (from + len - from) (drop from b)) → q ≡ t → same (part len from a) (part len from b) ≡ t
+same-between : (from len : ℕ) (a b : List ℕ) (q t : Bool) → q ≡ same (take (from + len - from) (drop from a)) (take (from + len - from) (drop from b)) → q ≡ t
+    → same (part len from a) (part len from b) ≡ t
 same-between from len a b q t e f = ap₂ same (sym (between from len a)) (sym (between from len b)) ∙ sym e ∙ f
 
 -- they are the same
-pub picked-same : (from len : ℕ) (a b old old′ : List ℕ) (q : Bool) → q ≡ same (take (from + len - from) (drop from a)) (take (from + len - from) (drop from b)) → q ≡ true
+pub picked-same : (from len : ℕ) (a b old old′ : List ℕ) (q : Bool) → q ≡ same (take (from + len - from) (drop from a)) (take (from + len - from) (drop from b))
+    → q ≡ true
     → Picked (differing (part len from a) (part len from b)) old old′ old old′ 0
 unfolding differing
 picked-same from len a b old old′ q e t =
     rw (same-between from len a b q true e t) (record { first-is = refl; second-is = refl; first-long = refl; second-long = refl; none-is = λ z. refl })
 
 -- or they are not
-pub picked-differ : (from len : ℕ) (a b old old′ new new′ : List ℕ) (q : Bool) → q ≡ same (take (from + len - from) (drop from a)) (take (from + len - from) (drop from b)) → q ≡ false
-    → new ≡ inBuffer (take (from + len - from) (drop from a)) → new′ ≡ inBuffer (take (from + len - from) (drop from b)) → 0 < len → from + len ≤ length a → from + len ≤ length b
+pub picked-differ : (from len : ℕ) (a b old old′ new new′ : List ℕ) (q : Bool)
+    → q ≡ same (take (from + len - from) (drop from a)) (take (from + len - from) (drop from b)) → q ≡ false
+    → new ≡ inBuffer (take (from + len - from) (drop from a)) → new′ ≡ inBuffer (take (from + len - from) (drop from b)) → 0 < len → from + len ≤ length a
+    → from + len ≤ length b
     → Picked (differing (part len from a) (part len from b)) old old′ new new′ len
 unfolding differing
 picked-differ from len a b old old′ new new′ q e t f g h ha hb =
@@ -64,6 +68,7 @@ picked-none f old old′ new new′ r p z =
     }
 
 -- and what is looked at later is what is found
-pub picked-later : (f g : Found) (old old′ mid mid′ new new′ : List ℕ) (r : ℕ) → Unpicked f old old′ mid mid′ → Picked g mid mid′ new new′ r → Picked (orElse f g) old old′ new new′ r
+pub picked-later : (f g : Found) (old old′ mid mid′ new new′ : List ℕ) (r : ℕ) → Unpicked f old old′ mid mid′ → Picked g mid mid′ new new′ r
+    → Picked (orElse f g) old old′ new new′ r
 picked-later f g old old′ mid mid′ new new′ r u p =
     rw (u .found-none) (rw (u .first-same, u .second-same) at p)

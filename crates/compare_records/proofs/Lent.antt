@@ -45,8 +45,8 @@ module _ (base n k position challenges roots first second x : ℕ) (ex : x ≡ s
             pub long-base : 200 < base → 7 ≡ lentNumber base n k position challenges roots first second
             long-base e = passes 7 (rw (eq-eqb challenges (2 * n) a, eq-eqb roots (32 * (n + 1)) b, eq-eqb first 512 c, eq-eqb second 512 d, lt-leb base 200 e))
 
-            module _ (f : base ≤ 200) (len : ℕ) (el : len ≡ levelLength n k 0) where
-              pub high-position : len ≤ position → 11 ≡ lentNumber base n k position challenges roots first second
+            module _ (f : base ≤ 200) (p : ℕ) (ep : p ≡ position) (len : ℕ) (el : len ≡ levelLength n k 0) where
+              pub high-position : len ≤ p → 11 ≡ lentNumber base n k position challenges roots first second
               high-position e =
                   passes 11
                   (rw (
@@ -56,10 +56,11 @@ module _ (base n k position challenges roots first second x : ℕ) (ex : x ≡ s
                     eq-eqb second 512 d,
                     le-leb base 200 f,
                     first-length n k len el,
-                    le-ltb position len e,
+                    ← ep,
+                    le-ltb p len e,
                   ))
 
-              pub none-says-no : position < len → 0 ≡ lentNumber base n k position challenges roots first second
+              pub none-says-no : p < len → 0 ≡ lentNumber base n k position challenges roots first second
               none-says-no e =
                   passes 0
                   (rw (
@@ -69,5 +70,6 @@ module _ (base n k position challenges roots first second x : ℕ) (ex : x ≡ s
                     eq-eqb second 512 d,
                     le-leb base 200 f,
                     first-length n k len el,
-                    lt-ltb position len e,
+                    ← ep,
+                    lt-ltb p len e,
                   ))

@@ -4,10 +4,12 @@ use code_level::level_length;
 use code_level::size_number;
 use compare_levels::pick_levels;
 use record_query_check::check_query;
+use tree_place::Place;
 ghost use mathlib.Core.Path.{_≡_};
 ghost use Rattle.theory_compare.specs.Compare.{accepts};
 ghost use Rattle.theory_compare.specs.Lent.{comparedLent, firstLeft, secondLeft};
-ghost use Rattle.compare_records.specs.helpers.Numbers.{lentNumber, recordsNumber, comparison};
+ghost use Rattle.tree_place.specs.Place.{index};
+ghost use Rattle.compare_records.specs.helpers.Numbers.{lentNumber, recordsLent, comparison};
 ghost use Rattle.theory_record.specs.Scheme.{scheme};
 
 // How many bytes a buffer for a message has: `messageBuffer` of the definitions. The longest, a leaf message of 8 values, has 434.
@@ -25,13 +27,13 @@ fn lent_number(
     base: usize,
     n: usize,
     k: usize,
-    position: usize,
+    position: Place,
     challenges: usize,
     roots: usize,
     first: usize,
     second: usize,
 ) -> u32
-    ensures { λ r. ⌜ r ≡ lentNumber base n k position challenges roots first second ⌝ }
+    ensures { λ r. ⌜ r ≡ lentNumber base n k (index position) challenges roots first second ⌝ }
 {
     let x = size_number(n, k);
     if x != 0 {
@@ -52,7 +54,7 @@ fn lent_number(
     if base > 200 {
         return 7;
     }
-    if position >= level_length(n, k, 0) {
+    if position.index() >= level_length(n, k, 0) {
         return 11;
     }
     0
@@ -63,12 +65,12 @@ fn accepted(
     base: &[u8],
     n: usize,
     k: usize,
-    position: usize,
+    position: Place,
     challenges: &[u64],
     roots: &[u8],
     s: &[u8],
 ) -> bool
-    ensures { λ r. ⌜ r ≡ accepts (scheme (now (base .entry)) n k) position (now (challenges .entry)) (now (roots .entry)) (now (s .entry)) ⌝ }
+    ensures { λ r. ⌜ r ≡ accepts (scheme (now (base .entry)) n k) (index position) (now (challenges .entry)) (now (roots .entry)) (now (s .entry)) ⌝ }
 {
     let c = check_query(base, n, k, position, challenges, roots, s);
     c.number == 0
@@ -79,13 +81,13 @@ fn records_number(
     base: &[u8],
     n: usize,
     k: usize,
-    position: usize,
+    position: Place,
     challenges: &[u64],
     roots: &[u8],
     s: &[u8],
     t: &[u8],
 ) -> u32
-    ensures { λ r. ⌜ r ≡ recordsNumber (now (base .entry)) n k position (now (challenges .entry)) (now (roots .entry)) (now (s .entry)) (now (t .entry)) ⌝ }
+    ensures { λ r. ⌜ r ≡ recordsLent base n k (index position) challenges roots s t ⌝ }
 {
     if !accepted(base, n, k, position, challenges, roots, s) {
         return 32;
@@ -105,7 +107,7 @@ pub fn compare(
     base: &[u8],
     n: usize,
     k: usize,
-    position: usize,
+    position: Place,
     challenges: &[u64],
     roots: &[u8],
     first: &[u8],
@@ -113,9 +115,9 @@ pub fn compare(
     first_message: &mut [u8],
     second_message: &mut [u8],
 ) -> Compared
-    ensures { λ r. ⌜ comparison r ≡ comparedLent base n k position challenges roots first second «first_message» «second_message» ⌝ }
-    ensures { λ _. ⌜ now («first_message» .exit) ≡ firstLeft base n k position challenges roots first second «first_message» «second_message» ⌝ }
-    ensures { λ _. ⌜ now («second_message» .exit) ≡ secondLeft base n k position challenges roots first second «first_message» «second_message» ⌝ }
+    ensures { λ r. ⌜ comparison r ≡ comparedLent base n k (index position) challenges roots first second «first_message» «second_message» ⌝ }
+    ensures { λ _. ⌜ now («first_message» .exit) ≡ firstLeft base n k (index position) challenges roots first second «first_message» «second_message» ⌝ }
+    ensures { λ _. ⌜ now («second_message» .exit) ≡ secondLeft base n k (index position) challenges roots first second «first_message» «second_message» ⌝ }
 {
     let x = lent_number(
         base.len(),

@@ -1,12 +1,31 @@
--- The sizes that n and k fix (SPECIFICATION 7.6): words of the table, the gammas, the codeword and all levels; bytes of level 0's
--- tree, of all trees, and of a query and a tail record. Question 4, as for records.
-use Prim.Native.Nat.{ℕ, suc, _*_, _^_}
+-- The sizes that n and k fix (SPECIFICATION 7.6): words of the table, the gammas, the codeword, all levels, room for a fold and the last level;
+-- bytes of level 0's tree, of all trees, of the last level's tree, of the roots, and of a query and a tail record. Question 4, as for records.
+use Prim.Native.Nat.{ℕ, suc, _+_, _*_, _^_}
 use Rattle.theory_laws.specs.Questions.{onDone}
 use Rattle.code_level.specs.helpers.Numbers.{sizeNumber}
 use Rattle.theory_record.specs.Widths.{present, levelLength, treeLength}
 use Rattle.theory_record.specs.Sizes.{querySize, tailSize}
 use Rattle.theory_record.specs.Build.{levelsLength, treeStart}
 use Rattle.export_dequmlo.specs.declared.sizes.Sizes.{Sizes}
+
+-- none, and why
+abbrev pub noSizes : ℕ → Sizes
+noSizes number =
+    record {
+      number = number;
+      table = 0;
+      gammas = 0;
+      codeword = 0;
+      tree = 0;
+      levels = 0;
+      trees = 0;
+      half = 0;
+      roots = 0;
+      «last_level» = 0;
+      «last_tree» = 0;
+      query = 0;
+      tail = 0;
+    }
 
 abbrev pub sizesOf : ℕ → ℕ → Sizes
 sizesOf n k =
@@ -19,7 +38,11 @@ sizesOf n k =
       tree = 32 * treeLength present n k 0;
       levels = levelsLength n k;
       trees = 32 * treeStart present n k (suc n);
+      half = levelLength n k 1;
+      roots = 32 * (n + 1);
+      «last_level» = levelLength n k n;
+      «last_tree» = 32 * treeLength present n k n;
       query = querySize present n k;
       tail = tailSize present n k;
     })
-    (record { number = sizeNumber n k; table = 0; gammas = 0; codeword = 0; tree = 0; levels = 0; trees = 0; query = 0; tail = 0 })
+    (noSizes (sizeNumber n k))

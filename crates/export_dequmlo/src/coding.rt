@@ -1,8 +1,9 @@
-// Committing a table, and folding a codeword.
+// Committing a table, folding a codeword, and all levels of a commitment by its challenges.
 use field_gf128::Word;
 ghost use mathlib.Core.Path.{_≡_};
 ghost use lib.ListN.{length};
 ghost use Rattle.theory_laws.specs.Questions.{onDone};
+ghost use Rattle.theory_laws.specs.Table.{tab};
 ghost use Rattle.theory_field.specs.Words.{words};
 ghost use Rattle.field_gf128.specs.Word.{word};
 ghost use Rattle.theory_blake3.specs.Digest.{hash};
@@ -11,6 +12,8 @@ ghost use Rattle.theory_code.specs.Questions.{foldNumber};
 ghost use Rattle.code_codeword.specs.Answers.{foldedOf};
 ghost use Rattle.theory_code.specs.Gammas as G;
 ghost use Rattle.theory_claim.specs.Commit.{commitAnswer, codewordOf, committedTree};
+ghost use Rattle.theory_record.specs.Trees.{levelsLent, treesLent, rootsLent};
+ghost use Rattle.code_fold_levels.specs.Levels.{foldLevelsLent, foldedLent};
 ghost use Rattle.export_dequmlo.specs.Answers.{folded};
 ghost use Rattle.theory_record.specs.Scheme.{scheme};
 
@@ -58,4 +61,25 @@ pub extern "C" fn dequmlo_fold(
         number: a.number,
         n: a.n,
     }
+}
+
+// All levels of the codeword that stands as level 0 at the front of `levels`, by n challenges, their trees and their roots: 4, 5, 7.
+#[no_mangle]
+pub extern "C" fn dequmlo_fold_levels(
+    n: usize,
+    k: usize,
+    base: &[u8],
+    challenges: &[u64],
+    levels: &mut [u64],
+    half: &mut [u64],
+    trees: &mut [u8],
+    roots: &mut [u8],
+) -> u32
+    ensures { λ r. ⌜ r ≡ foldLevelsLent n k base challenges levels half trees roots ⌝ }
+    ensures { λ r. ⌜ words (now (levels .exit)) ≡ onDone r (levelsLent n (foldedLent n k challenges levels)) (words (now (levels .entry))) ⌝ }
+    ensures { λ r. ⌜ now (half .exit) ≡ onDone r (tab (length (now (half .entry))) (λ v. 0)) (now (half .entry)) ⌝ }
+    ensures { λ r. ⌜ now (trees .exit) ≡ onDone r (treesLent (scheme (now (base .entry)) n k) (foldedLent n k challenges levels)) (now (trees .entry)) ⌝ }
+    ensures { λ r. ⌜ now (roots .exit) ≡ onDone r (rootsLent (scheme (now (base .entry)) n k) (foldedLent n k challenges levels)) (now (roots .entry)) ⌝ }
+{
+    code_fold_levels::fold_levels(n, k, base, challenges, levels, half, trees, roots)
 }

@@ -1,5 +1,6 @@
 // Query and tail records built and checked, and two query records compared.
 use field_gf128::Word;
+use tree_place::Place;
 ghost use mathlib.Core.Path.{_≡_};
 ghost use Rattle.field_gf128.specs.Word.{word};
 ghost use Rattle.theory_record.specs.Widths.{present};
@@ -23,7 +24,7 @@ pub extern "C" fn dequmlo_build_query(
     ensures { λ r. ⌜ r ≡ buildQueryNumber present n k (now (levels .entry)) (now (trees .entry)) position (now (out .entry)) ⌝ }
     ensures { λ _. ⌜ now (out .exit) ≡ buildQuery present n k (now (levels .entry)) (now (trees .entry)) position (now (out .entry)) ⌝ }
 {
-    record_query_build::build_query(out, levels, trees, n, k, position)
+    record_query_build::build_query(out, levels, trees, n, k, Place::at(position))
 }
 
 // The number, and the level for 16 to 26.
@@ -46,7 +47,8 @@ pub extern "C" fn dequmlo_check_query(
 ) -> Checked
     ensures { λ r. ⌜ checked r ≡ checkQuery (scheme (now (base .entry)) n k) position (now (challenges .entry)) (now (roots .entry)) (now (bytes .entry)) ⌝ }
 {
-    let a = record_query_check::check_query(base, n, k, position, challenges, roots, bytes);
+    let place = Place::at(position);
+    let a = record_query_check::check_query(base, n, k, place, challenges, roots, bytes);
     Checked {
         number: a.number,
         level: a.level,
@@ -114,7 +116,7 @@ pub extern "C" fn dequmlo_compare(
         base,
         n,
         k,
-        position,
+        Place::at(position),
         challenges,
         roots,
         first,

@@ -2,7 +2,8 @@
 ghost use mathlib.Core.Path.{_≡_};
 ghost use Rattle.export_dequmlo.specs.Sizes.{sizesOf};
 
-// Words of the table, the gammas, the codeword and all levels; bytes of level 0's tree, of all trees, and of a query and a tail record.
+// Words of the table, the gammas, the codeword, all levels, room for a fold and the last level; bytes of level 0's tree, of all trees, of the
+// last level's tree, of the roots, and of a query and a tail record.
 #[repr(C)]
 pub struct Sizes {
     pub number: u32,
@@ -12,6 +13,10 @@ pub struct Sizes {
     pub tree: usize,
     pub levels: usize,
     pub trees: usize,
+    pub half: usize,
+    pub roots: usize,
+    pub last_level: usize,
+    pub last_tree: usize,
     pub query: usize,
     pub tail: usize,
 }
@@ -31,6 +36,10 @@ pub extern "C" fn dequmlo_sizes(n: usize, k: usize) -> Sizes
             tree: 0,
             levels: 0,
             trees: 0,
+            half: 0,
+            roots: 0,
+            last_level: 0,
+            last_tree: 0,
             query: 0,
             tail: 0,
         };
@@ -41,8 +50,12 @@ pub extern "C" fn dequmlo_sizes(n: usize, k: usize) -> Sizes
         gammas: k * n,
         codeword: code_level::level_length(n, k, 0),
         tree: code_commit::trees::tree_bytes(n, k, 0),
-        levels: record_query_build::levels_length(n, k),
-        trees: record_query_build::trees_size(n, k),
+        levels: code_level::levels_length(n, k),
+        trees: code_level::trees_size(n, k),
+        half: code_level::level_length(n, k, 1),
+        roots: 32 * (n + 1),
+        last_level: code_level::level_length(n, k, n),
+        last_tree: code_commit::trees::tree_bytes(n, k, n),
         query: record_query_build::query_size(n, k),
         tail: record_tail_build::tail_size(n, k),
     }

@@ -1,4 +1,4 @@
-// Trees over groups of words: built, opened at a place, and the root that a group and a path lead to.
+// Trees over groups of words: built, opened at a place, and the root that a group and a path lead to; the domain and the tree of a level.
 use hash_hasher::whole::Digested;
 use tree_place::Place;
 ghost use mathlib.Core.Path.{_≡_};
@@ -6,7 +6,16 @@ ghost use lib.ListN.{length};
 ghost use Rattle.theory_merkle.specs.Numbers.{buildNumber, openNumber};
 ghost use Rattle.tree_build.specs.Built.{builtInto};
 ghost use Rattle.tree_path.specs.Answers.{openedInto, rootAnswer};
+ghost use Rattle.theory_laws.specs.Lists.{flat};
+ghost use Rattle.theory_laws.specs.Questions.{onDone};
+ghost use Rattle.theory_field.specs.Words.{words};
 ghost use Rattle.theory_record.specs.Widths.{present, widthFor};
+ghost use Rattle.theory_record.specs.Domain.{levelDomain};
+ghost use Rattle.theory_record.specs.Trees.{treeFor};
+ghost use Rattle.theory_record.specs.Scheme.{scheme};
+ghost use Rattle.code_level.specs.Domain.{domainNumber, domainLengthOf};
+ghost use Rattle.code_commit.specs.Level.{levelTreeNumber};
+ghost use Rattle.export_dequmlo.specs.Answers.{domainLength};
 
 // The width of the groups of a level of this many values: 8 from length 16, 2 from length 2, else 1.
 #[no_mangle]
@@ -43,7 +52,7 @@ pub extern "C" fn dequmlo_open(
     ensures { λ r. ⌜ r ≡ openNumber count width place (length (now (tree .entry))) (length (now (path .entry))) ⌝ }
     ensures { λ _. ⌜ now (path .exit) ≡ openedInto count width place (now (tree .entry)) (now (path .entry)) ⌝ }
 {
-    tree_path::open(count, width, Place(place), tree, path)
+    tree_path::open(count, width, Place::at(place), tree, path)
 }
 
 // The root that the group of a place and a path lead to: 7, 8, 9, 10, 11, 12, 5.
@@ -58,5 +67,49 @@ pub extern "C" fn dequmlo_root_of_path(
 ) -> Digested
     ensures { λ r. ⌜ r ≡ rootAnswer (now (domain .entry)) count width place (now (values .entry)) (now (path .entry)) ⌝ }
 {
-    tree_path::root_of_path(domain, count, width, Place(place), values, path)
+    tree_path::root_of_path(domain, count, width, Place::at(place), values, path)
+}
+
+// The number, and a length, 0 where it is refused.
+#[repr(C)]
+pub struct DomainLength {
+    pub number: u32,
+    pub length: usize,
+}
+
+// How long the domain of a level is: 4, 7.
+#[no_mangle]
+pub extern "C" fn dequmlo_level_domain_length(base: &[u8], level: usize) -> DomainLength
+    ensures { λ r. ⌜ domainLength r ≡ domainLengthOf (now (base .entry)) level ⌝ }
+{
+    let a = code_level::domain::level_domain_length(base, level);
+    DomainLength {
+        number: a.number,
+        length: a.length,
+    }
+}
+
+// The domain of a level, into a buffer of its length: 4, 5, 7.
+#[no_mangle]
+pub extern "C" fn dequmlo_level_domain(base: &[u8], level: usize, out: &mut [u8]) -> u32
+    ensures { λ r. ⌜ r ≡ domainNumber (now (base .entry)) level (length (now (out .entry))) ⌝ }
+    ensures { λ r. ⌜ now (out .exit) ≡ onDone r (levelDomain (now (base .entry)) level) (now (out .entry)) ⌝ }
+{
+    code_level::domain::level_domain(base, level, out)
+}
+
+// The tree of a level over its values, into a buffer of its size: 4, 5, 7.
+#[no_mangle]
+pub extern "C" fn dequmlo_level_tree(
+    n: usize,
+    k: usize,
+    level: usize,
+    base: &[u8],
+    values: &[u64],
+    tree: &mut [u8],
+) -> u32
+    ensures { λ r. ⌜ r ≡ levelTreeNumber present n k level (length (now (base .entry))) (length (now (values .entry))) (length (now (tree .entry))) ⌝ }
+    ensures { λ r. ⌜ now (tree .exit) ≡ onDone r (flat (treeFor (scheme (now (base .entry)) n k) level (words (now (values .entry))))) (now (tree .entry)) ⌝ }
+{
+    code_commit::level::level_tree(n, k, level, base, values, tree)
 }

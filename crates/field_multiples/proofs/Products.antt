@@ -3,7 +3,8 @@ use mathlib.Core.Path.{_≡_, sym, ap, ap₂, _∙_}
 use mathlib.Core.Logic.{_⊎_, ⊎-elim}
 use mathlib.Core.List.{List}
 use Prim.Native.Nat.{ℕ, suc, _+_, _-_, _*_, _/_, _%_, _^_, _≤_, _<_}
-use native.Mathlib.Nat.{mul-assoc, mod-lt, mod-eq-of-lt, suc-mul, zero-mul, add-zero, one-mul, mul-one, lt-of-lt-of-le, pow-suc, div-one, div-eq-of-lt, mul-le-mul-right, le-mul-of-pos-right, eq-or-lt-of-le}
+use native.Mathlib.Nat.{mul-assoc, mod-lt, mod-eq-of-lt, suc-mul, zero-mul, add-zero, one-mul, mul-one, lt-of-lt-of-le, pow-suc, div-one}
+use native.Mathlib.Nat.{div-eq-of-lt, mul-le-mul-right, le-mul-of-pos-right, eq-or-lt-of-le}
 use native.Mathlib.Numerals.{add-one}
 use native.Mathlib.Omega.{arith}
 use native.Mathlib.Decide.{decLt}

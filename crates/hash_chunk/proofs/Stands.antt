@@ -19,6 +19,10 @@ use Rattle.hash_chunk.specs.helpers.State.{started, compressed, withBloc
 use Rattle.hash_chunk.proofs.Chunk.{chunk-step, chunk-last, start-next}
 use Rattle.hash_chunk.proofs.Feed.{roomy-full, roomy-not}
 
+-- the output of the chunk that a state comes to if these bytes follow
+abbrev pub onwards : ℕ → ℕ → ChunkState → List ℕ → ℕ → List ℕ
+onwards d t s more x = chunkFrom d (15 - s .blocks) (s .h) (startFlag (s .blocks)) t (take (s .fill) (s .block) ++ more) x
+
 -- the state s stands for the bytes bs of chunk t: its counters agree, and whatever bytes follow, the same chunk comes of both
 pub record Stands (key : List ℕ) (d t : ℕ) (s : ChunkState) (bs : List ℕ) : Type 0 where
   pub same-counter : s .counter ≡ t
@@ -28,7 +32,7 @@ pub record Stands (key : List ℕ) (d t : ℕ) (s : ChunkState) (bs : List ℕ) 
   pub low : s .blocks ≤ 15
   pub within : s .fill ≤ 64
   pub wide : length (s .block) ≡ 64
-  pub rest : (more : List ℕ) (x : ℕ) → chunkFrom d (15 - s .blocks) (s .h) (startFlag (s .blocks)) t (take (s .fill) (s .block) ++ more) x ≡ chunk key d t (bs ++ more) x
+  pub rest : (more : List ℕ) (x : ℕ) → onwards d t s more x ≡ chunk key d t (bs ++ more) x
 
 pub stands-started : (key : List ℕ) (d t : ℕ) → Stands key d t (started key d t) []
 unfolding started chunk
@@ -44,9 +48,9 @@ stands-started key d t = record {
 }
 
 -- a byte goes into a block that has room
-put-stands : (key : List ℕ) (d t : ℕ) (s : ChunkState) (bs : List ℕ) (b : ℕ) → s .counter ≡ t → s .flags ≡ d → 64 * s .blocks + s .fill ≡ length bs → s .blocks ≤ 15 → s .fill < 64
-    → length (s .block) ≡ 64
-    → ((more : List ℕ) (x : ℕ) → chunkFrom d (15 - s .blocks) (s .h) (startFlag (s .blocks)) t (take (s .fill) (s .block) ++ (b ∷ more)) x ≡ chunk key d t (bs ++ (b ∷ more)) x)
+put-stands : (key : List ℕ) (d t : ℕ) (s : ChunkState) (bs : List ℕ) (b : ℕ) → s .counter ≡ t → s .flags ≡ d
+    → 64 * s .blocks + s .fill ≡ length bs → s .blocks ≤ 15 → s .fill < 64 → length (s .block) ≡ 64
+    → ((more : List ℕ) (x : ℕ) → onwards d t s (b ∷ more) x ≡ chunk key d t (bs ++ (b ∷ more)) x)
     → Stands key d t (withBlock s (set (s .block) (s .fill) b) (s .fill + 1)) (bs ++ (b ∷ []))
 put-stands key d t s bs b ec ed et l f w r = record {
   same-counter = ec;
@@ -57,7 +61,9 @@ put-stands key d t s bs b ec ed et l f w r = record {
   within = omega arith;
   wide = simp length-set w;
   rest = λ more x.
-      rw (add-one (s .fill), take-suc-set (s .block) (s .fill) b (omega arith), append-assoc (take (s .fill) (s .block)) (b ∷ []) more, append-assoc bs (b ∷ []) more) (r more x);
+      let front = take (s .fill) (s .block) in
+      rw (add-one (s .fill), take-suc-set (s .block) (s .fill) b (omega arith), append-assoc front (b ∷ []) more, append-assoc bs (b ∷ []) more)
+      (r more x);
 }
 
 -- a full block is compressed: what becomes of `rest`
@@ -67,10 +73,11 @@ full-rest : (key : List ℕ) (d t n : ℕ) (h b : List ℕ) (bs : List ℕ) (y :
 full-rest key d t n h b bs y l w g more x =
     let i : 15 - n ≡ suc (15 - (n + 1)) = omega arith in
     let m : 64 < length (b ++ (y ∷ more)) = simp length-append (omega arith) in
-    let g′ = rw (i, chunk-step d (15 - (n + 1)) h (startFlag n) t (b ++ (y ∷ more)) x m, take-at b (y ∷ more) 64 w, drop-at b (y ∷ more) 64 w) at (g (y ∷ more) x) in
-    rw (start-next n) g′
+    let step = chunk-step d (15 - (n + 1)) h (startFlag n) t (b ++ (y ∷ more)) x m in
+    rw (start-next n) (rw (i, step, take-at b (y ∷ more) 64 w, drop-at b (y ∷ more) 64 w) at (g (y ∷ more) x))
 
-pub stands-byte : (key : List ℕ) (d t : ℕ) (s : ChunkState) (bs : List ℕ) (b : ℕ) → Stands key d t s bs → length bs < 1024 → Stands key d t (fedByte s b) (bs ++ (b ∷ []))
+pub stands-byte : (key : List ℕ) (d t : ℕ) (s : ChunkState) (bs : List ℕ) (b : ℕ) → Stands key d t s bs → length bs < 1024
+    → Stands key d t (fedByte s b) (bs ++ (b ∷ []))
 unfolding fedByte compressed
 stands-byte key d t s bs b r l =
     let P : ChunkState → Type 0 = λ (u : ChunkState). Stands key d t (withBlock u (set (u .block) (u .fill) b) (u .fill + 1)) (bs ++ (b ∷ [])) in
@@ -86,7 +93,8 @@ stands-byte key d t s bs b r l =
     (put-stands key d t s bs b (r .same-counter) (r .same-flags) (r .total) (r .low) e (r .wide) (λ more x. r .rest (b ∷ more) x)))
     (eq-or-lt-of-le (r .within))
 
-pub stands-fed : (key : List ℕ) (d t : ℕ) (s : ChunkState) (bs more : List ℕ) → Stands key d t s bs → length bs + length more ≤ 1024 → Stands key d t (fed s more) (bs ++ more)
+pub stands-fed : (key : List ℕ) (d t : ℕ) (s : ChunkState) (bs more : List ℕ) → Stands key d t s bs → length bs + length more ≤ 1024
+    → Stands key d t (fed s more) (bs ++ more)
 unfolding fed
 stands-fed key d t s bs [] r l = rw append-nil r
 stands-fed key d t s bs (b ∷ more) r l =
@@ -117,4 +125,5 @@ fed-fits key d t bs n l =
 pub finished-digest : (key : List ℕ) (d : ℕ) (bs : List ℕ) → length bs ≤ 1024 → finished (fed (started key d 0) bs) ≡ digest key d bs
 unfolding finished digest root
 finished-digest key d bs l =
-    ap (λ (w : List ℕ). bytesOfWords32 (cv w)) (stands-last key d 0 (fed (started key d 0) bs) bs rootNode (fed-stands key d 0 bs l) ∙ sym (tree-one key d 0 bs rootNode l))
+    let last = stands-last key d 0 (fed (started key d 0) bs) bs rootNode (fed-stands key d 0 bs l) in
+    ap (λ (w : List ℕ). bytesOfWords32 (cv w)) (last ∙ sym (tree-one key d 0 bs rootNode l))

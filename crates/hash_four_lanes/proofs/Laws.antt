@@ -1,15 +1,16 @@
 -- Lanes by their places, and a loop over the lanes.
 use mathlib.Core.Path.{_≡_, refl, sym, ap, ap₂, _∙_}
-use mathlib.Core.Logic.{_⊎_, inl, inr, ⊎-elim}
-use mathlib.Core.List.{List, [], _∷_}
-use Prim.Native.Nat.{ℕ, zero, suc, _+_, _*_, _-_, _<_, _≤_}
+use mathlib.Core.Logic.{_⊎_, ⊎-elim}
+use mathlib.Core.List.{List}
+use Prim.Native.Nat.{ℕ, _+_, _*_, _-_, _<_, _≤_}
 use native.Mathlib.Nat.{eq-or-lt-of-le}
 use native.Mathlib.Omega.{arith}
-use lib.ListN.{length, getD, set}
+use lib.ListN.{length, set, length-set}
 use lib.Seq.{getD-set-same, getD-set-other}
 use Rattle.theory_laws.specs.Xor.{_⊕_}
 use Rattle.theory_laws.specs.Table.{tab, at}
 use Rattle.theory_laws.proofs.Table.{at-tab, tab-ext, is-tab}
+use Rattle.theory_laws.proofs.Updates.{fill-step}
 use Rattle.theory_blake3.specs.Compression as C
 use Rattle.theory_blake3.specs.Orders as O
 use Rattle.hash_four_lanes.specs.helpers.Lane as X
@@ -26,6 +27,17 @@ lane-ext n s t l h = tab-ext n h
 pub lane-all : (n : ℕ) (s v : List ℕ) (l : ℕ) → length v ≡ n → ((k : ℕ) → k < n → at v k ≡ at s (4 * k + l)) → v ≡ X.lane n s l
 unfolding X.lane
 lane-all n s v l e h = is-tab v n (λ i. at s (4 * i + l)) e h
+
+-- the first i of the n words of lane l of s stand in v
+abbrev pub Copied : ℕ → List ℕ → ℕ → List ℕ → ℕ → Type 0
+Copied n s l v i = (i ≤ n) × (length v ≡ n) × ((k : ℕ) → k < i → at v k ≡ at s (4 * k + l))
+
+pub copied-more : (n : ℕ) (s v : List ℕ) (l i : ℕ) → i < n → Copied n s l v i → Copied n s l (set v i (at s (4 * i + l))) (i + 1)
+copied-more n s v l i h p =
+    (omega arith, simp length-set (p .1), fill-step (λ (k : ℕ). at s (4 * k + l)) i v (at s (4 * i + l)) (omega (arith, p .1)) refl (p .2))
+
+pub copied-all : (n : ℕ) (s v : List ℕ) (l i : ℕ) → n ≤ i → Copied n s l v i → v ≡ X.lane n s l
+copied-all n s v l i h p = lane-all n s v l (p .1) (λ k b. p .2 k (omega arith))
 
 -- the message's words in an order, read from a lane
 pub ordered-at : (m o : List ℕ) (l i : ℕ) → O.Small o → i < 16 → at m (4 * at o i + l) ≡ at (X.lane 16 m l) (at o i)

@@ -8,9 +8,9 @@ use native.Mathlib.Omega.{arith}
 use borrow.Author.Tests.{eq-eqb, ne-eqb}
 use lib.Count.{trailingZeros}
 use lib.Dec.{eqb}
-use lib.ListN.{length, take, drop, replicate, length-drop}
+use lib.ListN.{length, take, drop, length-drop}
 use Rattle.theory_laws.specs.Lists.{part}
-use Rattle.theory_laws.proofs.Lists.{length-part, part-then, lent-part}
+use Rattle.theory_laws.proofs.Lists.{length-part, part-then, lent-part, length-lent}
 use Rattle.hash_chunk.specs.declared.state.ChunkState.{ChunkState}
 use Rattle.hash_chunk.specs.helpers.State.{fedByte, fed, lastOf, Fits}
 use Rattle.hash_chunk.proofs.Feed.{held-fed, fits-fed}
@@ -21,7 +21,7 @@ use Rattle.theory_blake3.specs.Stack.{entries, fold}
 use Rattle.hash_stack.specs.helpers.Push.{pushed, pushedDepth}
 use Rattle.hash_stack.proofs.Tower.{tower-depth}
 use Rattle.hash_hasher.specs.declared.hasher.Hasher.{Hasher}
-use Rattle.hash_hasher.specs.Hasher.{Counts, chunkOf, withChunk, nextChunk, roomy, taken, absorbed, finished}
+use Rattle.hash_hasher.specs.Hasher.{Counts, chunkOf, withChunk, newChunk, nextChunk, roomy, taken, absorbed, finished}
 
 -- the two cases of making room
 pub roomy-full : (s : Hasher) → 64 * s .blocks + s .fill ≡ 1024 → roomy s ≡ nextChunk s
@@ -96,7 +96,7 @@ roomed-not s u n c h e =
 -- the part of a slice that `absorb` lends to `feed`
 module _ (u : Hasher) (input : List ℕ) (i n : ℕ) {c : ChunkState} (e : c ≡ chunkOf u) where
   pub lent-fits : i + n ≤ length input → u .fill ≤ 64 → 64 * u .blocks + u .fill + n ≤ 1024 → Fits c (length (take (i + n - i) (drop i input)))
-  lent-fits l h k = rw (e, lent-part n i input, length-part n i input l) (record { within = h; small = k })
+  lent-fits l h k = rw (e, length-lent n i input l) (record { within = h; small = k })
 
   pub lent-fed : {r : ChunkState} → r ≡ fed c (take (i + n - i) (drop i input)) → r ≡ fed (chunkOf u) (part n i input)
   lent-fed f = f ∙ ap₂ fed e (lent-part n i input)
@@ -138,32 +138,10 @@ absorb-counts u bs k n m o z p f e q w =
 
 pub next-law : (s : Hasher) {depth : ℕ} {a v o : List ℕ} {c : ChunkState} → depth ≡ pushedDepth (trailingZeros 64 (s .chunks + 1)) (s .depth)
     → a ≡ pushed (s .key) (s .flags) (trailingZeros 64 (s .chunks + 1)) (s .stack) (s .depth) v → v ≡ cv o → o ≡ lastOf c 0 → c ≡ chunkOf s
-    → record {
-      key = s .key;
-      flags = s .flags;
-      h = s .key;
-      blocks = 0;
-      block = replicate 64 0;
-      fill = 0;
-      chunks = s .chunks + 1;
-      depth = depth;
-      stack = a;
-      len = s .len;
-    } ≡ nextChunk s
+    → newChunk s depth a ≡ nextChunk s
 unfolding nextChunk
 next-law s e f g h k =
-    ap₂ (λ (d : ℕ) (b : List ℕ). record {
-      key = s .key;
-      flags = s .flags;
-      h = s .key;
-      blocks = 0;
-      block = replicate 64 0;
-      fill = 0;
-      chunks = s .chunks + 1;
-      depth = d;
-      stack = b;
-      len = s .len;
-    }) e
+    ap₂ (newChunk s) e
     (f ∙ ap (pushed (s .key) (s .flags) (trailingZeros 64 (s .chunks + 1)) (s .stack) (s .depth)) (g ∙ ap cv (h ∙ ap (λ (u : ChunkState). lastOf u 0) k)))
 
 pub finish-law : (s : Hasher) {r v p : List ℕ} {n : ℕ → List ℕ} {c : ChunkState} → r ≡ bytesOfWords32 v → v ≡ cv p

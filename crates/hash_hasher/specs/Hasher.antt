@@ -81,22 +81,26 @@ withChunk s c n = record {
   len = n;
 }
 
+-- one chunk more is finished, and this is the stack
+abbrev pub newChunk : Hasher → ℕ → List ℕ → Hasher
+newChunk s depth stack = record {
+  key = s .key;
+  flags = s .flags;
+  h = s .key;
+  blocks = 0;
+  block = replicate 64 0;
+  fill = 0;
+  chunks = s .chunks + 1;
+  depth = depth;
+  stack = stack;
+  len = s .len;
+}
+
 -- the chunk is finished: its chaining value is joined to as many values on the stack as the new count has trailing zeros
 unfoldable pub nextChunk : Hasher → Hasher
 nextChunk s =
     let m = trailingZeros 64 (s .chunks + 1) in
-    record {
-      key = s .key;
-      flags = s .flags;
-      h = s .key;
-      blocks = 0;
-      block = replicate 64 0;
-      fill = 0;
-      chunks = s .chunks + 1;
-      depth = pushedDepth m (s .depth);
-      stack = pushed (s .key) (s .flags) m (s .stack) (s .depth) (cv (lastOf (chunkOf s) 0));
-      len = s .len;
-    }
+    newChunk s (pushedDepth m (s .depth)) (pushed (s .key) (s .flags) m (s .stack) (s .depth) (cv (lastOf (chunkOf s) 0)))
 
 -- room for a byte that follows: a full chunk is finished
 abbrev pub roomy : Hasher → Hasher

@@ -1,4 +1,5 @@
-// The digest of a slice in one call: chunk by chunk, with the stack of chaining values, and no hasher.
+// The digest of a slice in one call: chunk by chunk, with the stack of chaining values, and no hasher. `digest_of` is a helper for the
+// crates above and requires; `digest_with` and `digest` ask for themselves.
 use hash_chunk::slice::chunk_of;
 use hash_compress::iv;
 use hash_node::bytes_of;

@@ -12,12 +12,12 @@ use lib.Seq.{drop-cons, drop-drop, length-take-le}
 use Rattle.theory_laws.specs.Questions.{onDone}
 use Rattle.theory_laws.specs.Table.{at}
 use Rattle.theory_laws.specs.Lists.{part, stored, leBytes, flat}
-use Rattle.theory_laws.proofs.Lists.{stored-nil, stored-all, then-stored, length-stored, length-part, lent-part}
+use Rattle.theory_laws.proofs.Lists.{stored-nil, stored-all, then-stored, length-stored, lent-part, length-lent}
 use Rattle.theory_laws.proofs.Questions.{all-yes, eqb-iff}
 use Rattle.theory_merkle.specs.Message.{prefixed, serializePrefix, serializeParts}
 use Rattle.theory_merkle.proofs.Message.{length-prefixed}
 use Rattle.bytes_numbers.specs.helpers.Put.{Put}
-use Rattle.bytes_numbers.proofs.Stores.{then-put}
+use Rattle.bytes_numbers.proofs.Stores.{put-after, then-put}
 use Rattle.hash_serialize_parts.specs.Parts.{cut, serialized, total, questions, numberOf, Sized}
 
 -- ---- the sum of the lengths
@@ -26,7 +26,8 @@ total-next : (ls : List ℕ) (i : ℕ) → i < length ls → total (drop i ls) �
 unfolding total
 total-next ls i h = rw (drop-cons ls i 0 h, add-one i)
 
-pub sum-step : (ls : List ℕ) (i left : ℕ) (r : Bool) → i < length ls → at ls i ≤ left → eqb (total (drop i ls)) left ≡ r → eqb (total (drop (i + 1) ls)) (left - at ls i) ≡ r
+pub sum-step : (ls : List ℕ) (i left : ℕ) (r : Bool) → i < length ls → at ls i ≤ left → eqb (total (drop i ls)) left ≡ r
+    → eqb (total (drop (i + 1) ls)) (left - at ls i) ≡ r
 sum-step ls i left r h l e =
     let n = total-next ls i h in
     eqb-iff (total (drop (i + 1) ls)) (left - at ls i) (total (drop i ls)) left (λ z. omega arith) (λ z. omega arith) ∙ e
@@ -64,7 +65,8 @@ length-body (l ∷ ls) bs h =
     length-append (prefixed (take l bs)) (body ls (drop l bs)) ∙ omega (arith, length-prefixed (take l bs), length-body ls (drop l bs) (omega arith))
 
 -- a part after its length
-pub part-put : (o : List ℕ) (from : ℕ) (p o1 : List ℕ) (j : ℕ) (o2 : List ℕ) (k : ℕ) → Put o from 8 (leBytes 8 (length p)) o1 j → Put o1 j (length p) p o2 k → Put o from (8 + length p) (prefixed p) o2 k
+pub part-put : (o : List ℕ) (from : ℕ) (p o1 : List ℕ) (j : ℕ) (o2 : List ℕ) (k : ℕ)
+    → Put o from 8 (leBytes 8 (length p)) o1 j → Put o1 j (length p) p o2 k → Put o from (8 + length p) (prefixed p) o2 k
 unfolding prefixed
 part-put o from p o1 j o2 k a b = then-put o from 8 (leBytes 8 (length p)) o1 j (length p) p o2 k a b
 
@@ -76,16 +78,20 @@ pub record Left (ls bs out : List ℕ) (to from i : ℕ) : Type 0 where
   pub size : length out ≡ to + 8 * (length ls - i) + (length bs - from)
   pub rest : stored out to (body (drop i ls) (drop from bs)) ≡ serialized ls bs
 
-pub left-begin : (ls bs out₀ out : List ℕ) (to : ℕ) → Sized ls (length bs) (length out₀) → Put out₀ 0 8 (leBytes 8 (length ls)) out to → Left ls bs out to 0 0
-left-begin ls bs out₀ out to s p =
+pub left-begin : {ls bs out₀ out : List ℕ} {to : ℕ} → Sized ls (length bs) (length out₀) → Put out₀ 0 8 (leBytes 8 (length ls)) out to → Left ls bs out to 0 0
+left-begin {ls} {bs} {out₀} {out} {to} s p =
     let n : length out ≡ length out₀ = ap length (p .bytes) ∙ length-stored out₀ 0 (leBytes 8 (length ls)) in
-    let w : length (leBytes 8 (length ls) ++ body ls bs) ≡ length out₀ = length-append (leBytes 8 (length ls)) (body ls bs) ∙ omega (arith, p .size, s .size, s .sum, length-body ls bs (omega (arith, s .sum))) in
+    let first = leBytes 8 (length ls) in
+    let b = length-body ls bs (omega (arith, s .sum)) in
+    let w : length (first ++ body ls bs) ≡ length out₀ = length-append first (body ls bs) ∙ omega (arith, p .size, s .size, s .sum) in
     record {
       parts = omega arith;
       bytes = omega arith;
       sum = omega (arith, s .sum);
       size = omega (arith, s .size, p .end);
-      rest = then-stored out₀ out _ 0 to _ (body ls bs) (p .bytes) (p .end ∙ ap (λ (k : ℕ). 0 + k) (sym (p .size))) refl ∙ stored-all out₀ (leBytes 8 (length ls) ++ body ls bs) w ∙ sym (serialized-is ls bs);
+      rest =
+          then-stored out₀ out _ 0 to _ (body ls bs) (p .bytes) (put-after p) refl ∙ stored-all out₀ (first ++ body ls bs) w
+          ∙ sym (serialized-is ls bs);
     }
 
 -- part i lies in the bytes, and there is room for it after its length
@@ -93,38 +99,39 @@ pub record Room (ls bs out : List ℕ) (to from i : ℕ) : Type 0 where
   pub lies : from + at ls i ≤ length bs
   pub room : to + 8 + at ls i ≤ length out
 
-pub left-room : (ls bs out : List ℕ) (to from i : ℕ) → i < length ls → Left ls bs out to from i → Room ls bs out to from i
-left-room ls bs out to from i h r =
+pub left-room : {ls bs out : List ℕ} {to from i : ℕ} → i < length ls → Left ls bs out to from i → Room ls bs out to from i
+left-room {ls} {bs} {out} {to} {from} {i} h r =
     let n = total-next ls i h in
     record { lies = omega (arith, r .sum, r .bytes); room = omega (arith, r .sum, r .bytes, r .size) }
 
 -- the length of part i, as it is lent
-pub part-length : (ls bs out : List ℕ) (to from i : ℕ) → Room ls bs out to from i → length (take (from + at ls i - from) (drop from bs)) ≡ at ls i
-part-length ls bs out to from i r = ap length (lent-part (at ls i) from bs) ∙ length-part (at ls i) from bs (r .lies)
+pub part-length : {ls bs out : List ℕ} {to from i : ℕ} → Room ls bs out to from i → length (take (from + at ls i - from) (drop from bs)) ≡ at ls i
+part-length {ls} {bs} {from = from} {i = i} r = length-lent (at ls i) from bs (r .lies)
 
-pub left-turn : (ls bs out p out′ : List ℕ) (to from i to′ : ℕ) → i < length ls → Left ls bs out to from i → p ≡ take (from + at ls i - from) (drop from bs)
+pub left-turn : {ls bs out p out′ : List ℕ} {to from i to′ : ℕ} → i < length ls → Left ls bs out to from i → p ≡ take (from + at ls i - from) (drop from bs)
     → Put out to (8 + length p) (prefixed p) out′ to′ → Left ls bs out′ to′ (from + at ls i) (i + 1)
 unfolding body cut flat part
-left-turn ls bs out p out′ to from i to′ h r f q =
+left-turn {ls} {bs} {out} {p} {out′} {to} {from} {i} {to′} h r f q =
     let l = at ls i in
     let n = total-next ls i h in
     let e : p ≡ take l (drop from bs) = f ∙ lent-part l from bs in
-    let lp : length p ≡ l = ap length f ∙ part-length ls bs out to from i (left-room ls bs out to from i h r) in
+    let lp : length p ≡ l = ap length f ∙ part-length (left-room h r) in
     let g = rw (drop-cons ls i 0 h, drop-drop l from bs) at (r .rest) in
     let m : length out′ ≡ length out = ap length (q .bytes) ∙ length-stored out to (prefixed p) in
+    let after = body (drop (suc i) ls) (drop (from + l) bs) in
     record {
       parts = omega arith;
       bytes = omega (arith, r .sum, r .bytes);
       sum = omega (arith, r .sum);
       size = omega (arith, r .size, r .sum, r .bytes, q .end);
       rest = rw (add-one i)
-          (then-stored out out′ _ to to′ (prefixed p) (body (drop (suc i) ls) (drop (from + l) bs)) (q .bytes) (q .end ∙ ap (λ (k : ℕ). to + k) (sym (q .size))) refl
-          ∙ ap (λ (x : List ℕ). stored out to (prefixed x ++ body (drop (suc i) ls) (drop (from + l) bs))) e ∙ g);
+          (then-stored out out′ _ to to′ (prefixed p) after (q .bytes) (put-after q) refl
+          ∙ ap (λ (x : List ℕ). stored out to (prefixed x ++ after)) e ∙ g);
     }
 
-pub left-end : (ls bs out : List ℕ) (to from i : ℕ) → length ls ≤ i → Left ls bs out to from i → out ≡ serialized ls bs
+pub left-end : {ls bs out : List ℕ} {to from i : ℕ} → length ls ≤ i → Left ls bs out to from i → out ≡ serialized ls bs
 unfolding body cut flat
-left-end ls bs out to from i h r = rw (drop-of-length-le ls {i = i} h, stored-nil) at (r .rest)
+left-end {ls} {i = i} h r = rw (drop-of-length-le ls {i = i} h, stored-nil) at (r .rest)
 
 -- ---- the question
 

@@ -98,6 +98,6 @@ pushed-merge key d (suc m) zero a v h l w = absurd (not-suc-le-zero h)
 pushed-merge key d (suc m) (suc n) a v h l w =
     let i : suc n - suc m ≡ n - m = omega arith in
     let j : suc n - 1 ≡ n = omega arith in
-    let u = cv (parent key d (entry a n) v 0) in
+    let o = parent key d (entry a n) v 0 in
     rw (i, j, parent-cv key d (entry a n) v 0)
-    (pushed-merge key d m n a u (omega arith) (omega arith) (length-cv (parent key d (entry a n) v 0)) ∙ ap (merge key d m (entries a n)) (cv-cv (parent key d (entry a n) v 0)))
+    (pushed-merge key d m n a (cv o) (omega arith) (omega arith) (length-cv o) ∙ ap (merge key d m (entries a n)) (cv-cv o))

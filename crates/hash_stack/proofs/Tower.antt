@@ -40,14 +40,16 @@ module _ (key : List ℕ) (d n depth : ℕ) (e : depth ≡ ones n) where
   tower-room h = omega (arith, tower-depth (omega arith), ones-le 14 (n + 1) h)
 
   -- another chunk
-  pub tower-step : (bs a v : List ℕ) → n + 1 < 2 ^ 14 → 1024 * n + 1024 ≤ length bs → length a ≡ 112 → entries a depth ≡ stack key d 54 0 (take (1024 * n) bs)
-      → v ≡ cv (chunk key d n (part 1024 (1024 * n) bs) 0) → entries (pushed key d (merges n) a depth v) (pushedDepth (merges n) depth) ≡ stack key d 54 0 (take (1024 * (n + 1)) bs)
+  pub tower-step : (bs a v : List ℕ) → n + 1 < 2 ^ 14 → 1024 * n + 1024 ≤ length bs → length a ≡ 112
+      → entries a depth ≡ stack key d 54 0 (take (1024 * n) bs) → v ≡ cv (chunk key d n (part 1024 (1024 * n) bs) 0)
+      → entries (pushed key d (merges n) a depth v) (pushedDepth (merges n) depth) ≡ stack key d 54 0 (take (1024 * (n + 1)) bs)
   unfolding part
   tower-step bs a v h l w st ev =
       let c = part 1024 (1024 * n) bs in
       let o = chunk key d n c 0 in
       let k : 1024 * (n + 1) ≡ 1024 * n + 1024 = omega arith in
-      let f = push-stack key d 64 54 0 n (take (1024 * n) bs) c (omega arith) (length-take-le (1024 * n) bs (omega arith)) (length-part 1024 (1024 * n) bs l) (omega arith) in
+      let front = take (1024 * n) bs in
+      let f = push-stack key d 64 54 0 n front c (omega arith) (length-take-le (1024 * n) bs (omega arith)) (length-part 1024 (1024 * n) bs l) (omega arith) in
       let f′ = rw (zero-add n) at f in
       pushed-merge key d (merges n) depth a v tower-merges (omega (arith, tower-room h)) (rw ev (length-cv o))
       ∙ rw (st, ev, cv-cv o) f′
@@ -58,8 +60,9 @@ nil-of [] h = refl
 nil-of (b ∷ bs) h = absurd (omega arith)
 
 -- the parents over the last chunk make the tree
-pub tower-root : (key : List ℕ) (d n : ℕ) (bs : List ℕ) (st : List (List ℕ)) (o : ℕ → List ℕ) (x : ℕ) → 1024 * n ≤ length bs → length bs ≤ 1024 * n + 1024 → min 1 (length bs) ≤ length bs - 1024 * n → n < 2 ^ 14
-    → st ≡ stack key d 54 0 (take (1024 * n) bs) → ((y : ℕ) → o y ≡ chunk key d n (drop (1024 * n) bs) y) → fold key d st o x ≡ tree key d 54 0 bs x
+pub tower-root : (key : List ℕ) (d n : ℕ) (bs : List ℕ) (st : List (List ℕ)) (o : ℕ → List ℕ) (x : ℕ) → 1024 * n ≤ length bs
+    → length bs ≤ 1024 * n + 1024 → min 1 (length bs) ≤ length bs - 1024 * n → n < 2 ^ 14 → st ≡ stack key d 54 0 (take (1024 * n) bs)
+    → ((y : ℕ) → o y ≡ chunk key d n (drop (1024 * n) bs) y) → fold key d st o x ≡ tree key d 54 0 bs x
 unfolding fold
 tower-root key d n bs st o x h l m b p q =
     ⊎-elim
@@ -68,7 +71,10 @@ tower-root key d n bs st o x h l m b p q =
     let i : n ≡ 0 = omega arith in
     rw (p, e, i, stack-nil key d 54 0) (q x ∙ rw (e, i) (sym (tree-nil key d 54 0 x))))
     (λ (z : 1 ≤ length bs).
-    let f = fold-tree key d 54 0 n (take (1024 * n) bs) (drop (1024 * n) bs) x (length-take-le (1024 * n) bs h) (omega arith) (simp length-drop (omega arith)) (simp length-drop (omega arith)) in
+    let front = take (1024 * n) bs in
+    let f =
+    fold-tree key d 54 0 n front (drop (1024 * n) bs) x (length-take-le (1024 * n) bs h) (omega arith) (simp length-drop (omega arith))
+    (simp length-drop (omega arith)) in
     let f′ = rw (zero-add n, take-append-drop) at f in
-    rw p (ap (λ (c : ℕ → List ℕ). fold key d (stack key d 54 0 (take (1024 * n) bs)) c x) (fun-ext q) ∙ f′))
+    rw p (ap (λ (c : ℕ → List ℕ). fold key d (stack key d 54 0 front) c x) (fun-ext q) ∙ f′))
     (lt-or-le (length bs) 1)

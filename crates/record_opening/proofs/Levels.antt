@@ -50,7 +50,8 @@ pub record Room (S : Scheme) (l : ℕ) (s : List ℕ) (group path : ℕ) : Type 
   pub group-room : group + 4 + 16 * widthAt S l ≤ length s
   pub path-room : path + 4 + 32 * depthAt S l ≤ length s
 
-pub sized-room : (S : Scheme) (p : PowersOfTwo (S .widths)) (narrow : (l : ℕ) → widthAt S l ≤ 8) (l : ℕ) (s : List ℕ) (group path : ℕ) → Sized S l s group path → Room S l s group path
+pub sized-room : (S : Scheme) (p : PowersOfTwo (S .widths)) (narrow : (l : ℕ) → widthAt S l ≤ 8) (l : ℕ) (s : List ℕ) (group path : ℕ) → Sized S l s group path
+    → Room S l s group path
 sized-room S p narrow l s group path z =
     let r = z .readable in
     record {

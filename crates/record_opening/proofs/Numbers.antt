@@ -22,7 +22,8 @@ pub length-digests : (s : List ℕ) (i : ℕ) → length (digestsAt s i) ≡ run
 unfolding digestsAt
 length-digests s i = length-runItems 32 (drop i s)
 
-module _ (S : Scheme) (l place : ℕ) (s : List ℕ) (group path : ℕ) (root : List ℕ) (first x w y h : ℕ) (ex : x ≡ runCount (drop group s)) (ew : w ≡ widthAt S l) where
+module _ (S : Scheme) (l place : ℕ) (s : List ℕ) (group path : ℕ) (root : List ℕ) (first x w y h : ℕ) (ex : x ≡ runCount (drop group s))
+    (ew : w ≡ widthAt S l) where
   pub wrong-width : (x ≡ w → ⊥) → first ≡ openingNumber S l place (valuesAt s group) (digestsAt s path) root first
   unfolding openingNumber
   wrong-width z = rw (length-values s group, ← ex, ← ew, ne-eqb x w z)

@@ -26,15 +26,15 @@ ghost use Rattle.theory_field.specs.Words.{words};
 ghost use Rattle.field_gf128.specs.Word.{word};
 ghost use Rattle.theory_merkle.specs.Tree.{leafDigest};
 ghost use Rattle.theory_blake3.specs.Digest.{hash};
-ghost use Rattle.theory_record.specs.Trees.{leadsTo};
-ghost use Rattle.record_opening.specs.helpers.Opening.{valuesFrom, valuesAt, digestsAt, rootFrom, WayThere, Readable, Sized, numberAt, AgainThere};
+ghost use Rattle.tree_place.specs.Place.{index, number};
+ghost use Rattle.record_opening.specs.helpers.Opening.{valuesFrom, leadsAt, rootFrom, WayThere, Readable, Sized, numberAt, AgainThere};
 ghost use Rattle.record_opening.specs.helpers.Again.{OldThere, Same};
 ghost use Rattle.theory_record.specs.Scheme.{scheme};
 
 // How many bytes the longest leaf message of a level has: a domain of 255 bytes, 8 values of 16 bytes, and 97 beside.
 const LEVEL_LEAF: usize = 480;
 
-// The values that stand from a place on, two halves each.
+// The values that stand from a byte of a record on, two halves each.
 pub fn group_values(s: &[u8], from: usize, width: usize) -> [u64; 16]
     requires { ⌜ (width ≤ 8) × (from + 16 * width ≤ length (now s)) ⌝ }
     ensures { λ r. ⌜ words (take (2 * width) r) ≡ valuesFrom (now (s .entry)) from width ⌝ }
@@ -49,7 +49,7 @@ pub fn group_values(s: &[u8], from: usize, width: usize) -> [u64; 16]
     values
 }
 
-// The digest of the group whose values stand from a place on.
+// The digest of the group whose values stand from a byte of a record on.
 fn leaf_at(
     domain: &[u8],
     count: usize,
@@ -59,7 +59,7 @@ fn leaf_at(
     from: usize,
 ) -> [u8; 32]
     requires { ⌜ (length (now domain) ≤ 255) × (width ≤ 8) × (from + 16 * width ≤ length (now s)) ⌝ }
-    ensures { λ r. ⌜ r ≡ leafDigest hash (now (domain .entry)) count width (group .0) (valuesFrom (now (s .entry)) from width) ⌝ }
+    ensures { λ r. ⌜ r ≡ leafDigest hash (now (domain .entry)) count width (number group) (valuesFrom (now (s .entry)) from width) ⌝ }
 {
     let values = group_values(s, from, width);
     let mut message = [0u8; LEVEL_LEAF];
@@ -67,7 +67,7 @@ fn leaf_at(
     hash_group(&mut message, prefix, width, group, &values[..2 * width])
 }
 
-// The root that the group of a place, whose values stand from one place on, and the path from another lead to.
+// The root that the group of a place, whose values stand from one byte of a record on, and the digests from another lead to.
 fn root_from(
     domain: &[u8],
     count: usize,
@@ -75,30 +75,30 @@ fn root_from(
     place: Place,
     s: &[u8],
     from: usize,
-    path: usize,
+    path_from: usize,
     depth: usize,
 ) -> [u8; 32]
-    requires { ⌜ WayThere (length (now domain)) width (length (now s)) from path depth ⌝ }
-    ensures { λ r. ⌜ r ≡ rootFrom (now (domain .entry)) count width (place .0) (now (s .entry)) from path depth ⌝ }
+    requires { ⌜ WayThere (length (now domain)) width (length (now s)) from «path_from» depth ⌝ }
+    ensures { λ r. ⌜ r ≡ rootFrom (now (domain .entry)) count width (index place) (now (s .entry)) from «path_from» depth ⌝ }
 {
     let g = group_of(place, width);
     let leaf = leaf_at(domain, count, width, g, s, from);
-    climb_path(domain, g.0, leaf, s, path, depth)
+    climb_path(domain, g, leaf, s, path_from, depth)
 }
 
-// The root that a place of level l, and the group and the path at these places of a record lead to.
+// The root that a place of level l, and the group and the path that stand at these bytes of a record lead to.
 pub fn leads_to(
     base: &[u8],
     n: usize,
     k: usize,
     l: usize,
-    place: usize,
+    place: Place,
     s: &[u8],
-    group: usize,
-    path: usize,
+    group_at: usize,
+    path_at: usize,
 ) -> [u8; 32]
-    requires { ⌜ Sized (scheme (now base) n k) l (now s) group path ⌝ }
-    ensures { λ r. ⌜ r ≡ leadsTo (scheme (now (base .entry)) n k) l place (valuesAt (now (s .entry)) group) (digestsAt (now (s .entry)) path) ⌝ }
+    requires { ⌜ Sized (scheme (now base) n k) l (now s) «group_at» «path_at» ⌝ }
+    ensures { λ r. ⌜ r ≡ leadsAt (scheme (now (base .entry)) n k) l (index place) (now (s .entry)) «group_at» «path_at» ⌝ }
 {
     let mut domain = [0u8; DOMAIN];
     let d = level_domain(&mut domain, base, l);
@@ -109,10 +109,10 @@ pub fn leads_to(
         &domain[..d],
         count,
         width,
-        Place(place),
+        place,
         s,
-        group + 4,
-        path + 4,
+        group_at + 4,
+        path_at + 4,
         depth,
     )
 }
@@ -144,37 +144,37 @@ pub fn opening_number(
     n: usize,
     k: usize,
     l: usize,
-    place: usize,
+    place: Place,
     s: &[u8],
-    group: usize,
-    path: usize,
+    group_at: usize,
+    path_at: usize,
     root: [u8; 32],
     first: u32,
 ) -> u32
-    requires { ⌜ (Readable (scheme (now base) n k) l (now s) group path) × (first < 100) ⌝ }
-    ensures { λ r. ⌜ r ≡ numberAt (scheme (now (base .entry)) n k) l place (now (s .entry)) group path root first ⌝ }
+    requires { ⌜ (Readable (scheme (now base) n k) l (now s) «group_at» «path_at») × (first < 100) ⌝ }
+    ensures { λ r. ⌜ r ≡ numberAt (scheme (now (base .entry)) n k) l (index place) (now (s .entry)) «group_at» «path_at» root first ⌝ }
 {
-    if count_at(s, group) != level_width(n, k, l) {
+    if count_at(s, group_at) != level_width(n, k, l) {
         return first;
     }
-    if count_at(s, path) != level_depth(n, k, l) {
+    if count_at(s, path_at) != level_depth(n, k, l) {
         return first + 1;
     }
-    let d = leads_to(base, n, k, l, place, s, group, path);
+    let d = leads_to(base, n, k, l, place, s, group_at, path_at);
     if !same_digest(d, root) {
         return first + 2;
     }
     0
 }
 
-// A group and a path, by their places in a record, that are known to lead to a root; or none.
+// A group and a path, by the bytes of a record at which they begin, that are known to lead to a root; or none.
 pub struct Opened {
     pub known: bool,
-    pub group: usize,
-    pub path: usize,
+    pub group_at: usize,
+    pub path_at: usize,
 }
 
-// Stand the same 32 bytes, as often as this, from two places of a record on?
+// Stand the same 32 bytes, as often as this, from bytes i and j of a record on?
 fn same_items(s: &[u8], i: usize, j: usize, count: usize) -> bool
     requires { ⌜ (i + 32 * count ≤ length (now s)) × (j + 32 * count ≤ length (now s)) ⌝ }
     ensures { λ r. ⌜ (r ≡ true → part (32 * count) i (now (s .entry)) ≡ part (32 * count) j (now (s .entry))) ⌝ }
@@ -191,31 +191,31 @@ fn same_items(s: &[u8], i: usize, j: usize, count: usize) -> bool
     true
 }
 
-// Have the group and the path at two places of a record the bytes of a known opening?
+// Have the group and the path that stand at these bytes of a record the same bytes as a known opening?
 fn same_opening(
     s: &[u8],
-    group: usize,
-    path: usize,
+    group_at: usize,
+    path_at: usize,
     old: Opened,
     width: usize,
     depth: usize,
 ) -> bool
-    requires { ⌜ OldThere (now s) group path old width depth ⌝ }
-    ensures { λ r. ⌜ (r ≡ true → Same (now (s .entry)) group path old) ⌝ }
+    requires { ⌜ OldThere (now s) «group_at» «path_at» old width depth ⌝ }
+    ensures { λ r. ⌜ (r ≡ true → Same (now (s .entry)) «group_at» «path_at» old) ⌝ }
 {
     if !old.known {
         return false;
     }
-    if count_at(s, group) != width {
+    if count_at(s, group_at) != width {
         return false;
     }
-    if count_at(s, path) != depth {
+    if count_at(s, path_at) != depth {
         return false;
     }
-    if !same_items(s, group + 4, old.group + 4, width / 2) {
+    if !same_items(s, group_at + 4, old.group_at + 4, width / 2) {
         return false;
     }
-    same_items(s, path + 4, old.path + 4, depth)
+    same_items(s, path_at + 4, old.path_at + 4, depth)
 }
 
 // As `opening_number`, for a level of at least two values. A record that was built opens a level twice with the same bytes, for c and for
@@ -225,21 +225,21 @@ pub fn opening_again(
     n: usize,
     k: usize,
     l: usize,
-    place: usize,
+    place: Place,
     s: &[u8],
-    group: usize,
-    path: usize,
+    group_at: usize,
+    path_at: usize,
     root: [u8; 32],
     first: u32,
     old: Opened,
 ) -> u32
-    requires { ⌜ AgainThere (scheme (now base) n k) n l place (now s) group path old root first ⌝ }
-    ensures { λ r. ⌜ r ≡ numberAt (scheme (now (base .entry)) n k) l place (now (s .entry)) group path root first ⌝ }
+    requires { ⌜ AgainThere (scheme (now base) n k) n l (index place) (now s) «group_at» «path_at» old root first ⌝ }
+    ensures { λ r. ⌜ r ≡ numberAt (scheme (now (base .entry)) n k) l (index place) (now (s .entry)) «group_at» «path_at» root first ⌝ }
 {
     let w = level_width(n, k, l);
     let d = level_depth(n, k, l);
-    if same_opening(s, group, path, old, w, d) {
+    if same_opening(s, group_at, path_at, old, w, d) {
         return 0;
     }
-    opening_number(base, n, k, l, place, s, group, path, root, first)
+    opening_number(base, n, k, l, place, s, group_at, path_at, root, first)
 }

@@ -23,12 +23,12 @@ use Rattle.record_opening.proofs.Levels.{width-most}
 use Rattle.record_writer.proofs.Runs.{path-of-digests}
 use Rattle.record_query_build.specs.declared.Level.{Level}
 use Rattle.record_query_build.specs.helpers.Levels.{lentLevel, valuesLent, pathLent, openLent, ValuesThere, PathThere, Room}
-use Rattle.record_query_build.proofs.Sizes.{level-small}
+use Rattle.code_level.proofs.Totals.{level-small}
 
 -- ---- what is put is the level that is built
 
 module _ (n k : ℕ) (ws ts : List ℕ) (l place : ℕ) (low : place < levelLength n k l) where
-  value-is : at (levelValues n k ws l) place ≡ at ws (lentLevel n k l .first + place)
+  value-is : at (levelValues n k ws l) place ≡ at ws (lentLevel n k l .«words_at» + place)
   unfolding lentLevel
   value-is = value-lent n k l place ws low
 
@@ -61,7 +61,7 @@ built-is n k ws ts position l low h =
       values-are n k ws ts (suc l) q c,
       path-is n k ws ts l (2 * q) a,
       path-is n k ws ts (suc l) q c,
-      plus-one (lentLevel n k l .first) (2 * q),
+      plus-one (lentLevel n k l .«words_at») (2 * q),
     )
 
 -- ---- what is put stands in what is lent

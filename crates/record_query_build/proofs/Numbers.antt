@@ -38,21 +38,21 @@ module _ (n k levels trees out position x : ℕ) (ex : x ≡ sizeNumber n k) whe
             first-passes (sizeQuestions n k) (lengths n k levels trees out position) x tt ex 5 z
             (rw (← el, eq-eqb levels (2 * len) a, ← et, eq-eqb trees size b, ← eo, ne-eqb out room h))
 
-        module _ (c : out ≡ room) (count : ℕ) (ec : count ≡ levelLength n k 0) where
+        module _ (c : out ≡ room) (p : ℕ) (ep : p ≡ position) (count : ℕ) (ec : count ≡ levelLength n k 0) where
           count-is : count ≡ 2 ^ (n + k)
           count-is = ec ∙ first-length n k
 
-          pub wrong-position : count ≤ position → 11 ≡ buildNumber n k levels trees out position
+          pub wrong-position : count ≤ p → 11 ≡ buildNumber n k levels trees out position
           unfolding buildNumber sizeNumber
           wrong-position h =
               first-passes (sizeQuestions n k) (lengths n k levels trees out position) x tt ex 11 z
-              (rw (← el, eq-eqb levels (2 * len) a, ← et, eq-eqb trees size b, ← eo, eq-eqb out room c, ← count-is, le-ltb position count h))
+              (rw (← el, eq-eqb levels (2 * len) a, ← et, eq-eqb trees size b, ← eo, eq-eqb out room c, ← count-is, ← ep, le-ltb p count h))
 
-          pub none-says-no : position < count → 0 ≡ buildNumber n k levels trees out position
+          pub none-says-no : p < count → 0 ≡ buildNumber n k levels trees out position
           unfolding buildNumber sizeNumber
           none-says-no h =
               first-passes (sizeQuestions n k) (lengths n k levels trees out position) x tt ex 0 z
-              (rw (← el, eq-eqb levels (2 * len) a, ← et, eq-eqb trees size b, ← eo, eq-eqb out room c, ← count-is, lt-ltb position count h))
+              (rw (← el, eq-eqb levels (2 * len) a, ← et, eq-eqb trees size b, ← eo, eq-eqb out room c, ← count-is, ← ep, lt-ltb p count h))
 
 -- ---- the answer
 

@@ -1,5 +1,5 @@
 -- A level of a query record put part after part, and the levels one after the other.
-use Prim.Native.Nat.{ℕ, suc, _+_, _-_, _*_, _/_, _<_, _≤_}
+use Prim.Native.Nat.{ℕ, suc, _+_, _-_, _*_, _/_, _^_, _<_, _≤_}
 use mathlib.Core.Path.{_≡_, refl, sym, _∙_, ap}
 use mathlib.Core.List.{List, _++_, map, append-assoc, append-nil}
 use native.Mathlib.Omega.{arith}
@@ -10,6 +10,7 @@ use Rattle.theory_laws.specs.Lists.{part, flat, stored, leBytes}
 use Rattle.theory_laws.proofs.Lists.{stored-nil, stored-append, stored-all, part-cons}
 use Rattle.theory_field.specs.Words.{words}
 use Rattle.theory_field.proofs.Words.{Halves}
+use Rattle.theory_merkle.specs.Tree.{groupOf}
 use Rattle.bytes_numbers.specs.helpers.Put.{Put}
 use Rattle.bytes_numbers.proofs.Stores.{then-put, same-put}
 use Rattle.theory_record.specs.Widths.{present, total}
@@ -18,15 +19,15 @@ use Rattle.theory_record.specs.Sizes.{groupSize, levelSize, querySize}
 use Rattle.theory_record.specs.Query.{pairOf}
 use Rattle.theory_record.specs.Build.{levelStart, treeStart, builtLevel, builtLevels, queryBytes}
 use Rattle.theory_record.proofs.Ranges.{SizesFit, sizes-small}
-use Rattle.theory_record.proofs.Offsets.{pair-next}
 use Rattle.theory_record.proofs.Build.{length-builtLevels, built-query-fills}
 use Rattle.theory_record.proofs.BuildAllowed.{QueryBuild, query-lent}
 use Rattle.theory_record.proofs.Widths.{present-powers}
 use Rattle.tree_walk.specs.helpers.Paths.{pathFrom}
 use Rattle.field_bytes.proofs.Puts.{words-there}
+use Rattle.record_writer.specs.helpers.Groups.{ValuesPut}
 use Rattle.record_query_build.specs.declared.Level.{Level}
 use Rattle.record_query_build.specs.helpers.Levels.{lentLevel, valuesLent, pathLent, openLent, pairBytes, groupsBytes, pathsBytes}
-use Rattle.record_query_build.specs.helpers.Levels.{openBytes, openSize, PairRoom}
+use Rattle.record_query_build.specs.helpers.Levels.{groupsSize, pathsSize, openBytes, openSize, PairRoom}
 use Rattle.record_query_build.proofs.Levels.{built-is}
 
 -- ---- the three words
@@ -39,36 +40,42 @@ two-words : (ws : List ℕ) (i : ℕ) → i + 1 < length ws → flat (map (leByt
 unfolding flat
 two-words ws i h = rw (add-one, part-cons 1 i ws (omega arith)) (ap (λ (l : List ℕ). wordBytes (at ws i) ++ l) (one-word ws (suc i) (omega arith)))
 
-pub pair-put : {out from first next q : ℕ} {o o1 : List ℕ} {a : ℕ} {o2 : List ℕ} {r : ℕ} (values : List ℕ) → PairRoom out from (length values) first next q
-    → Put o from 32 (flat (map (leBytes 16) (part 2 (first + 2 * q) (words values)))) o1 a
-    → Put o1 a 16 (flat (map (leBytes 16) (part 1 (next + q) (words values)))) o2 r → Put o from 48 (pairBytes (words values) first next q) o2 r
-pair-put {from = from} {first = first} {next = next} {q = q} {o = o} {o1 = o1} {a = a} {o2 = o2} {r = r} values room p p′ =
+pub pair-put : {out from first next q i j : ℕ} {o o1 : List ℕ} {a : ℕ} {o2 : List ℕ} {r : ℕ} (values : List ℕ)
+    → PairRoom out from (length values) first next q → i ≡ 2 * q → j ≡ q
+    → Put o from 32 (flat (map (leBytes 16) (part 2 (first + i) (words values)))) o1 a
+    → Put o1 a 16 (flat (map (leBytes 16) (part 1 (next + j) (words values)))) o2 r → Put o from 48 (pairBytes (words values) first next q) o2 r
+pair-put {from = from} {first = first} {next = next} {q = q} {o = o} {o1 = o1} {a = a} {o2 = o2} {r = r} values room ei ej p p′ =
     let x = words-there values (first + 2 * q + 2) (room .pair-there) in
     let y = words-there values (next + q + 1) (room .c-there) in
     same-put o from 48 48 _ _ o2 r refl (rw (two-words (words values) (first + 2 * q) (omega arith), one-word (words values) (next + q) (omega arith)))
-    (then-put o from 32 _ o1 a 16 _ o2 r p p′)
+    (then-put o from 32 _ o1 a 16 _ o2 r (rw ei at p) (rw ej at p′))
 
 -- ---- a level
 
-module _ {o : List ℕ} {from : ℕ} (x y : Level) (q : ℕ) {o1 : List ℕ} {j : ℕ} {o2 : List ℕ} {r : ℕ} where
-  pub groups-put : (ws : List ℕ)
-      → Put o from (4 + 16 * x .width) (runBytes (map wordBytes (part (x .width) (x .first + x .width * (2 * q / x .width)) ws))) o1 j
-      → Put o1 j (4 + 16 * y .width) (runBytes (map wordBytes (part (y .width) (y .first + y .width * (q / y .width)) ws))) o2 r
-      → Put o from (8 + 16 * x .width + 16 * y .width) (groupsBytes ws x y q) o2 r
-  unfolding groupsBytes valuesLent
-  groups-put ws a c =
-      same-put o from _ (8 + 16 * x .width + 16 * y .width) _ (groupsBytes ws x y q) o2 r (omega arith) refl (then-put o from _ _ o1 j _ _ o2 r a c)
+-- the group of the pair's first place
+pub first-group : {g i : ℕ} (q w : ℕ) → g ≡ groupOf i w → i ≡ 2 * q → g ≡ groupOf (2 * q) w
+first-group q w e f = e ∙ ap (λ (p : ℕ). groupOf p w) f
 
-  pub paths-put : (ts : List ℕ) → Put o from (4 + 32 * x .depth) (runBytes (pathFrom (x .depth) ts (x .tree) (x .groups) (2 * q / x .width))) o1 j
-      → Put o1 j (4 + 32 * y .depth) (runBytes (pathFrom (y .depth) ts (y .tree) (y .groups) (q / y .width))) o2 r
-      → Put o from (8 + 32 * x .depth + 32 * y .depth) (pathsBytes ts x y q) o2 r
+module _ {o : List ℕ} {from : ℕ} (x y : Level) (q : ℕ) {g h : ℕ} {o1 : List ℕ} {j : ℕ} {o2 : List ℕ} {r : ℕ} (eg : g ≡ groupOf (2 * q) (x .width))
+    (eh : h ≡ groupOf q (y .width)) where
+  pub groups-put : (levels : List ℕ) → ValuesPut o from levels (x .«words_at») (x .width) g o1 j → ValuesPut o1 j levels (y .«words_at») (y .width) h o2 r
+      → Put o from (groupsSize x y) (groupsBytes (words levels) x y q) o2 r
+  unfolding groupsBytes valuesLent
+  groups-put levels a c =
+      same-put o from _ (groupsSize x y) _ (groupsBytes (words levels) x y q) o2 r (omega arith) refl
+      (then-put o from _ _ o1 j _ _ o2 r (rw eg at a) (rw eh at c))
+
+  pub paths-put : (ts : List ℕ) → Put o from (4 + 32 * x .depth) (runBytes (pathFrom (x .depth) ts (x .«tree_at») (x .groups) g)) o1 j
+      → Put o1 j (4 + 32 * y .depth) (runBytes (pathFrom (y .depth) ts (y .«tree_at») (y .groups) h)) o2 r
+      → Put o from (pathsSize x y) (pathsBytes ts x y q) o2 r
   unfolding pathsBytes pathLent
   paths-put ts a c =
-      same-put o from _ (8 + 32 * x .depth + 32 * y .depth) _ (pathsBytes ts x y q) o2 r (omega arith) refl (then-put o from _ _ o1 j _ _ o2 r a c)
+      same-put o from _ (pathsSize x y) _ (pathsBytes ts x y q) o2 r (omega arith) refl
+      (then-put o from _ _ o1 j _ _ o2 r (rw eg at a) (rw eh at c))
 
 pub level-put : {o : List ℕ} {from : ℕ} (ws ts : List ℕ) (x y : Level) (q : ℕ) {o1 : List ℕ} {j1 : ℕ} {o2 : List ℕ} {j2 : ℕ} {o3 : List ℕ} {r : ℕ}
-    → Put o from 48 (pairBytes ws (x .first) (y .first) q) o1 j1 → Put o1 j1 (8 + 16 * x .width + 16 * y .width) (groupsBytes ws x y q) o2 j2
-    → Put o2 j2 (8 + 32 * x .depth + 32 * y .depth) (pathsBytes ts x y q) o3 r → Put o from (openSize x y) (openBytes ws ts x y q) o3 r
+    → Put o from 48 (pairBytes ws (x .«words_at») (y .«words_at») q) o1 j1 → Put o1 j1 (groupsSize x y) (groupsBytes ws x y q) o2 j2
+    → Put o2 j2 (pathsSize x y) (pathsBytes ts x y q) o3 r → Put o from (openSize x y) (openBytes ws ts x y q) o3 r
 unfolding levelBytes openLent groupsBytes pathsBytes
 level-put {o} {from} ws ts x y q {o1} {j1} {o2} {j2} {o3} {r} p g h =
     same-put o from _ (openSize x y) _ (openBytes ws ts x y q) o3 r (omega arith) (simp append-assoc)
@@ -84,12 +91,10 @@ pub first-level : (n k : ℕ) → SizesFit n k → (n + k ≤ 24) × (0 ≤ n) �
 unfolding levelStart treeStart total
 first-level n k z = (sizes-small n k z, omega arith, refl, refl)
 
-pub first-pair : (position : ℕ) → position / 2 ≡ pairOf position 0
+-- the place to which level l's pair folds
+pub pair-is : (position l q : ℕ) → q ≡ position / 2 ^ (l + 1) → q ≡ pairOf position l
 unfolding pairOf
-first-pair position = refl
-
-pub next-pair : (position l q : ℕ) → q ≡ pairOf position l → q / 2 ≡ pairOf position (l + 1)
-next-pair position l q e = rw (e, add-one) (sym (pair-next position l))
+pair-is position l q e = e ∙ rw add-one
 
 pub next-from : (n k l from from′ : ℕ) (x y : Level) → x ≡ lentLevel n k l → y ≡ lentLevel n k (l + 1) → from ≡ 4 + total l (levelSize present n k)
     → from′ ≡ from + openSize x y → from′ ≡ 4 + total (l + 1) (levelSize present n k)

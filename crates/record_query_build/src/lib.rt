@@ -4,41 +4,46 @@ use code_level::level_depth;
 use code_level::level_groups;
 use code_level::level_length;
 use code_level::level_width;
+use code_level::levels_length;
 use code_level::size_number;
+use code_level::trees_size;
 use field_bytes::put_words;
 use record_writer::put_digests;
 use record_writer::put_values;
+use tree_place::Place;
+use tree_place::group_of;
 ghost use mathlib.Core.Path.{_≡_};
-ghost use Prim.Native.Nat.{suc, _+_, _*_, _≤_, _<_};
+ghost use Prim.Native.Nat.{_+_, _*_, _≤_, _<_};
 ghost use lib.ListN.{length};
 ghost use Rattle.theory_field.specs.Words.{words};
 ghost use Rattle.bytes_numbers.specs.helpers.Put.{Put};
 ghost use Rattle.theory_record.specs.Widths.{present};
 ghost use Rattle.theory_record.specs.Sizes.{groupSize, querySize};
-ghost use Rattle.theory_record.specs.Build.{levelStart, levelsLength, treeStart, queryBytes, buildQueryNumber, buildQuery};
+ghost use Rattle.theory_record.specs.Build.{levelStart, treeStart, queryBytes, buildQueryNumber, buildQuery};
 ghost use Rattle.theory_record.proofs.BuildAllowed.{QueryBuild};
 ghost use Rattle.theory_record.proofs.Ranges.{SizesFit};
-ghost use Rattle.record_query_build.specs.helpers.Levels.{lentLevel, pairBytes, groupsBytes, pathsBytes, openBytes, openSize};
+ghost use Rattle.tree_place.specs.Place.{index};
+ghost use Rattle.record_query_build.specs.helpers.Levels.{lentLevel, pairBytes, groupsBytes, groupsSize, pathsBytes, pathsSize, LevelPut};
 ghost use Rattle.record_query_build.specs.helpers.Levels.{PairRoom, GroupsRoom, PathsRoom, Room};
 ghost use Rattle.record_query_build.specs.helpers.Numbers.{buildNumber};
 
-// A level as it is lent: its first word, its tree's first byte, and its sizes.
+// A level as it is lent: the word and the byte at which its values and its tree begin, and its sizes.
 pub struct Level {
-    pub first: usize,
-    pub tree: usize,
+    pub words_at: usize,
+    pub tree_at: usize,
     pub width: usize,
     pub depth: usize,
     pub groups: usize,
 }
 
-// Level l, whose first word and whose tree's first byte are known.
-fn lent_level(n: usize, k: usize, l: usize, first: usize, tree: usize) -> Level
-    requires { ⌜ (n + k ≤ 24) × (l ≤ n) × (first ≡ levelStart n k l) × (tree ≡ 32 * treeStart present n k l) ⌝ }
+// Level l, where its values and its tree begin.
+fn lent_level(n: usize, k: usize, l: usize, words_at: usize, tree_at: usize) -> Level
+    requires { ⌜ (n + k ≤ 24) × (l ≤ n) × («words_at» ≡ levelStart n k l) × («tree_at» ≡ 32 * treeStart present n k l) ⌝ }
     ensures { λ r. ⌜ r ≡ lentLevel n k l ⌝ }
 {
     Level {
-        first: first,
-        tree: tree,
+        words_at: words_at,
+        tree_at: tree_at,
         width: level_width(n, k, l),
         depth: level_depth(n, k, l),
         groups: level_groups(n, k, l),
@@ -50,9 +55,9 @@ fn next_level(n: usize, k: usize, l: usize, x: Level) -> Level
     requires { ⌜ (SizesFit n k) × (l < n) × (x ≡ lentLevel n k l) ⌝ }
     ensures { λ r. ⌜ r ≡ lentLevel n k (l + 1) ⌝ }
 {
-    let first = x.first + level_length(n, k, l);
-    let tree = x.tree + 32 * (2 * x.groups - 1);
-    lent_level(n, k, l + 1, first, tree)
+    let words_at = x.words_at + level_length(n, k, l);
+    let tree_at = x.tree_at + 32 * (2 * x.groups - 1);
+    lent_level(n, k, l + 1, words_at, tree_at)
 }
 
 // The words a and b, at places 2q and 2q + 1 of a level, and c, at place q of the next.
@@ -60,37 +65,38 @@ fn put_pair(
     out: &mut [u8],
     from: usize,
     levels: &[u64],
-    first: usize,
-    next: usize,
-    q: usize,
+    words_at: usize,
+    next_at: usize,
+    q: Place,
 ) -> usize
-    requires { ⌜ PairRoom (length (now out)) from (length (now levels)) first next q ⌝ }
-    ensures { λ r. ⌜ Put (now (out .entry)) from 48 (pairBytes (words (now (levels .entry))) first next q) (now (out .exit)) r ⌝ }
+    requires { ⌜ PairRoom (length (now out)) from (length (now levels)) «words_at» «next_at» (index q) ⌝ }
+    ensures { λ r. ⌜ Put (now (out .entry)) from 48 (pairBytes (words (now (levels .entry))) «words_at» «next_at» (index q)) (now (out .exit)) r ⌝ }
 {
-    let a = put_words(out, from, levels, first + 2 * q, 2);
-    put_words(out, a, levels, next + q, 1)
+    let first = q.first_of_pair();
+    let a = put_words(out, from, levels, words_at + first.index(), 2);
+    put_words(out, a, levels, next_at + q.index(), 1)
 }
 
 // The group that holds a and b, place 2q, from level x, and the group that holds c, place q, from the next, y, each after its count.
-fn put_groups(out: &mut [u8], from: usize, levels: &[u64], x: Level, y: Level, q: usize) -> usize
-    requires { ⌜ GroupsRoom (length (now out)) from (length (now levels)) x y q ⌝ }
-    ensures { λ r. ⌜ Put (now (out .entry)) from (8 + 16 * x .width + 16 * y .width) (groupsBytes (words (now (levels .entry))) x y q) (now (out .exit)) r ⌝ }
+fn put_groups(out: &mut [u8], from: usize, levels: &[u64], x: Level, y: Level, q: Place) -> usize
+    requires { ⌜ GroupsRoom (length (now out)) from (length (now levels)) x y (index q) ⌝ }
+    ensures { λ r. ⌜ Put (now (out .entry)) from (groupsSize x y) (groupsBytes (words (now (levels .entry))) x y (index q)) (now (out .exit)) r ⌝ }
 {
-    let g = 2 * q / x.width;
-    let h = q / y.width;
-    let a = put_values(out, from, levels, x.first + x.width * g, x.width);
-    put_values(out, a, levels, y.first + y.width * h, y.width)
+    let g = group_of(q.first_of_pair(), x.width);
+    let h = group_of(q, y.width);
+    let a = put_values(out, from, levels, x.words_at, x.width, g);
+    put_values(out, a, levels, y.words_at, y.width, h)
 }
 
 // The paths of these groups, each after its count.
-fn put_paths(out: &mut [u8], from: usize, trees: &[u8], x: Level, y: Level, q: usize) -> usize
-    requires { ⌜ PathsRoom (length (now out)) from (length (now trees)) x y q ⌝ }
-    ensures { λ r. ⌜ Put (now (out .entry)) from (8 + 32 * x .depth + 32 * y .depth) (pathsBytes (now (trees .entry)) x y q) (now (out .exit)) r ⌝ }
+fn put_paths(out: &mut [u8], from: usize, trees: &[u8], x: Level, y: Level, q: Place) -> usize
+    requires { ⌜ PathsRoom (length (now out)) from (length (now trees)) x y (index q) ⌝ }
+    ensures { λ r. ⌜ Put (now (out .entry)) from (pathsSize x y) (pathsBytes (now (trees .entry)) x y (index q)) (now (out .exit)) r ⌝ }
 {
-    let g = 2 * q / x.width;
-    let h = q / y.width;
-    let a = put_digests(out, from, trees, x.tree, x.depth, x.groups, g);
-    put_digests(out, a, trees, y.tree, y.depth, y.groups, h)
+    let g = group_of(q.first_of_pair(), x.width);
+    let h = group_of(q, y.width);
+    let a = put_digests(out, from, trees, x.tree_at, x.depth, x.groups, g);
+    put_digests(out, a, trees, y.tree_at, y.depth, y.groups, h)
 }
 
 // A level of the record: the three words, the groups that hold them, and the paths of these.
@@ -101,12 +107,12 @@ fn put_level(
     trees: &[u8],
     x: Level,
     y: Level,
-    q: usize,
+    q: Place,
 ) -> usize
-    requires { ⌜ Room (length (now out)) from (length (now levels)) (length (now trees)) x y q ⌝ }
-    ensures { λ r. ⌜ Put (now (out .entry)) from (openSize x y) (openBytes (words (now (levels .entry))) (now (trees .entry)) x y q) (now (out .exit)) r ⌝ }
+    requires { ⌜ Room (length (now out)) from (length (now levels)) (length (now trees)) x y (index q) ⌝ }
+    ensures { λ r. ⌜ LevelPut (now (out .entry)) from (now (levels .entry)) (now (trees .entry)) x y (index q) (now (out .exit)) r ⌝ }
 {
-    let a = put_pair(out, from, levels, x.first, y.first, q);
+    let a = put_pair(out, from, levels, x.words_at, y.words_at, q);
     let b = put_groups(out, a, levels, x, y, q);
     put_paths(out, b, trees, x, y, q)
 }
@@ -118,45 +124,22 @@ fn put_levels(
     trees: &[u8],
     n: usize,
     k: usize,
-    position: usize,
+    position: Place,
 ) -> usize
-    requires { ⌜ QueryBuild present n k (now levels) (now trees) position (now out) ⌝ }
-    ensures { λ _. ⌜ now (out .exit) ≡ queryBytes present n k (words (now (levels .entry))) (now (trees .entry)) position ⌝ }
+    requires { ⌜ QueryBuild present n k (now levels) (now trees) (index position) (now out) ⌝ }
+    ensures { λ _. ⌜ now (out .exit) ≡ queryBytes present n k (words (now (levels .entry))) (now (trees .entry)) (index position) ⌝ }
 {
     let mut at = put_number(out, 0, n as u64, 4);
     let mut x = lent_level(n, k, 0, 0, 0);
-    let mut q = position / 2;
     let mut l: usize = 0;
     while l < n {
         let y = next_level(n, k, l, x);
+        let q = position.folded(l + 1);
         at = put_level(out, at, levels, trees, x, y, q);
         x = y;
-        q = q / 2;
         l += 1;
     }
     at
-}
-
-// How many words the levels have: twice as many as the first, less the last.
-pub fn levels_length(n: usize, k: usize) -> usize
-    requires { ⌜ SizesFit n k ⌝ }
-    ensures { λ r. ⌜ r ≡ levelsLength n k ⌝ }
-{
-    2 * level_length(n, k, 0) - level_length(n, k, n)
-}
-
-// How many bytes their trees have.
-pub fn trees_size(n: usize, k: usize) -> usize
-    requires { ⌜ SizesFit n k ⌝ }
-    ensures { λ r. ⌜ r ≡ 32 * treeStart present n k (suc n) ⌝ }
-{
-    let mut digests: usize = 0;
-    let mut l: usize = 0;
-    while l <= n {
-        digests += 2 * level_groups(n, k, l) - 1;
-        l += 1;
-    }
-    32 * digests
 }
 
 // How many bytes a group of level l and its path have in a record.
@@ -182,8 +165,8 @@ pub fn query_size(n: usize, k: usize) -> usize
 }
 
 // 4, 5 and 11.
-fn query_number(levels: usize, trees: usize, out: usize, n: usize, k: usize, position: usize) -> u32
-    ensures { λ r. ⌜ r ≡ buildNumber n k levels trees out position ⌝ }
+fn query_number(levels: usize, trees: usize, out: usize, n: usize, k: usize, position: Place) -> u32
+    ensures { λ r. ⌜ r ≡ buildNumber n k levels trees out (index position) ⌝ }
 {
     let x = size_number(n, k);
     if x != 0 {
@@ -198,7 +181,7 @@ fn query_number(levels: usize, trees: usize, out: usize, n: usize, k: usize, pos
     if out != query_size(n, k) {
         return 5;
     }
-    if position >= level_length(n, k, 0) {
+    if position.index() >= level_length(n, k, 0) {
         return 11;
     }
     0
@@ -211,10 +194,10 @@ pub fn build_query(
     trees: &[u8],
     n: usize,
     k: usize,
-    position: usize,
+    position: Place,
 ) -> u32
-    ensures { λ r. ⌜ r ≡ buildQueryNumber present n k (now (levels .entry)) (now (trees .entry)) position (now (out .entry)) ⌝ }
-    ensures { λ _. ⌜ now (out .exit) ≡ buildQuery present n k (now (levels .entry)) (now (trees .entry)) position (now (out .entry)) ⌝ }
+    ensures { λ r. ⌜ r ≡ buildQueryNumber present n k (now (levels .entry)) (now (trees .entry)) (index position) (now (out .entry)) ⌝ }
+    ensures { λ _. ⌜ now (out .exit) ≡ buildQuery present n k (now (levels .entry)) (now (trees .entry)) (index position) (now (out .entry)) ⌝ }
 {
     let number = query_number(levels.len(), trees.len(), out.len(), n, k, position);
     if number != 0 {

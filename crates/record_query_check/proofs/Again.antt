@@ -52,7 +52,7 @@ one-group-leads S l p q values path e =
 pub leads-next : (S : Scheme) (pw : PowersOfTwo (S .widths)) (position : ℕ) (challenges roots : List ℕ) (l : ℕ) (s : List ℕ) (i : ℕ) (v : Level) (x : ℕ)
     → Allowed S position challenges roots → l + 1 < S .n → v ≡ levelAt s i
     → v .fits ≡ true → x ≡ levelNumber S position challenges roots l (levelRead (drop i s)) → x ≡ 0
-    → Leads S (l + 1) (2 * pairOf position (l + 1)) s (v .«c_group») (v .«c_path») (rootAt roots (l + 1))
+    → Leads S (l + 1) (2 * pairOf position (l + 1)) s (v .«c_group_at») (v .«c_path_at») (rootAt roots (l + 1))
 unfolding levelNumber levelRead valuesAt digestsAt
 leads-next S pw position challenges roots l s i v x a h ev fits ex z =
     let q : ℕ = pairOf position l in

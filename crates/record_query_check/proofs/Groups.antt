@@ -1,14 +1,15 @@
 -- The groups of a level: the words that they hold, and the numbers of the questions put to them.
-use Prim.Native.Nat.{ℕ, _+_, _*_, _/_, _%_, _<_, _≤_}
-use mathlib.Core.Path.{_≡_, refl, sym, _∙_, ap}
+use Prim.Native.Nat.{ℕ, _+_, _*_, _%_, _<_, _≤_}
+use mathlib.Core.Path.{_≡_, refl, sym, _∙_, ap, ap₂}
 use mathlib.Core.Bool.{Bool, true, false, not}
 use mathlib.Core.List.{List}
 use native.Mathlib.Omega.{arith}
-use borrow.Author.Tests.{eq-eqb, ne-eqb, eqb-true, not-true, not-false}
+use borrow.Author.Tests.{eqb-true, not-true, not-false}
 use lib.Dec.{eqb}
 use lib.ListN.{length, drop}
 use Rattle.theory_laws.specs.Questions.{pick, Question, firstNo}
 use Rattle.theory_laws.specs.Lists.{part, leValue}
+use Rattle.theory_merkle.specs.Tree.{groupOf}
 use Rattle.theory_record.specs.Format.{runCount}
 use Rattle.theory_record.specs.Query.{valueAt}
 use Rattle.theory_record.proofs.Reading.{value-at}
@@ -52,34 +53,46 @@ opened-wide {S} {l} {s} {group} {path} p place root first x w r e z ew pos =
     go true f h = eqb-true _ _ f
     go false f h = absurd (omega arith)
 
--- ---- 16 to 21
+-- ---- 16 to 21: of a and b, at places 2q and 2q + 1
 
-module _ (S : Scheme) (l q : ℕ) (values : List ℕ) (path : List (List ℕ)) (root : List ℕ) (a b x : ℕ) (e : x ≡ openingNumber S l (2 * q) values path root 16)
-  where
-    pub a-stops : (x ≡ 0 → ⊥) → x ≡ aNumber S l q values path root a b
-    unfolding aNumber openingNumber
-    a-stops z = first-stops (openingQuestions S l (2 * q) values path root 16) (pairHeld (widthAt S l) q values a b) x tt e z
+module _ (S : Scheme) (l q : ℕ) (values : List ℕ) (path : List (List ℕ)) (root : List ℕ) (a b x first : ℕ) (ef : first ≡ 2 * q)
+    (e : x ≡ openingNumber S l first values path root 16) where
+  opened : x ≡ openingNumber S l (2 * q) values path root 16
+  opened = e ∙ ap (λ (p : ℕ). openingNumber S l p values path root 16) ef
 
-    a-passes : (w r : ℕ) → x ≡ 0 → w ≡ widthAt S l → r ≡ firstNo (pairHeld w q values a b) → r ≡ aNumber S l q values path root a b
-    unfolding aNumber openingNumber
-    a-passes w r z ew f =
-        first-passes (openingQuestions S l (2 * q) values path root 16) (pairHeld (widthAt S l) q values a b) x tt e r z
-        (f ∙ ap (λ (y : ℕ). firstNo (pairHeld y q values a b)) ew)
+  pub a-stops : (x ≡ 0 → ⊥) → x ≡ aNumber S l q values path root a b
+  unfolding aNumber openingNumber
+  a-stops z = first-stops (openingQuestions S l (2 * q) values path root 16) (pairHeld (widthAt S l) q values a b) x tt opened z
 
-    module _ (z : x ≡ 0) (w : ℕ) (ew : w ≡ widthAt S l) (h : Bool) (eh : h ≡ eqb (valueAt w (2 * q) values) a) where
-      pub no-a : not h ≡ true → 19 ≡ aNumber S l q values path root a b
-      no-a f = a-passes w 19 z ew (rw (← eh, not-true h f))
+  a-passes : (w r : ℕ) → x ≡ 0 → w ≡ widthAt S l → r ≡ firstNo (pairHeld w q values a b) → r ≡ aNumber S l q values path root a b
+  unfolding aNumber openingNumber
+  a-passes w r z ew f =
+      first-passes (openingQuestions S l (2 * q) values path root 16) (pairHeld (widthAt S l) q values a b) x tt opened r z
+      (f ∙ ap (λ (y : ℕ). firstNo (pairHeld y q values a b)) ew)
 
-      module _ (f : not h ≡ false) where
-        pub two-groups : ((2 * q + 1) / w ≡ 2 * q / w → ⊥) → 20 ≡ aNumber S l q values path root a b
-        two-groups g = a-passes w 20 z ew (rw (← eh, not-false h f, ne-eqb ((2 * q + 1) / w) (2 * q / w) g))
+  module _ (z : x ≡ 0) (w : ℕ) (ew : w ≡ widthAt S l) (h : Bool) (eh : h ≡ eqb (valueAt w first values) a) where
+    a-held : eqb (valueAt w (2 * q) values) a ≡ h
+    a-held = sym (eh ∙ ap (λ (p : ℕ). eqb (valueAt w p values) a) ef)
 
-        module _ (g : (2 * q + 1) / w ≡ 2 * q / w) (h′ : Bool) (eh′ : h′ ≡ eqb (valueAt w (2 * q + 1) values) b) where
-          pub no-b : not h′ ≡ true → 21 ≡ aNumber S l q values path root a b
-          no-b f′ = a-passes w 21 z ew (rw (← eh, not-false h f, eq-eqb ((2 * q + 1) / w) (2 * q / w) g, ← eh′, not-true h′ f′))
+    pub no-a : not h ≡ true → 19 ≡ aNumber S l q values path root a b
+    no-a f = a-passes w 19 z ew (rw (a-held, not-true h f))
 
-          pub both-held : not h′ ≡ false → 0 ≡ aNumber S l q values path root a b
-          both-held f′ = a-passes w 0 z ew (rw (← eh, not-false h f, eq-eqb ((2 * q + 1) / w) (2 * q / w) g, ← eh′, not-false h′ f′))
+    module _ (f : not h ≡ false) (second : ℕ) (es : second ≡ 2 * q + 1) (t : Bool) (et : t ≡ eqb (groupOf second w) (groupOf first w)) where
+      one-group : eqb (groupOf (2 * q + 1) w) (groupOf (2 * q) w) ≡ t
+      one-group = sym (et ∙ ap₂ (λ (p r : ℕ). eqb (groupOf p w) (groupOf r w)) es ef)
+
+      pub two-groups : not t ≡ true → 20 ≡ aNumber S l q values path root a b
+      two-groups g = a-passes w 20 z ew (rw (a-held, not-false h f, one-group, not-true t g))
+
+      module _ (g : not t ≡ false) (h′ : Bool) (eh′ : h′ ≡ eqb (valueAt w second values) b) where
+        b-held : eqb (valueAt w (2 * q + 1) values) b ≡ h′
+        b-held = sym (eh′ ∙ ap (λ (p : ℕ). eqb (valueAt w p values) b) es)
+
+        pub no-b : not h′ ≡ true → 21 ≡ aNumber S l q values path root a b
+        no-b f′ = a-passes w 21 z ew (rw (a-held, not-false h f, one-group, not-false t g, b-held, not-true h′ f′))
+
+        pub both-held : not h′ ≡ false → 0 ≡ aNumber S l q values path root a b
+        both-held f′ = a-passes w 0 z ew (rw (a-held, not-false h f, one-group, not-false t g, b-held, not-false h′ f′))
 
 -- ---- 22 to 25
 

@@ -41,8 +41,8 @@ pair-small {S} {position} l q z h e =
 
 pub record LevelRoom (S : Scheme) (l : ℕ) (s : List ℕ) (i : ℕ) (v : Level) : Type 0 where
   pub words-room : i + 48 ≤ length s
-  pub a-readable : Readable S l s (v .«a_group») (v .«a_path»)
-  pub c-readable : Readable S (l + 1) s (v .«c_group») (v .«c_path»)
+  pub a-readable : Readable S l s (v .«a_group_at») (v .«a_path_at»)
+  pub c-readable : Readable S (l + 1) s (v .«c_group_at») (v .«c_path_at»)
 
 pub level-room : {S : Scheme} {position : ℕ} {challenges roots : List ℕ} (l : ℕ) (s : List ℕ) (i : ℕ) (v : Level) → Allowed S position challenges roots
     → l < S .n
@@ -86,14 +86,13 @@ room-there {l = l} {s = s} {i = i} {v = v} z = level-room l s i v (z .allowed) (
 abbrev asRead : List ℕ → Level → ℕ → ℕ → ℕ → LevelRecord
 asRead s v a b c =
     record {
-      a =
-          a;
+      a = a;
       b = b;
       c = c;
-      aGroup = valuesAt s (v .«a_group»);
-      cGroup = valuesAt s (v .«c_group»);
-      aPath = digestsAt s (v .«a_path»);
-      cPath = digestsAt s (v .«c_path»);
+      aGroup = valuesAt s (v .«a_group_at»);
+      cGroup = valuesAt s (v .«c_group_at»);
+      aPath = digestsAt s (v .«a_path_at»);
+      cPath = digestsAt s (v .«c_path_at»);
     }
 
 read-is : (s : List ℕ) (i : ℕ) (v : Level) (a b c : ℕ) → v ≡ levelAt s i → a ≡ leValue (part 16 i s) → b ≡ leValue (part 16 (i + 16) s)
@@ -116,7 +115,8 @@ folded r a b c = (26 asks eqb (a ⊕ r ⊗ (a ⊕ b)) c) ∷ []
 by-parts : (S : Scheme) (l q r : ℕ) (ra rc : List ℕ) (x : LevelRecord)
     → firstNo (pairQuestions S l q r ra rc x)
     ≡ onDone (aNumber S l q (x .aGroup) (x .aPath) ra (x .a) (x .b))
-    (onDone (cNumber S (suc l) q (x .cGroup) (x .cPath) rc (x .c)) (firstNo (folded r (x .a) (x .b) (x .c))) (cNumber S (suc l) q (x .cGroup) (x .cPath) rc (x .c)))
+    (onDone (cNumber S (suc l) q (x .cGroup) (x .cPath) rc (x .c)) (firstNo (folded r (x .a) (x .b) (x .c)))
+    (cNumber S (suc l) q (x .cGroup) (x .cPath) rc (x .c)))
     (aNumber S l q (x .aGroup) (x .aPath) ra (x .a) (x .b))
 unfolding aNumber cNumber
 by-parts S l q r ra rc x =
@@ -125,15 +125,21 @@ by-parts S l q r ra rc x =
     firstNo-append A (C ++ folded r (x .a) (x .b) (x .c)) tt
     ∙ ap (λ (y : ℕ). onDone (firstNo A) y (firstNo A)) (firstNo-append C (folded r (x .a) (x .b) (x .c)) tt)
 
-module _ (S : Scheme) (position : ℕ) (challenges roots : List ℕ) (l : ℕ) (s : List ℕ) (i : ℕ) (v : Level) (a b c q : ℕ) (ev : v ≡ levelAt s i) (ea : a ≡ leValue (part 16 i s))
-    (eb : b ≡ leValue (part 16 (i + 16) s)) (ec : c ≡ leValue (part 16 (i + 32) s)) (eq : q ≡ pairOf position l) (ra : List ℕ) (era : ra ≡ part 32 (32 * l) roots) (x : ℕ)
-    (ex : x ≡ aNumber S l q (valuesAt s (v .«a_group»)) (digestsAt s (v .«a_path»)) ra a b) where
+-- what a level's number is once 16 to 25 have their yes: 26 is asked, and t says whether the fold is c
+pub record FoldDecides (t : Bool) (number : ℕ) : Type 0 where
+  pub not-folded : not t ≡ true → 26 ≡ number
+  pub all-hold : not t ≡ false → 0 ≡ number
+
+module _ (S : Scheme) (position : ℕ) (challenges roots : List ℕ) (l : ℕ) (s : List ℕ) (i : ℕ) (v : Level) (a b c q : ℕ) (ev : v ≡ levelAt s i)
+    (ea : a ≡ leValue (part 16 i s)) (eb : b ≡ leValue (part 16 (i + 16) s)) (ec : c ≡ leValue (part 16 (i + 32) s)) (eq : q ≡ pairOf position l)
+    (ra : List ℕ) (era : ra ≡ part 32 (32 * l) roots) (x : ℕ)
+    (ex : x ≡ aNumber S l q (valuesAt s (v .«a_group_at»)) (digestsAt s (v .«a_path_at»)) ra a b) where
   number : ℕ
   number = levelNumber S position challenges roots l (levelRead (drop i s))
 
   parts : (r : ℕ) (rc : List ℕ) → r ≡ at (words challenges) l → rc ≡ part 32 (32 * (l + 1)) roots
-      → number ≡ onDone x
-      (onDone (cNumber S (l + 1) q (valuesAt s (v .«c_group»)) (digestsAt s (v .«c_path»)) rc c) (firstNo (folded r a b c)) (cNumber S (l + 1) q (valuesAt s (v .«c_group»)) (digestsAt s (v .«c_path»)) rc c)) x
+      → let y = cNumber S (l + 1) q (valuesAt s (v .«c_group_at»)) (digestsAt s (v .«c_path_at»)) rc c in
+      number ≡ onDone x (onDone y (firstNo (folded r a b c)) y) x
   unfolding levelNumber rootAt number
   parts r rc er erc =
       let one : l + 1 ≡ suc l = add-one l in
@@ -145,16 +151,16 @@ module _ (S : Scheme) (position : ℕ) (challenges roots : List ℕ) (l : ℕ) (
   a-says-no z = sym (parts (at (words challenges) l) (part 32 (32 * (l + 1)) roots) refl refl ∙ rw (ne-eqb x 0 z))
 
   module _ (z : x ≡ 0) (rc : List ℕ) (erc : rc ≡ part 32 (32 * (l + 1)) roots) (y : ℕ)
-      (ey : y ≡ cNumber S (l + 1) q (valuesAt s (v .«c_group»)) (digestsAt s (v .«c_path»)) rc c) where
+      (ey : y ≡ cNumber S (l + 1) q (valuesAt s (v .«c_group_at»)) (digestsAt s (v .«c_path_at»)) rc c) where
     pub c-says-no : (y ≡ 0 → ⊥) → y ≡ levelNumber S position challenges roots l (levelRead (drop i s))
     unfolding number
     c-says-no u = sym (parts (at (words challenges) l) rc refl erc ∙ rw (eq-eqb x 0 z, ← ey, ne-eqb y 0 u))
 
     module _ (u : y ≡ 0) (r : ℕ) (er : r ≡ at (words challenges) l) (f : ℕ) (ef : f ≡ a ⊕ r ⊗ (a ⊕ b)) (t : Bool) (et : t ≡ eqb f c) where
-      pub not-folded : not t ≡ true → 26 ≡ levelNumber S position challenges roots l (levelRead (drop i s))
+      pub fold-decides : FoldDecides t (levelNumber S position challenges roots l (levelRead (drop i s)))
       unfolding number
-      not-folded g = sym (parts r rc er erc ∙ rw (eq-eqb x 0 z, ← ey, eq-eqb y 0 u, ← ef, ← et, not-true t g))
-
-      pub all-hold : not t ≡ false → 0 ≡ levelNumber S position challenges roots l (levelRead (drop i s))
-      unfolding number
-      all-hold g = sym (parts r rc er erc ∙ rw (eq-eqb x 0 z, ← ey, eq-eqb y 0 u, ← ef, ← et, not-false t g))
+      fold-decides =
+          record {
+            not-folded = λ g. sym (parts r rc er erc ∙ rw (eq-eqb x 0 z, ← ey, eq-eqb y 0 u, ← ef, ← et, not-true t g));
+            all-hold = λ g. sym (parts r rc er erc ∙ rw (eq-eqb x 0 z, ← ey, eq-eqb y 0 u, ← ef, ← et, not-false t g));
+          }

@@ -55,8 +55,8 @@ module _ (S : Scheme) (position : ℕ) (challenges roots s : List ℕ) (x : ℕ)
         pub long-base : 200 < length base → 7 ≡ queryNumber S position challenges roots s
         long-base e = passes 7 (rw (eq-eqb (length challenges) (2 * n) a, eq-eqb (length roots) (32 * (n + 1)) b, lt-leb (length base) 200 e))
 
-        module _ (c : length base ≤ 200) (len : ℕ) (el : len ≡ lengthAt S 0) where
-          pub high-position : len ≤ position → 11 ≡ queryNumber S position challenges roots s
+        module _ (c : length base ≤ 200) (p : ℕ) (ep : p ≡ position) (len : ℕ) (el : len ≡ lengthAt S 0) where
+          pub high-position : len ≤ p → 11 ≡ queryNumber S position challenges roots s
           high-position e =
               passes 11
               (rw (
@@ -64,10 +64,11 @@ module _ (S : Scheme) (position : ℕ) (challenges roots s : List ℕ) (x : ℕ)
                 eq-eqb (length roots) (32 * (n + 1)) b,
                 le-leb (length base) 200 c,
                 ← (below-first n k len el),
-                le-ltb position len e,
+                ← ep,
+                le-ltb p len e,
               ))
 
-          module _ (d : position < len) (t : Bool) (et : t ≡ recordWhole levelForm s) where
+          module _ (d : p < len) (t : Bool) (et : t ≡ recordWhole levelForm s) where
             pub not-whole : not t ≡ true → 14 ≡ queryNumber S position challenges roots s
             not-whole e =
                 passes 14
@@ -76,7 +77,8 @@ module _ (S : Scheme) (position : ℕ) (challenges roots s : List ℕ) (x : ℕ)
                   eq-eqb (length roots) (32 * (n + 1)) b,
                   le-leb (length base) 200 c,
                   ← (below-first n k len el),
-                  lt-ltb position len d,
+                  ← ep,
+                  lt-ltb p len d,
                   ← et,
                   not-true t e,
                 ))
@@ -90,7 +92,8 @@ module _ (S : Scheme) (position : ℕ) (challenges roots s : List ℕ) (x : ℕ)
                     eq-eqb (length roots) (32 * (n + 1)) b,
                     le-leb (length base) 200 c,
                     ← (below-first n k len el),
-                    lt-ltb position len d,
+                    ← ep,
+                    lt-ltb p len d,
                     ← et,
                     not-false t f,
                     ← em,
@@ -105,7 +108,8 @@ module _ (S : Scheme) (position : ℕ) (challenges roots s : List ℕ) (x : ℕ)
                     eq-eqb (length roots) (32 * (n + 1)) b,
                     le-leb (length base) 200 c,
                     ← (below-first n k len el),
-                    lt-ltb position len d,
+                    ← ep,
+                    lt-ltb p len d,
                     ← et,
                     not-false t f,
                     ← em,

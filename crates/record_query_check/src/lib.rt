@@ -15,15 +15,19 @@ use record_reader::count_at;
 use record_reader::level_at;
 use record_reader::query_whole;
 use record_reader::word_at;
+use tree_place::Place;
+use tree_place::in_group;
+use tree_place::same_group;
 ghost use mathlib.Core.Path.{_≡_};
-ghost use Prim.Native.Nat.{_%_, _<_};
+ghost use Prim.Native.Nat.{_<_};
 ghost use lib.Dec.{eqb};
 ghost use Rattle.theory_laws.specs.Xor.{_⊕_};
 ghost use Rattle.theory_field.specs.Field.{_⊗_};
 ghost use Rattle.field_gf128.specs.Word.{word};
 ghost use Rattle.theory_record.specs.Query.{pairOf, valueAt, queryNumber, checkQuery};
+ghost use Rattle.tree_place.specs.Place.{index};
 ghost use Rattle.record_opening.specs.helpers.Opening.{valuesAt, Readable};
-ghost use Rattle.record_query_check.specs.helpers.Level.{aNumberAt, cNumberAt, levelNumberAt, levelsAnswer};
+ghost use Rattle.record_query_check.specs.helpers.Level.{aNumberAt, cNumberAt, levelAsked, allAsked};
 ghost use Rattle.record_query_check.specs.helpers.Level.{WideGroup, Allowed, Whole, PairThere, LevelThere};
 ghost use Rattle.record_query_check.specs.Answer.{answer};
 ghost use Rattle.theory_record.specs.Scheme.{scheme};
@@ -34,12 +38,12 @@ pub struct Checked {
     pub level: u32,
 }
 
-// The pair of level l, for a query at a position.
-pub fn pair_of(position: usize, l: usize) -> usize
+// The place q on level l + 1 that the pair of level l folds to, for a query at a position: the pair is at places 2q and 2q + 1.
+pub fn pair_of(position: Place, l: usize) -> Place
     requires { ⌜ l < 24 ⌝ }
-    ensures { λ r. ⌜ r ≡ pairOf position l ⌝ }
+    ensures { λ r. ⌜ index r ≡ pairOf (index position) l ⌝ }
 {
-    position >> (l + 1)
+    position.folded(l + 1)
 }
 
 // a + r × (a + b)
@@ -49,54 +53,48 @@ fn fold_of(a: Word, b: Word, r: Word) -> Word
     add(a, mul(r, add(a, b)))
 }
 
-// Where in its group the value of a place belongs.
-fn place_in(place: usize, width: usize) -> usize
-    requires { ⌜ 0 < width ⌝ }
-    ensures { λ r. ⌜ (r ≡ place % width) × (r < width) ⌝ }
+// Has the group that stands at a byte of the record this word, where the value of a place of its level belongs?
+fn holds(s: &[u8], group_at: usize, width: usize, place: Place, w: Word) -> bool
+    requires { ⌜ WideGroup (now s) «group_at» width ⌝ }
+    ensures { λ r. ⌜ r ≡ eqb (valueAt width (index place) (valuesAt (now (s .entry)) «group_at»)) (word w) ⌝ }
 {
-    place % width
-}
-
-// Has the group at a place of the record this word, where the value of a place of its level belongs?
-fn holds(s: &[u8], group: usize, width: usize, place: usize, w: Word) -> bool
-    requires { ⌜ WideGroup (now s) group width ⌝ }
-    ensures { λ r. ⌜ r ≡ eqb (valueAt width place (valuesAt (now (s .entry)) group)) (word w) ⌝ }
-{
-    let j = place_in(place, width);
-    let v = word_at(s, group + 4 + 16 * j);
+    let j = in_group(place, width);
+    let v = word_at(s, group_at + 4 + 16 * j);
     same_word(v, w)
 }
 
-// 16 to 21: the group of a and b, at place 2q and the one after it. It may be known from the level before, whose c it holds.
+// 16 to 21: the group of a and b, at places 2q and 2q + 1 of level l. It may be known from the level before, whose c it holds.
 fn a_number(
     base: &[u8],
     n: usize,
     k: usize,
     l: usize,
-    q: usize,
+    q: Place,
     s: &[u8],
-    group: usize,
-    path: usize,
+    group_at: usize,
+    path_at: usize,
     root: [u8; 32],
     a: Word,
     b: Word,
     old: Opened,
 ) -> u32
-    requires { ⌜ PairThere (scheme (now base) n k) l q (now s) group path root old ⌝ }
-    ensures { λ r. ⌜ r ≡ aNumberAt (scheme (now (base .entry)) n k) l q (now (s .entry)) group path root (word a) (word b) ⌝ }
+    requires { ⌜ PairThere (scheme (now base) n k) l (index q) (now s) «group_at» «path_at» root old ⌝ }
+    ensures { λ r. ⌜ r ≡ aNumberAt (scheme (now (base .entry)) n k) l (index q) (now (s .entry)) «group_at» «path_at» root (word a) (word b) ⌝ }
 {
-    let x = opening_again(base, n, k, l, 2 * q, s, group, path, root, 16, old);
+    let first = q.first_of_pair();
+    let x = opening_again(base, n, k, l, first, s, group_at, path_at, root, 16, old);
     if x != 0 {
         return x;
     }
     let w = level_width(n, k, l);
-    if !holds(s, group, w, 2 * q, a) {
+    if !holds(s, group_at, w, first, a) {
         return 19;
     }
-    if (2 * q + 1) / w != 2 * q / w {
+    let second = q.second_of_pair();
+    if !same_group(second, first, w) {
         return 20;
     }
-    if !holds(s, group, w, 2 * q + 1, b) {
+    if !holds(s, group_at, w, second, b) {
         return 21;
     }
     0
@@ -108,33 +106,33 @@ fn c_number(
     n: usize,
     k: usize,
     l: usize,
-    q: usize,
+    q: Place,
     s: &[u8],
-    group: usize,
-    path: usize,
+    group_at: usize,
+    path_at: usize,
     root: [u8; 32],
     c: Word,
 ) -> u32
-    requires { ⌜ Readable (scheme (now base) n k) l (now s) group path ⌝ }
-    ensures { λ r. ⌜ r ≡ cNumberAt (scheme (now (base .entry)) n k) l q (now (s .entry)) group path root (word c) ⌝ }
+    requires { ⌜ Readable (scheme (now base) n k) l (now s) «group_at» «path_at» ⌝ }
+    ensures { λ r. ⌜ r ≡ cNumberAt (scheme (now (base .entry)) n k) l (index q) (now (s .entry)) «group_at» «path_at» root (word c) ⌝ }
 {
-    let x = opening_number(base, n, k, l, q, s, group, path, root, 22);
+    let x = opening_number(base, n, k, l, q, s, group_at, path_at, root, 22);
     if x != 0 {
         return x;
     }
     let w = level_width(n, k, l);
-    if !holds(s, group, w, q, c) {
+    if !holds(s, group_at, w, q, c) {
         return 25;
     }
     0
 }
 
-// 16 to 26: the level at a place of the record, of which the level before may have opened the group of a and b.
+// 16 to 26: the level that stands at a byte of the record, of which the level before may have opened the group of a and b.
 fn level_number(
     base: &[u8],
     n: usize,
     k: usize,
-    position: usize,
+    position: Place,
     challenges: &[u64],
     roots: &[u8],
     l: usize,
@@ -143,20 +141,33 @@ fn level_number(
     v: Level,
     old: Opened,
 ) -> u32
-    requires { ⌜ LevelThere (scheme (now base) n k) position (now challenges) (now roots) l (now s) at v old ⌝ }
-    ensures { λ r. ⌜ r ≡ levelNumberAt (scheme (now (base .entry)) n k) position (now (challenges .entry)) (now (roots .entry)) l (now (s .entry)) at ⌝ }
+    requires { ⌜ LevelThere (scheme (now base) n k) (index position) (now challenges) (now roots) l (now s) at v old ⌝ }
+    ensures { λ r. ⌜ r ≡ levelAsked (scheme (now (base .entry)) n k) (index position) (now (challenges .entry)) (now (roots .entry)) l (now (s .entry)) at ⌝ }
 {
     let q = pair_of(position, l);
     let a = word_at(s, at);
     let b = word_at(s, at + 16);
     let c = word_at(s, at + 32);
     let ra = load(roots, 32 * l);
-    let x = a_number(base, n, k, l, q, s, v.a_group, v.a_path, ra, a, b, old);
+    let x = a_number(
+        base,
+        n,
+        k,
+        l,
+        q,
+        s,
+        v.a_group_at,
+        v.a_path_at,
+        ra,
+        a,
+        b,
+        old,
+    );
     if x != 0 {
         return x;
     }
     let rc = load(roots, 32 * (l + 1));
-    let y = c_number(base, n, k, l + 1, q, s, v.c_group, v.c_path, rc, c);
+    let y = c_number(base, n, k, l + 1, q, s, v.c_group_at, v.c_path_at, rc, c);
     if y != 0 {
         return y;
     }
@@ -173,20 +184,20 @@ fn check_levels(
     base: &[u8],
     n: usize,
     k: usize,
-    position: usize,
+    position: Place,
     challenges: &[u64],
     roots: &[u8],
     s: &[u8],
 ) -> Checked
-    requires { ⌜ (Allowed (scheme (now base) n k) position (now challenges) (now roots)) × (Whole n (now s)) ⌝ }
-    ensures { λ r. ⌜ answer r ≡ levelsAnswer (scheme (now (base .entry)) n k) position (now (challenges .entry)) (now (roots .entry)) (now (s .entry)) ⌝ }
+    requires { ⌜ (Allowed (scheme (now base) n k) (index position) (now challenges) (now roots)) × (Whole n (now s)) ⌝ }
+    ensures { λ r. ⌜ answer r ≡ allAsked (scheme (now (base .entry)) n k) (index position) (now (challenges .entry)) (now (roots .entry)) (now (s .entry)) ⌝ }
 {
     let mut l: usize = 0;
     let mut at: usize = 4;
     let mut old = Opened {
         known: false,
-        group: 0,
-        path: 0,
+        group_at: 0,
+        path_at: 0,
     };
     while l < n {
         let v = level_at(s, at);
@@ -199,8 +210,8 @@ fn check_levels(
         }
         old = Opened {
             known: true,
-            group: v.c_group,
-            path: v.c_path,
+            group_at: v.c_group_at,
+            path_at: v.c_path_at,
         };
         at = v.next;
         l = l + 1;
@@ -216,12 +227,12 @@ fn query_number(
     base: &[u8],
     n: usize,
     k: usize,
-    position: usize,
+    position: Place,
     challenges: &[u64],
     roots: &[u8],
     s: &[u8],
 ) -> u32
-    ensures { λ r. ⌜ r ≡ queryNumber (scheme (now (base .entry)) n k) position (now (challenges .entry)) (now (roots .entry)) (now (s .entry)) ⌝ }
+    ensures { λ r. ⌜ r ≡ queryNumber (scheme (now (base .entry)) n k) (index position) (now (challenges .entry)) (now (roots .entry)) (now (s .entry)) ⌝ }
 {
     let x = size_number(n, k);
     if x != 0 {
@@ -236,7 +247,7 @@ fn query_number(
     if base.len() > 200 {
         return 7;
     }
-    if position >= level_length(n, k, 0) {
+    if position.index() >= level_length(n, k, 0) {
         return 11;
     }
     if !query_whole(s) {
@@ -253,12 +264,12 @@ pub fn check_query(
     base: &[u8],
     n: usize,
     k: usize,
-    position: usize,
+    position: Place,
     challenges: &[u64],
     roots: &[u8],
     s: &[u8],
 ) -> Checked
-    ensures { λ r. ⌜ answer r ≡ checkQuery (scheme (now (base .entry)) n k) position (now (challenges .entry)) (now (roots .entry)) (now (s .entry)) ⌝ }
+    ensures { λ r. ⌜ answer r ≡ checkQuery (scheme (now (base .entry)) n k) (index position) (now (challenges .entry)) (now (roots .entry)) (now (s .entry)) ⌝ }
 {
     let number = query_number(base, n, k, position, challenges, roots, s);
     if number != 0 {

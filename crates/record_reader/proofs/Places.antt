@@ -7,7 +7,8 @@ use borrow.Author.Tests.{not-true, not-false}
 use lib.ListN.{length, drop}
 use lib.Seq.{drop-drop}
 use Rattle.theory_laws.specs.Questions.{both}
-use Rattle.theory_record.specs.Format.{Form, levelForm, tailForm, runSize, afterRun, fromAGroup, fromCGroup, fromAPath, fromCPath, afterLevel, levelFits, fromTailPath, afterTailGroup, tailGroupFits, wholeItems}
+use Rattle.theory_record.specs.Format.{Form, levelForm, tailForm, runSize, afterRun, fromAGroup, fromCGroup}
+use Rattle.theory_record.specs.Format.{fromAPath, fromCPath, afterLevel, levelFits, fromTailPath, afterTailGroup, tailGroupFits, wholeItems}
 use Rattle.theory_record.proofs.Reading.{whole-step, whole-stop}
 use Rattle.record_reader.specs.helpers.Places.{placeOf, levelAt, groupAt}
 use Rattle.record_reader.specs.declared.Level.{Level}
@@ -30,10 +31,10 @@ rest-run size s t h = rest-drop s t (runSize size t) h
 -- the level v read at place i: what stands at each of its places
 pub record LevelPlaces (s : List ℕ) (i : ℕ) (v : Level) : Type 0 where
   pub fits-is : v .fits ≡ levelFits (drop i s)
-  pub a-group : drop (v .«a_group») s ≡ fromAGroup (drop i s)
-  pub c-group : drop (v .«c_group») s ≡ fromCGroup (drop i s)
-  pub a-path : drop (v .«a_path») s ≡ fromAPath (drop i s)
-  pub c-path : drop (v .«c_path») s ≡ fromCPath (drop i s)
+  pub a-group : drop (v .«a_group_at») s ≡ fromAGroup (drop i s)
+  pub c-group : drop (v .«c_group_at») s ≡ fromCGroup (drop i s)
+  pub a-path : drop (v .«a_path_at») s ≡ fromAPath (drop i s)
+  pub c-path : drop (v .«c_path_at») s ≡ fromCPath (drop i s)
   pub after : afterLevel (drop i s) ≡ drop (v .next) s
   pub within : v .next ≤ length s
 
@@ -51,7 +52,7 @@ level-places s i v e =
 -- the group v read at place i
 pub record GroupPlaces (s : List ℕ) (i : ℕ) (v : TailGroup) : Type 0 where
   pub fits-is : v .fits ≡ tailGroupFits (drop i s)
-  pub path : drop (v .path) s ≡ fromTailPath (drop i s)
+  pub path : drop (v .«path_at») s ≡ fromTailPath (drop i s)
   pub after : afterTailGroup (drop i s) ≡ drop (v .next) s
   pub within : v .next ≤ length s
 
@@ -66,7 +67,8 @@ group-places s i v e =
 -- ---- whole
 
 module _ {A : Type 0} (form : Form A) (s : List ℕ) (i c l : ℕ) (r fits : Bool) (next : ℕ) (f : fits ≡ form .fits (drop i s)) where
-  more : form .after (drop i s) ≡ drop next s → not fits ≡ false → l < c → wholeItems form (c - l) (drop i s) ≡ r → wholeItems form (c - (l + 1)) (drop next s) ≡ r
+  more : form .after (drop i s) ≡ drop next s → not fits ≡ false → l < c → wholeItems form (c - l) (drop i s) ≡ r
+      → wholeItems form (c - (l + 1)) (drop next s) ≡ r
   more g n h e = whole-step form s i c l r next h (sym f ∙ not-false fits n) g e
 
   less : not fits ≡ true → l < c → wholeItems form (c - l) (drop i s) ≡ r → false ≡ r

@@ -12,7 +12,8 @@ use lib.ListN.{length, drop, length-drop, drop-of-length-le}
 use lib.Seq.{drop-drop}
 use Rattle.theory_laws.specs.Questions.{pick, both}
 use Rattle.theory_laws.proofs.Lists.{both-true}
-use Rattle.theory_record.specs.Format.{runCount, runSize, runFits, afterRun, fromAGroup, fromCGroup, fromAPath, fromCPath, afterLevel, levelFits, fromTailPath, afterTailGroup, tailGroupFits}
+use Rattle.theory_record.specs.Format.{runCount, runSize, runFits, afterRun, fromAGroup, fromCGroup}
+use Rattle.theory_record.specs.Format.{fromAPath, fromCPath, afterLevel, levelFits, fromTailPath, afterTailGroup, tailGroupFits}
 use Rattle.record_reader.specs.helpers.Places.{placeOf, furtherOf, runAt, levelAt, groupAt}
 use Rattle.record_reader.specs.declared.Run.{Run}
 use Rattle.record_reader.specs.declared.Level.{Level}
@@ -105,21 +106,26 @@ module _ (size : ℕ) (s t : List ℕ) (i : ℕ) (r : Run) (e : r ≡ runAt size
   run-rest : drop (r .next) s ≡ afterRun size t
   run-rest = ap (λ (x : Run). drop (x .next) s) e ∙ run-next size s i ∙ ap (afterRun size) f
 
-pub level-read : (s : List ℕ) (i from : ℕ) (a c p q : Run) (words f₁ f₂ f₃ fits : Bool) → i ≤ length s → words ≡ leb 48 (length s - i) → from ≡ furtherOf (length s) i 48
+pub level-read : (s : List ℕ) (i from : ℕ) (a c p q : Run) (words f₁ f₂ f₃ fits : Bool) → i ≤ length s → words ≡ leb 48 (length s - i)
+    → from ≡ furtherOf (length s) i 48
     → a ≡ runAt 16 s from → c ≡ runAt 16 s (a .next) → p ≡ runAt 32 s (c .next) → q ≡ runAt 32 s (p .next)
     → f₁ ≡ both (p .fits) (q .fits) → f₂ ≡ both (c .fits) f₁ → f₃ ≡ both (a .fits) f₂ → fits ≡ both words f₃
-    → _≡_ {A = Level} (record { fits = fits; «a_group» = from; «c_group» = a .next; «a_path» = c .next; «c_path» = p .next; next = q .next }) (levelAt s i)
+    → _≡_ {A = Level} (record { fits = fits; «a_group_at» = from; «c_group_at» = a .next; «a_path_at» = c .next; «c_path_at» = p .next; next = q .next })
+    (levelAt s i)
 unfolding levelAt levelFits fromAGroup fromCGroup fromAPath fromCPath afterLevel
 level-read s i from a c p q words f₁ f₂ f₃ fits h ew ef ea ec ep eq e₁ e₂ e₃ e =
     let t : List ℕ = drop i s in
     let here : from ≡ placeOf s (drop 48 t) = ef ∙ further-place s i 48 h in
-    let ra : drop from s ≡ drop 48 t = ap (λ (j : ℕ). drop j s) here ∙ ap (λ (x : List ℕ). drop (placeOf s x) s) (drop-drop 48 i s) ∙ rest-there s (i + 48) ∙ sym (drop-drop 48 i s) in
+    let ra : drop from s ≡ drop 48 t =
+    ap (λ (j : ℕ). drop j s) here ∙ ap (λ (x : List ℕ). drop (placeOf s x) s) (drop-drop 48 i s) ∙ rest-there s (i + 48) ∙ sym (drop-drop 48 i s) in
     let rc = run-rest 16 s (fromAGroup t) from a ea ra in
     let rp = run-rest 16 s (fromCGroup t) (a .next) c ec rc in
     let rq = run-rest 32 s (fromAPath t) (c .next) p ep rp in
     let ok : fits ≡ levelFits t =
     e ∙ ap₂ both (ew ∙ ap (leb 48) (sym (length-drop i s)))
-    (e₃ ∙ ap₂ both (run-fits 16 s (fromAGroup t) from a ea ra) (e₂ ∙ ap₂ both (run-fits 16 s (fromCGroup t) (a .next) c ec rc) (e₁ ∙ ap₂ both (run-fits 32 s (fromAPath t) (c .next) p ep rp) (run-fits 32 s (fromCPath t) (p .next) q eq rq)))) in
+    (e₃ ∙ ap₂ both (run-fits 16 s (fromAGroup t) from a ea ra)
+    (e₂ ∙ ap₂ both (run-fits 16 s (fromCGroup t) (a .next) c ec rc)
+    (e₁ ∙ ap₂ both (run-fits 32 s (fromAPath t) (c .next) p ep rp) (run-fits 32 s (fromCPath t) (p .next) q eq rq)))) in
     let na = run-place 16 s (fromAGroup t) from a ea ra in
     let nc = run-place 16 s (fromCGroup t) (a .next) c ec rc in
     let np = run-place 32 s (fromAPath t) (c .next) p ep rp in
@@ -127,7 +133,7 @@ level-read s i from a c p q words f₁ f₂ f₃ fits h ew ef ea ec ep eq e₁ e
     rw (ok, here, na, nc, np, nq)
 
 pub group-read : (s : List ℕ) (i : ℕ) (v p : Run) (fits : Bool) → v ≡ runAt 16 s i → p ≡ runAt 32 s (v .next) → fits ≡ both (v .fits) (p .fits)
-    → _≡_ {A = TailGroup} (record { fits = fits; path = v .next; next = p .next }) (groupAt s i)
+    → _≡_ {A = TailGroup} (record { fits = fits; «path_at» = v .next; next = p .next }) (groupAt s i)
 unfolding groupAt tailGroupFits fromTailPath afterTailGroup
 group-read s i v p fits ev ep e =
     let t : List ℕ = drop i s in

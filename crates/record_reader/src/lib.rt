@@ -23,21 +23,21 @@ pub struct Run {
 // A level of a query record: is it all there, and where its groups, its paths and what follows it begin.
 pub struct Level {
     pub fits: bool,
-    pub a_group: usize,
-    pub c_group: usize,
-    pub a_path: usize,
-    pub c_path: usize,
+    pub a_group_at: usize,
+    pub c_group_at: usize,
+    pub a_path_at: usize,
+    pub c_path_at: usize,
     pub next: usize,
 }
 
 // A group of a tail record: is it all there, and where its path and what follows it begin.
 pub struct TailGroup {
     pub fits: bool,
-    pub path: usize,
+    pub path_at: usize,
     pub next: usize,
 }
 
-// The count at a place.
+// The count at a byte of a record.
 pub fn count_at(s: &[u8], at: usize) -> usize
     ensures { λ r. ⌜ (r ≡ runCount (drop at (now (s .entry)))) × (r < 4294967296) ⌝ }
 {
@@ -46,7 +46,7 @@ pub fn count_at(s: &[u8], at: usize) -> usize
     number_at(&b, 0, 4) as usize
 }
 
-// The word at a place.
+// The word at a byte of a record.
 pub fn word_at(s: &[u8], at: usize) -> Word
     ensures { λ r. ⌜ word r ≡ leValue (part 16 at (now (s .entry))) ⌝ }
 {
@@ -55,7 +55,7 @@ pub fn word_at(s: &[u8], at: usize) -> Word
     field_bytes::word_at(&b, 0)
 }
 
-// The run of items of this size at a place.
+// The run of items of this size at a byte of a record.
 pub fn run_at(s: &[u8], at: usize, size: usize) -> Run
     requires { ⌜ (at ≤ length (now s)) × (size ≤ 32) ⌝ }
     ensures { λ r. ⌜ r ≡ runAt size (now (s .entry)) at ⌝ }
@@ -83,7 +83,7 @@ pub fn run_at(s: &[u8], at: usize, size: usize) -> Run
     }
 }
 
-// Where as many bytes from a place on end; the end of the record where it has not as many.
+// Where as many bytes from this one on end; the end of the record where it has not as many.
 fn further(len: usize, at: usize, count: usize) -> usize
     requires { ⌜ at ≤ len ⌝ }
     ensures { λ r. ⌜ r ≡ furtherOf len at count ⌝ }
@@ -94,7 +94,7 @@ fn further(len: usize, at: usize, count: usize) -> usize
     at + count
 }
 
-// Are as many bytes there from a place on?
+// Are as many bytes there from this one on?
 fn has(len: usize, at: usize, count: usize) -> bool
     requires { ⌜ at ≤ len ⌝ }
     ensures { λ r. ⌜ r ≡ leb count (len - at) ⌝ }
@@ -114,7 +114,7 @@ fn and(a: bool, b: bool) -> bool
     b
 }
 
-// The level of a query record at a place.
+// The level of a query record that begins at a byte.
 pub fn level_at(s: &[u8], at: usize) -> Level
     requires { ⌜ at ≤ length (now s) ⌝ }
     ensures { λ r. ⌜ r ≡ levelAt (now (s .entry)) at ⌝ }
@@ -128,15 +128,15 @@ pub fn level_at(s: &[u8], at: usize) -> Level
     let fits = and(words, and(a.fits, and(c.fits, and(p.fits, q.fits))));
     Level {
         fits: fits,
-        a_group: from,
-        c_group: a.next,
-        a_path: c.next,
-        c_path: p.next,
+        a_group_at: from,
+        c_group_at: a.next,
+        a_path_at: c.next,
+        c_path_at: p.next,
         next: q.next,
     }
 }
 
-// The group of a tail record at a place.
+// The group of a tail record that begins at a byte.
 pub fn group_at(s: &[u8], at: usize) -> TailGroup
     requires { ⌜ at ≤ length (now s) ⌝ }
     ensures { λ r. ⌜ r ≡ groupAt (now (s .entry)) at ⌝ }
@@ -146,12 +146,12 @@ pub fn group_at(s: &[u8], at: usize) -> TailGroup
     let fits = and(v.fits, p.fits);
     TailGroup {
         fits: fits,
-        path: v.next,
+        path_at: v.next,
         next: p.next,
     }
 }
 
-// Is a place the end of a record?
+// Is this the end of a record?
 fn at_end(len: usize, at: usize) -> bool
     ensures { λ r. ⌜ r ≡ eqb at len ⌝ }
 {

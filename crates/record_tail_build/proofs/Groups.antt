@@ -22,14 +22,14 @@ use Rattle.theory_field.specs.Words.{words}
 use Rattle.tree_walk.specs.helpers.Paths.{pathFrom}
 use Rattle.record_tail_build.specs.helpers.Groups.{openingSize, groupBytes, GroupPut, Room}
 
-pub group-put : {o : List ℕ} {from : ℕ} (level tree : List ℕ) (width depth groups g : ℕ) {o1 o2 o3 o4 : List ℕ} {a b c r : ℕ}
-    → Put o from 4 (leBytes 4 width) o1 a
-    → Put o1 a (16 * width) (flat (map (leBytes 16) (part width (g * width) (words level)))) o2 b → Put o2 b 4 (leBytes 4 depth) o3 c
+pub group-put : {o : List ℕ} {from : ℕ} (level tree : List ℕ) (width depth groups g first : ℕ) {o1 o2 o3 o4 : List ℕ} {a b c r : ℕ}
+    → first ≡ g * width → Put o from 4 (leBytes 4 width) o1 a
+    → Put o1 a (16 * width) (flat (map (leBytes 16) (part width first (words level)))) o2 b → Put o2 b 4 (leBytes 4 depth) o3 c
     → Put o3 c (32 * depth) (flat (pathFrom depth tree 0 groups g)) o4 r → GroupPut o from level tree width depth groups g o4 r
 unfolding groupBytes
-group-put {o} {from} level tree width depth groups g {o1} {o2} {o3} {o4} {a} {b} {c} {r} p q s t =
+group-put {o} {from} level tree width depth groups g first {o1} {o2} {o3} {o4} {a} {b} {c} {r} e p q s t =
     same-put o from _ (openingSize width depth) _ (groupBytes (words level) tree width depth groups g) o4 r (omega arith) refl
-    (then-put o from _ _ o3 c _ _ o4 r (then-put o from _ _ o2 b _ _ o3 c (then-put o from _ _ o1 a _ _ o2 b p q) s) t)
+    (then-put o from _ _ o3 c _ _ o4 r (then-put o from _ _ o2 b _ _ o3 c (then-put o from _ _ o1 a _ _ o2 b p (rw e at q)) s) t)
 
 -- c groups from g on
 unfoldable pub groupsBytes : List ℕ → List ℕ → ℕ → ℕ → ℕ → ℕ → ℕ → List ℕ

@@ -6,6 +6,7 @@ use code_level::level_length;
 use code_level::level_width;
 use code_level::size_number;
 use field_bytes::put_words;
+use tree_place::Group;
 use tree_walk::put_path;
 ghost use mathlib.Core.Path.{_≡_};
 ghost use lib.ListN.{length};
@@ -15,6 +16,7 @@ ghost use Rattle.theory_record.specs.Sizes.{tailSize};
 ghost use Rattle.theory_record.specs.Build.{buildTailNumber, buildTail, tailBytes};
 ghost use Rattle.theory_record.proofs.BuildAllowed.{TailBuild};
 ghost use Rattle.theory_record.proofs.Ranges.{SizesFit};
+ghost use Rattle.tree_place.specs.Place.{number};
 ghost use Rattle.record_tail_build.specs.helpers.Groups.{GroupPut, Room};
 ghost use Rattle.record_tail_build.specs.helpers.Numbers.{buildNumber};
 
@@ -27,15 +29,16 @@ fn put_group(
     width: usize,
     depth: usize,
     groups: usize,
-    g: usize,
+    group: Group,
 ) -> usize
-    requires { ⌜ Room (length (now out)) from (length (now level)) (length (now tree)) width depth groups g ⌝ }
-    ensures { λ r. ⌜ GroupPut (now (out .entry)) from (now (level .entry)) (now (tree .entry)) width depth groups g (now (out .exit)) r ⌝ }
+    requires { ⌜ Room (length (now out)) from (length (now level)) (length (now tree)) width depth groups (number group) ⌝ }
+    ensures { λ r. ⌜ GroupPut (now (out .entry)) from (now (level .entry)) (now (tree .entry)) width depth groups (number group) (now (out .exit)) r ⌝ }
 {
+    let first = group.first_place(width);
     let a = put_number(out, from, width as u64, 4);
-    let b = put_words(out, a, level, g * width, width);
+    let b = put_words(out, a, level, first.index(), width);
     let c = put_number(out, b, depth as u64, 4);
-    put_path(out, c, tree, 0, depth, groups, g)
+    put_path(out, c, tree, 0, depth, groups, group)
 }
 
 // Every group of the last level, rising, after their count.
@@ -49,7 +52,8 @@ fn put_groups(out: &mut [u8], level: &[u64], tree: &[u8], n: usize, k: usize) ->
     let mut at = put_number(out, 0, groups as u64, 4);
     let mut g: usize = 0;
     while g < groups {
-        at = put_group(out, at, level, tree, width, depth, groups, g);
+        let group = Group::numbered(g);
+        at = put_group(out, at, level, tree, width, depth, groups, group);
         g += 1;
     }
     at

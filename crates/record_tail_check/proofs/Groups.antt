@@ -74,7 +74,7 @@ module _ {base : List ℕ} {n k : ℕ} {s : List ℕ} (z : Allowed base n k s) {
     pub rest-there : wholeItems tailForm (c - (g + 1)) (drop (v .next) s) ≡ true
     rest-there = group-more s i c g true v ev h w (ap not there)
 
-    pub group-readable : Readable (scheme base n k) n s i (v .path)
+    pub group-readable : Readable (scheme base n k) n s i (v .«path_at»)
     unfolding tailGroupFits
     group-readable =
         let p = group-places s i v ev in
@@ -102,13 +102,15 @@ begin-groups base n k root claim s c e =
     rw z
 
 module _ (base : List ℕ) (n k : ℕ) (root : List ℕ) (claim : ℕ) (s : List ℕ) (c i g : ℕ) {r : ℕ} (e : groupsLeft base n k root claim s c i g ≡ r) where
-  module _ {v : TailGroup} {q w : ℕ} (ev : v ≡ groupAt s i) (eq : q ≡ openingNumber (scheme base n k) n (g * w) (valuesAt s i) (digestsAt s (v .path)) root 28)
+  module _ {v : TailGroup} {q w first : ℕ} (ev : v ≡ groupAt s i) (ef : first ≡ g * w)
+      (eq : q ≡ openingNumber (scheme base n k) n first (valuesAt s i) (digestsAt s (v .«path_at»)) root 28)
       (ew : w ≡ levelWidth present n k n) (h : g < c) where
     number-is : q ≡ firstNo (groupQuestions (scheme base n k) root g (tailGroupOf (drop i s)))
     unfolding openingNumber valuesAt digestsAt tailGroupOf
     number-is =
         let p = group-places s i v ev .path in
-        rw (← p) (eq ∙ ap (λ (x : ℕ). openingNumber (scheme base n k) n (g * x) (valuesAt s i) (digestsAt s (v .path)) root 28) ew)
+        rw (← p)
+        (eq ∙ ap (λ (x : ℕ). openingNumber (scheme base n k) n x (valuesAt s i) (digestsAt s (v .«path_at»)) root 28) (ef ∙ ap (λ (x : ℕ). g * x) ew))
 
     pub group-refused : (q ≡ 0 → ⊥) → q ≡ r
     unfolding groupsLeft

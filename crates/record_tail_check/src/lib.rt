@@ -10,6 +10,7 @@ use record_reader::count_at;
 use record_reader::group_at;
 use record_reader::tail_whole;
 use record_reader::word_at;
+use tree_place::Group;
 ghost use mathlib.Core.Path.{_≡_};
 ghost use Prim.Native.Nat.{_<_};
 ghost use Rattle.field_gf128.specs.Word.{word};
@@ -40,7 +41,8 @@ fn groups_number(base: &[u8], n: usize, k: usize, root: [u8; 32], claim: Word, s
     let mut at: usize = 4;
     while g < groups {
         let v = group_at(s, at);
-        let q = opening_number(base, n, k, n, g * width, s, at, v.path, root, 28);
+        let first = Group::numbered(g).first_place(width);
+        let q = opening_number(base, n, k, n, first, s, at, v.path_at, root, 28);
         if q != 0 {
             return q;
         }

@@ -261,7 +261,7 @@ pub extern "C" fn dequmlo_test_leaf_digest(
     place: usize,
     values: &[u64],
 ) -> Digested {
-    tree_digest::leaf_digest(domain, count, width, Place(place), values)
+    tree_digest::leaf_digest(domain, count, width, Place::at(place), values)
 }
 
 #[no_mangle]
@@ -282,7 +282,7 @@ pub extern "C" fn dequmlo_test_open(
     tree: &[u8],
     path: &mut [u8],
 ) -> u32 {
-    tree_path::open(count, width, Place(place), tree, path)
+    tree_path::open(count, width, Place::at(place), tree, path)
 }
 
 #[no_mangle]
@@ -294,7 +294,7 @@ pub extern "C" fn dequmlo_test_root_of_path(
     values: &[u64],
     path: &[u8],
 ) -> Digested {
-    tree_path::root_of_path(domain, count, width, Place(place), values, path)
+    tree_path::root_of_path(domain, count, width, Place::at(place), values, path)
 }
 
 // A number, and the level for 16 to 26.
@@ -314,7 +314,8 @@ pub extern "C" fn dequmlo_test_check_query(
     roots: &[u8],
     s: &[u8],
 ) -> NumberedLevel {
-    let a = record_query_check::check_query(base, n, k, position, challenges, roots, s);
+    let place = Place::at(position);
+    let a = record_query_check::check_query(base, n, k, place, challenges, roots, s);
     NumberedLevel {
         number: a.number,
         level: a.level,
@@ -353,7 +354,7 @@ pub extern "C" fn dequmlo_test_build_query(
     k: usize,
     position: usize,
 ) -> u32 {
-    record_query_build::build_query(out, levels, trees, n, k, position)
+    record_query_build::build_query(out, levels, trees, n, k, Place::at(position))
 }
 
 #[no_mangle]

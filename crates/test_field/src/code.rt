@@ -3,33 +3,27 @@ use test_lines::answer::Answer;
 use test_lines::answer::no_room;
 use test_lines::answer::one;
 use test_lines::answer::two;
+use test_lines::request::Numbers;
 use test_lines::words::first;
 
-fn fold(n: [usize; 8], a: &[u64], b: &[u64], w: &mut [u64]) -> Answer {
-    let r = code_codeword::fold(n[0], n[1], n[2], first(a), b, w);
+fn fold(n: Numbers, a: &[u64], b: &[u64], w: &mut [u64]) -> Answer {
+    let r = code_codeword::fold(n.0, n.1, n.2, first(a), b, w);
     two(r.number, r.n)
 }
 
 // The length of a gamma's message.
-fn gamma_message(n: [usize; 8], s: &[u8]) -> Answer {
+fn gamma_message(n: Numbers, s: &[u8]) -> Answer {
     if s.len() > 200 {
         return no_room();
     }
-    two(0, code_gamma::message::size(n[0], n[1], s, n[2], n[3]))
+    two(0, code_gamma::message::size(n.0, n.1, s, n.2, n.3))
 }
 
-pub fn answer(
-    place: usize,
-    n: [usize; 8],
-    a: &[u64],
-    b: &[u64],
-    s: &[u8],
-    w: &mut [u64],
-) -> Answer {
+pub fn answer(place: usize, n: Numbers, a: &[u64], b: &[u64], s: &[u8], w: &mut [u64]) -> Answer {
     match place {
-        0 => one(code_gamma::derive(n[0], n[1], s, w)),
-        1 => one(code_codeword::l_of(n[0], n[1], n[2], a, w)),
-        2 => one(code_codeword::encode(n[0], n[1], a, b, w)),
+        0 => one(code_gamma::derive(n.0, n.1, s, w)),
+        1 => one(code_codeword::l_of(n.0, n.1, n.2, a, w)),
+        2 => one(code_codeword::encode(n.0, n.1, a, b, w)),
         3 => fold(n, a, b, w),
         4 => gamma_message(n, s),
         _ => no_room(),

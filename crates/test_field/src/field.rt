@@ -3,6 +3,7 @@ use field_gf128::Word;
 use test_lines::answer::Answer;
 use test_lines::answer::no_room;
 use test_lines::answer::one;
+use test_lines::request::Numbers;
 use test_lines::words::coefficients;
 use test_lines::words::coordinates;
 use test_lines::words::copy;
@@ -75,7 +76,7 @@ fn axpy_run(a: &[u64], b: &[u64], c: &[u64], w: &mut [u64]) -> Answer {
 // The operations on tables.
 pub fn table(
     place: usize,
-    n: [usize; 8],
+    n: Numbers,
     a: &[u64],
     b: &[u64],
     c: &[u64],
@@ -84,7 +85,7 @@ pub fn table(
 ) -> Answer {
     match place {
         0 => one(field_pack::pack_table(s, w)),
-        1 => one(field_equality::eq_table(n[0], a, w)),
+        1 => one(field_equality::eq_table(n.0, a, w)),
         2 => mul_run(a, b, w),
         3 => axpy_run(a, b, c, w),
         _ => no_room(),

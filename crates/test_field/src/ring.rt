@@ -2,6 +2,7 @@
 use test_lines::answer::Answer;
 use test_lines::answer::no_room;
 use test_lines::answer::one;
+use test_lines::request::Numbers;
 use test_lines::words::coefficients;
 use test_lines::words::put;
 
@@ -19,19 +20,12 @@ fn eval_at(n: usize, a: &[u64], b: &[u64], c: &[u64], w: &mut [u64]) -> Answer {
     one(r.number)
 }
 
-pub fn answer(
-    place: usize,
-    n: [usize; 8],
-    a: &[u64],
-    b: &[u64],
-    c: &[u64],
-    w: &mut [u64],
-) -> Answer {
+pub fn answer(place: usize, n: Numbers, a: &[u64], b: &[u64], c: &[u64], w: &mut [u64]) -> Answer {
     match place {
-        0 => one(ring_partials::partial_evals(n[0], a, b, w)),
+        0 => one(ring_partials::partial_evals(n.0, a, b, w)),
         1 => fold_partials(a, b, w),
-        2 => one(ring_indicator::materialize(n[0], a, coefficients(b), w)),
-        3 => eval_at(n[0], a, b, c, w),
+        2 => one(ring_indicator::materialize(n.0, a, coefficients(b), w)),
+        3 => eval_at(n.0, a, b, c, w),
         _ => no_room(),
     }
 }

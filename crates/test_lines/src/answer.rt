@@ -1,49 +1,55 @@
 // An answer: up to four numbers, then the outputs. An output of at most 64 bytes is printed as it is, words 32 digits each and joined by commas,
 // half of one after `h`; of a longer one `#` and the first 16 bytes of its digest; of none `-`.
 ghost use mathlib.Core.Path.{_≡_};
-ghost use Prim.Native.Nat.{_<_};
 ghost use lib.ListN.{length};
 use crate::bytes::half_in;
 use crate::bytes::put;
 use crate::bytes::put_bytes;
 use crate::parts::halves;
 use crate::parts::part;
-use crate::request::Request;
+use crate::request::OUT_BYTES;
+use crate::request::OUT_WORDS;
+use crate::request::item;
+use crate::text::put_backwards;
 use crate::text::put_decimal;
-use crate::text::put_half;
 use crate::text::put_hex;
 use libc::STDOUT_FILENO;
 
 pub struct Answer {
     pub count: usize,
-    pub numbers: [u64; 4],
+    pub a: u64,
+    pub b: u64,
+    pub c: u64,
+    pub d: u64,
 }
 
 pub fn one(a: u32) -> Answer {
     Answer {
         count: 1,
-        numbers: [a as u64, 0, 0, 0],
+        a: a as u64,
+        b: 0,
+        c: 0,
+        d: 0,
     }
 }
 
 pub fn two(a: u32, b: usize) -> Answer {
     Answer {
         count: 2,
-        numbers: [a as u64, b as u64, 0, 0],
+        a: a as u64,
+        b: b as u64,
+        c: 0,
+        d: 0,
     }
 }
 
 pub fn three(a: u32, b: usize, c: usize) -> Answer {
     Answer {
         count: 3,
-        numbers: [a as u64, b as u64, c as u64, 0],
-    }
-}
-
-pub fn four(a: u32, b: usize, c: usize, d: usize) -> Answer {
-    Answer {
-        count: 4,
-        numbers: [a as u64, b as u64, c as u64, d as u64],
+        a: a as u64,
+        b: b as u64,
+        c: c as u64,
+        d: 0,
     }
 }
 
@@ -52,36 +58,20 @@ pub fn no_room() -> Answer {
     one(99)
 }
 
-// What an output holds before it is lent.
-pub fn fill(out: &mut [u8]) {
-    let mut i: usize = 0;
-    while i < out.len() {
-        out[i] = 0xa5;
-        i += 1;
+// A blank and number i of an answer, where it has so many.
+fn put_number(out: &mut [u8], at: usize, i: usize, count: usize, x: u64) -> usize {
+    if count <= i {
+        return at;
     }
-}
-
-pub fn fill_halves(out: &mut [u64]) {
-    let mut i: usize = 0;
-    while i < out.len() {
-        out[i] = 0xa5a5_a5a5_a5a5_a5a5;
-        i += 1;
-    }
+    let blank = put(out, at, 32);
+    put_decimal(out, blank, x)
 }
 
 fn put_numbers(out: &mut [u8], at: usize, a: Answer) -> usize {
-    let numbers = a.numbers;
-    let mut end = at;
-    let mut i: usize = 0;
-    while i < 4 {
-        if a.count <= i {
-            return end;
-        }
-        let blank = put(out, end, 32);
-        end = put_decimal(out, blank, numbers[i]);
-        i += 1;
-    }
-    end
+    let first = put_number(out, at, 0, a.count, a.a);
+    let second = put_number(out, first, 1, a.count, a.b);
+    let third = put_number(out, second, 2, a.count, a.c);
+    put_number(out, third, 3, a.count, a.d)
 }
 
 // The first 16 bytes of the digest of bytes.
@@ -89,18 +79,7 @@ fn put_digest(out: &mut [u8], at: usize, s: &[u8]) -> usize {
     let d = hash_hasher::whole::digest(s);
     let bytes = d.bytes;
     let mark = put(out, at, b'#');
-    put_hex(out, mark, &bytes, 16)
-}
-
-fn put_output(out: &mut [u8], at: usize, s: &[u8]) -> usize {
-    let blank = put(out, at, 32);
-    if s.len() == 0 {
-        return put(out, blank, b'-');
-    }
-    if 64 < s.len() {
-        return put_digest(out, blank, s);
-    }
-    put_hex(out, blank, s, s.len())
+    put_hex(out, mark, part(&bytes, 0, 16))
 }
 
 // A comma, unless the first item follows.
@@ -111,30 +90,43 @@ fn put_comma(out: &mut [u8], at: usize, i: usize) -> usize {
     put(out, at, b',')
 }
 
-// Half of a word after `h`, or a word, whose high half comes first.
-fn put_item(out: &mut [u8], at: usize, s: &[u64], i: usize) -> usize
-    requires { ⌜ i < length (now s) ⌝ }
-{
+// A word, or what is left of one after `h`, the highest byte first.
+fn put_word(out: &mut [u8], at: usize, s: &[u8], i: usize) -> usize {
     let comma = put_comma(out, at, i);
-    if i + 1 < s.len() {
-        let high = put_half(out, comma, half_in(s, i + 1));
-        return put_half(out, high, half_in(s, i));
+    let left = part(s, i, s.len());
+    if 16 <= left.len() {
+        return put_backwards(out, comma, part(left, 0, 16));
     }
     let mark = put(out, comma, b'h');
-    put_half(out, mark, half_in(s, i))
+    put_backwards(out, mark, left)
 }
 
-fn put_words(out: &mut [u8], at: usize, s: &[u64]) -> usize {
+fn put_words(out: &mut [u8], at: usize, s: &[u8]) -> usize {
     let mut end = at;
     let mut i: usize = 0;
     while i < s.len() {
-        end = put_item(out, end, s, i);
-        if s.len() - i < 2 {
+        end = put_word(out, end, s, i);
+        if s.len() - i < 16 {
             return end;
         }
-        i += 2;
+        i += 16;
     }
     end
+}
+
+// An output, as its bytes; in digits of words where it is words.
+fn put_output(out: &mut [u8], at: usize, s: &[u8], words: bool) -> usize {
+    let blank = put(out, at, 32);
+    if s.len() == 0 {
+        return put(out, blank, b'-');
+    }
+    if 64 < s.len() {
+        return put_digest(out, blank, s);
+    }
+    if words {
+        return put_words(out, blank, s);
+    }
+    put_hex(out, blank, s)
 }
 
 // The bytes of halves, in a buffer.
@@ -142,54 +134,40 @@ fn put_all_bytes(bytes: &mut [u8], s: &[u64]) -> usize {
     let mut end: usize = 0;
     let mut i: usize = 0;
     while i < s.len() {
-        end = put_bytes(bytes, end, s[i]);
+        end = put_bytes(bytes, end, half_in(s, i));
         i += 1;
     }
     end
 }
 
-fn put_output_words(out: &mut [u8], at: usize, s: &[u64], bytes: &mut [u8]) -> usize {
-    let blank = put(out, at, 32);
-    if s.len() == 0 {
-        return put(out, blank, b'-');
-    }
-    if 8 < s.len() {
-        let end = put_all_bytes(bytes, s);
-        return put_digest(out, blank, part(bytes, 0, end));
-    }
-    put_words(out, blank, s)
+fn put_output_words(out: &mut [u8], at: usize, s: &[u64]) -> usize {
+    let mut bytes = [0u8; 65536];
+    let end = put_all_bytes(&mut bytes, s);
+    put_output(out, at, part(&bytes, 0, end), true)
 }
 
 // The outputs of words, as many as a request has.
-fn put_both_words(
-    out: &mut [u8],
-    at: usize,
-    r: Request,
-    first: &[u64],
-    second: &[u64],
-    bytes: &mut [u8],
-) -> usize {
-    if r.out_words < 1 {
+fn put_both_words(out: &mut [u8], at: usize, head: &[u64], w: &[u64], x: &[u64]) -> usize {
+    if half_in(head, OUT_WORDS) < 1 {
         return at;
     }
-    let outputs = r.outputs;
-    let end = put_output_words(out, at, halves(first, 0, outputs[0]), bytes);
-    if r.out_words < 2 {
+    let end = put_output_words(out, at, halves(w, 0, item(head, OUT_WORDS, 0)));
+    if half_in(head, OUT_WORDS) < 2 {
         return end;
     }
-    put_output_words(out, end, halves(second, 0, outputs[1]), bytes)
+    put_output_words(out, end, halves(x, 0, item(head, OUT_WORDS, 1)))
 }
 
-fn put_both_bytes(out: &mut [u8], at: usize, r: Request, first: &[u8], second: &[u8]) -> usize {
-    if r.out_bytes < 3 {
+// The outputs of bytes.
+fn put_both_bytes(out: &mut [u8], at: usize, head: &[u64], y: &[u8], z: &[u8]) -> usize {
+    if half_in(head, OUT_BYTES) < 1 {
         return at;
     }
-    let outputs = r.outputs;
-    let end = put_output(out, at, part(first, 0, outputs[2]));
-    if r.out_bytes < 4 {
+    let end = put_output(out, at, part(y, 0, item(head, OUT_BYTES, 0)), false);
+    if half_in(head, OUT_BYTES) < 2 {
         return end;
     }
-    put_output(out, end, part(second, 0, outputs[3]))
+    put_output(out, end, part(z, 0, item(head, OUT_BYTES, 1)), false)
 }
 
 // Ends a line and writes it.
@@ -198,21 +176,30 @@ pub fn print(out: &mut [u8], at: usize) {
     io::write_all(STDOUT_FILENO, part(out, 0, end));
 }
 
-// Prints a line's number, the answer's numbers and the outputs.
+// Prints a line's number, the answer's numbers and the outputs: w and x are words, y and z bytes.
 pub fn print_answer(
     line: usize,
-    r: Request,
+    head: &[u64],
     a: Answer,
     w: &[u64],
     x: &[u64],
-    b: &[u8],
-    c: &[u8],
-    bytes: &mut [u8],
-    out: &mut [u8],
+    y: &[u8],
+    z: &[u8],
 ) {
-    let numbered = put_decimal(out, 0, line as u64);
-    let answered = put_numbers(out, numbered, a);
-    let words = put_both_words(out, answered, r, w, x, bytes);
-    let end = put_both_bytes(out, words, r, b, c);
-    print(out, end);
+    let mut out = [0u8; 1024];
+    let numbered = put_decimal(&mut out, 0, line as u64);
+    let answered = put_numbers(&mut out, numbered, a);
+    let words = put_both_words(&mut out, answered, head, w, x);
+    let end = put_both_bytes(&mut out, words, head, y, z);
+    print(&mut out, end);
+}
+
+// The same, where all outputs are one of words.
+pub fn print_words(line: usize, head: &[u64], a: Answer, w: &[u64]) {
+    print_answer(line, head, a, w, &[], &[], &[]);
+}
+
+// The same, where all outputs are one of bytes.
+pub fn print_bytes(line: usize, head: &[u64], a: Answer, y: &[u8]) {
+    print_answer(line, head, a, &[], &[], y, &[]);
 }

@@ -1,6 +1,8 @@
 // Bytes and halves of words in lent buffers: read past the end as 0, and put where there is room.
 ghost use mathlib.Core.Path.{_≡_};
 ghost use lib.ListN.{length};
+use bytes_numbers::low;
+use bytes_numbers::wide;
 use std::num::wrapping_add_usize;
 
 // The byte at a place; 0 past the end.
@@ -8,12 +10,9 @@ pub fn byte_at(s: &[u8], at: usize) -> u8 {
     if at < s.len() { s[at] } else { 0 }
 }
 
-pub fn wide(b: u8) -> u64 {
-    b as u64
-}
-
-pub fn low(x: u64) -> u8 {
-    (x % 256) as u8
+// The half at a place; 0 past the end.
+pub fn half_in(s: &[u64], at: usize) -> u64 {
+    if at < s.len() { s[at] } else { 0 }
 }
 
 // Puts a byte at a place, if there is room, and answers the next place.
@@ -58,11 +57,11 @@ pub fn half_at(s: &[u8], at: usize) -> u64 {
     x
 }
 
-// Puts the halves of so many bytes, and answers the next place.
-pub fn put_halves(out: &mut [u64], at: usize, s: &[u8], from: usize, count: usize) -> usize {
+// Puts the halves whose bytes are lent, and answers the next place.
+pub fn put_halves(out: &mut [u64], at: usize, s: &[u8]) -> usize {
     let mut end = at;
-    let mut place = from;
-    let mut left = count / 8;
+    let mut place: usize = 0;
+    let mut left = s.len() / 8;
     while 0 < left {
         end = put_half(out, end, half_at(s, place));
         place = wrapping_add_usize(place, 8);
@@ -82,9 +81,4 @@ pub fn put_part(out: &mut [u8], at: usize, s: &[u8], from: usize, count: usize) 
         left -= 1;
     }
     end
-}
-
-// The half at a place; 0 past the end.
-pub fn half_in(s: &[u64], at: usize) -> u64 {
-    if at < s.len() { s[at] } else { 0 }
 }

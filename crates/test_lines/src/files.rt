@@ -1,55 +1,71 @@
 // Files of lines: read whole, and what their lines keep for later ones.
 ghost use mathlib.Core.Path.{_≡_};
-ghost use Prim.Native.Nat.{_≤_};
+ghost use Prim.Native.Nat.{_<_};
 ghost use lib.ListN.{length};
 use crate::bytes::byte_at;
 use crate::bytes::put_part;
-use crate::pieces::find;
+use crate::parts::next;
+use crate::parts::part;
+use crate::parts::piece;
 use crate::pieces::put_argument;
-use crate::text::put_text;
 
-// Reads the file with a name, as much as there is room for, and answers how much that is.
-pub fn read(name: &[u8], out: &mut [u8]) -> usize {
+// A file: its bytes, and how many they are.
+pub struct File {
+    pub bytes: [u8; 262144],
+    pub len: usize,
+}
+
+fn room() -> [u8; 262144]
+    ensures { λ r. ⌜ 262144 ≡ length r ⌝ }
+{
+    [0; 262144]
+}
+
+// Prints the name of a file, and reads as much of it as there is room for.
+pub fn read(name: &[u8]) -> File {
+    print_name(name);
+    let mut bytes = room();
     let file = os::open_read(name);
     if file < 0 {
         os::fail(name);
-        return 0;
+        return File { bytes, len: 0 };
     }
-    let n = io::read_full(file, out);
+    let len = io::read_full(file, &mut bytes);
     libc::close(file);
-    n
+    File { bytes, len }
 }
 
-// What a line is: nothing to be answered, bytes to be kept, or a request.
-pub enum Kind {
-    Remark,
-    Kept,
-    Request,
-}
-
-pub fn kind_of(s: &[u8]) -> Kind {
+// Is a line a request? Others are empty, a remark, or bytes to be kept.
+pub fn is_request(s: &[u8]) -> bool {
     match byte_at(s, 0) {
-        0 | b'#' => Kind::Remark,
-        b'=' => Kind::Kept,
-        _ => Kind::Request,
+        0 | b'#' | b'=' => false,
+        _ => true,
     }
 }
 
-// Keeps the bytes that a line has after `= `, past those that are kept, and answers how many are.
-pub fn keep(s: &[u8], store: &mut [u8], stored: usize, bytes: &mut [u8]) -> usize {
-    let end = put_argument(s, 2, s.len(), false, &[], bytes, 0);
-    put_part(store, stored, bytes, 0, end)
+// Puts the bytes that a line has after `= `, if it has any, and answers the next place.
+fn keep(s: &[u8], store: &mut [u8], at: usize) -> usize {
+    if byte_at(s, 0) != b'=' {
+        return at;
+    }
+    put_argument(part(s, 2, s.len()), false, &[], store, at)
+}
+
+// What the lines of a file keep.
+pub fn kept(file: &[u8]) -> [u8; 65536] {
+    let mut store = [0u8; 65536];
+    let mut end: usize = 0;
+    let mut from: usize = 0;
+    while from < file.len() {
+        end = keep(piece(file, from, 10), &mut store, end);
+        from = next(file, from, 10);
+    }
+    store
 }
 
 // Prints the name of a file.
-pub fn print_name(name: &[u8], out: &mut [u8]) {
-    let end = put_text(out, 0, name);
-    crate::answer::print(out, end);
-}
-
-// Where the line that begins at a place ends.
-pub fn end_of_line(file: &[u8], from: usize) -> usize
-    ensures { λ r. ⌜ from ≤ r ⌝ }
-{
-    find(file, from, file.len(), 10)
+fn print_name(name: &[u8]) {
+    let mut out = [0u8; 64];
+    let end = put_part(&mut out, 0, name, 0, name.len());
+    crate::answer::print(&mut out, end);
 }

@@ -1,258 +1,169 @@
 // A request: the operation that a line names, and what it is lent. A program has a table of its operations, a line for each: its name, and a
 // letter for each argument. `n` is a number; `w` words, `l` a list of numbers, `b` bytes, each put after the last; `W` and `B` are how many
-// halves of words and bytes an output has. With no argument `o` is an output of one word, `c` of 128 words, `d` of a digest.
+// halves of words and bytes an output has. With no argument, at the end, `o` is an output of one word, `c` of 128 words, `d` of a digest.
+//
+// What a request says stands in the head of the buffer of words, in rows of 8 halves: how many items a row has, and then these. They are the
+// numbers, where each input begins and the last one ends of those that are words and those that are bytes, and the lengths of the outputs.
 ghost use mathlib.Core.Path.{_≡_};
 ghost use lib.ListN.{length};
 use crate::bytes::byte_at;
+use crate::bytes::half_in;
+use crate::bytes::put_half;
 use crate::bytes::put_halves;
+use crate::parts::begins;
+use crate::parts::halves;
+use crate::parts::next;
+use crate::parts::part;
+use crate::parts::piece;
 use crate::pieces::decimal;
-use crate::pieces::find;
 use crate::pieces::put_argument;
 use crate::pieces::put_numbers;
+use std::num::wrapping_add_u64;
 use std::num::wrapping_add_usize;
-use std::num::wrapping_sub_usize;
 
-// The operation's place in the table, the numbers, where each input ends that is words and that is bytes, and how long the outputs are: two of
-// words, two of bytes. And how many there are of each.
-pub struct Request {
-    pub operation: usize,
-    pub numbers: [usize; 8],
-    pub number_count: usize,
-    pub words: [usize; 8],
-    pub words_count: usize,
-    pub bytes: [usize; 8],
-    pub bytes_count: usize,
-    pub outputs: [usize; 4],
-    pub out_words: usize,
-    pub out_bytes: usize,
+// Where the rows begin, and what is past them.
+const NUMBERS: usize = 0;
+
+const WORDS: usize = 8;
+
+const BYTES: usize = 16;
+
+pub const OUT_WORDS: usize = 24;
+
+pub const OUT_BYTES: usize = 32;
+
+const HEAD: usize = 40;
+
+// Item i of a row; 0 where it has none.
+pub fn item(head: &[u64], row: usize, i: usize) -> usize {
+    half_in(head, wrapping_add_usize(wrapping_add_usize(row, i), 1)) as usize
 }
 
-fn none(operation: usize) -> Request {
-    Request {
-        operation,
-        numbers: [0; 8],
-        number_count: 0,
-        words: [0; 8],
-        words_count: 0,
-        bytes: [0; 8],
-        bytes_count: 0,
-        outputs: [0; 4],
-        out_words: 0,
-        out_bytes: 2,
-    }
+// The last item of a row; 0 where it has none.
+fn last(head: &[u64], row: usize) -> usize {
+    half_in(head, wrapping_add_usize(row, half_in(head, row) as usize)) as usize
 }
 
-fn with_number(r: Request, x: usize) -> Request {
-    let i = r.number_count;
-    if 8 <= i {
-        return r;
-    }
-    let mut next = r;
-    next.numbers[i] = x;
-    next.number_count = i + 1;
-    next
+// Puts an item more into a row.
+fn push(head: &mut [u64], row: usize, x: usize) {
+    let count = wrapping_add_u64(half_in(head, row), 1);
+    put_half(head, row, count);
+    put_half(head, wrapping_add_usize(row, count as usize), x as u64);
 }
 
-// With another input of words, which ends at a place.
-fn with_words(r: Request, end: usize) -> Request {
-    let i = r.words_count;
-    if 7 <= i {
-        return r;
-    }
-    let mut next = r;
-    next.words[i + 1] = end;
-    next.words_count = i + 1;
-    next
-}
+// The first four numbers of a request.
+pub struct Numbers(pub usize, pub usize, pub usize, pub usize);
 
-fn with_bytes(r: Request, end: usize) -> Request {
-    let i = r.bytes_count;
-    if 7 <= i {
-        return r;
-    }
-    let mut next = r;
-    next.bytes[i + 1] = end;
-    next.bytes_count = i + 1;
-    next
-}
-
-fn with_out_words(r: Request, count: usize) -> Request {
-    let i = r.out_words;
-    if 4 <= i {
-        return r;
-    }
-    let mut next = r;
-    next.outputs[i] = count;
-    next.out_words = i + 1;
-    next
-}
-
-fn with_out_bytes(r: Request, count: usize) -> Request {
-    let i = r.out_bytes;
-    if 4 <= i {
-        return r;
-    }
-    let mut next = r;
-    next.outputs[i] = count;
-    next.out_bytes = i + 1;
-    next
-}
-
-// Where input i of words, or of bytes, begins, and where the next one does.
-pub fn words_at(r: Request, i: usize) -> usize {
-    if i < 8 { r.words[i] } else { 0 }
-}
-
-pub fn bytes_at(r: Request, i: usize) -> usize {
-    if i < 8 { r.bytes[i] } else { 0 }
-}
-
-// Whether a letter stands for an output with no argument.
-fn is_bare(letter: u8) -> bool {
-    match letter {
-        b'o' | b'c' | b'd' => true,
-        _ => false,
-    }
-}
-
-// Where the argument for a letter ends.
-fn end_of(letter: u8, s: &[u8], from: usize) -> usize {
-    if is_bare(letter) {
-        return from;
-    }
-    find(s, from, s.len(), b' ')
-}
-
-// Where the next argument begins.
-fn next_of(letter: u8, end: usize) -> usize {
-    if is_bare(letter) {
-        return end;
-    }
-    wrapping_add_usize(end, 1)
-}
-
-// With an output that is asked for by its length, or by a letter alone.
-fn with_output(r: Request, letter: u8, count: usize) -> Request {
-    match letter {
-        b'o' => with_out_words(r, 2),
-        b'c' => with_out_words(r, 256),
-        b'd' => with_out_bytes(r, 32),
-        b'W' => with_out_words(r, count),
-        _ => with_out_bytes(r, count),
-    }
-}
-
-// With the words of an argument: their bytes lie past the last bytes for a moment.
-fn with_word_list(
-    r: Request,
-    s: &[u8],
-    from: usize,
-    to: usize,
-    store: &[u8],
-    bytes: &mut [u8],
-    words: &mut [u64],
-) -> Request {
-    let at = bytes_at(r, r.bytes_count);
-    let end = put_argument(s, from, to, true, store, bytes, at);
-    let start = words_at(r, r.words_count);
-    with_words(
-        r,
-        put_halves(words, start, bytes, at, wrapping_sub_usize(end, at)),
+pub fn numbers_in(words: &[u64]) -> Numbers {
+    Numbers(
+        item(words, NUMBERS, 0),
+        item(words, NUMBERS, 1),
+        item(words, NUMBERS, 2),
+        item(words, NUMBERS, 3),
     )
 }
 
-// With an argument that a letter of the table asks for.
-fn with_argument(
-    r: Request,
-    letter: u8,
-    s: &[u8],
-    from: usize,
-    to: usize,
-    store: &[u8],
-    bytes: &mut [u8],
-    words: &mut [u64],
-) -> Request {
+// Input i of those that are words.
+pub fn words_in(words: &[u64], i: usize) -> &[u64] {
+    halves(
+        words,
+        item(words, WORDS, i),
+        item(words, WORDS, wrapping_add_usize(i, 1)),
+    )
+}
+
+// Input i of those that are bytes.
+pub fn bytes_in<'a>(words: &[u64], bytes: &'a [u8], i: usize) -> &'a [u8] {
+    part(
+        bytes,
+        item(words, BYTES, i),
+        item(words, BYTES, wrapping_add_usize(i, 1)),
+    )
+}
+
+// The row for a letter.
+fn row_of(letter: u8) -> usize {
     match letter {
-        b'n' => with_number(r, decimal(s, from, to)),
-        b'l' => with_words(
-            r,
-            put_numbers(s, from, to, words, words_at(r, r.words_count)),
-        ),
-        b'w' => with_word_list(r, s, from, to, store, bytes, words),
-        b'b' => with_bytes(
-            r,
-            put_argument(s, from, to, false, store, bytes, bytes_at(r, r.bytes_count)),
-        ),
-        _ => with_output(r, letter, decimal(s, from, to)),
+        b'n' => NUMBERS,
+        b'l' | b'w' => WORDS,
+        b'b' => BYTES,
+        b'B' | b'd' => OUT_BYTES,
+        _ => OUT_WORDS,
     }
 }
 
-// The arguments from a place of a line on, as the letters from a place of the table on ask for them.
+// Puts the words of an argument after those before; their bytes lie past the last bytes for a moment.
+fn put_words(s: &[u8], store: &[u8], bytes: &mut [u8], words: &mut [u64]) -> usize {
+    let at = last(words, BYTES);
+    let end = put_argument(s, true, store, bytes, at);
+    let from = last(words, WORDS);
+    put_halves(words, from, part(bytes, at, end))
+}
+
+// What the argument for a letter comes to: a number, a length, or where the input ends that it puts.
+fn value(letter: u8, s: &[u8], store: &[u8], bytes: &mut [u8], words: &mut [u64]) -> usize {
+    let from = last(words, WORDS);
+    match letter {
+        b'c' => 256,
+        b'd' => 32,
+        b'o' => 2,
+        b'b' => put_argument(s, false, store, bytes, last(words, BYTES)),
+        b'l' => put_numbers(s, words, from),
+        b'w' => put_words(s, store, bytes, words),
+        _ => decimal(s),
+    }
+}
+
+// The arguments from a place of a line on, as letters ask for them.
 fn arguments(
-    r: Request,
-    table: &[u8],
-    letters: usize,
+    letters: &[u8],
     s: &[u8],
     from: usize,
     store: &[u8],
     bytes: &mut [u8],
     words: &mut [u64],
-) -> Request {
-    let mut all = r;
-    let mut next = from;
-    let mut at = letters;
-    while at < table.len() {
-        let letter = table[at];
+) {
+    let mut place = from;
+    let mut at: usize = 0;
+    while at < letters.len() {
+        let letter = byte_at(letters, at);
+        let given = piece(s, place, b' ');
+        let x = value(letter, given, store, bytes, words);
+        push(words, row_of(letter), x);
+        place = wrapping_add_usize(wrapping_add_usize(place, given.len()), 1);
         at += 1;
-        if letter == 10 {
-            return all;
-        }
-        let end = end_of(letter, s, next);
-        let more = with_argument(all, letter, s, next, end, store, bytes, words);
-        all = more;
-        next = next_of(letter, end);
     }
-    all
 }
 
-// Whether the line's first word, which ends at a place, stands at a place of the table.
-fn is_named(table: &[u8], at: usize, s: &[u8], end: usize) -> bool {
-    let mut i: usize = 0;
-    while i < end {
-        if byte_at(table, wrapping_add_usize(at, i)) != byte_at(s, i) {
-            return false;
-        }
-        i += 1;
-    }
-    byte_at(table, wrapping_add_usize(at, i)) == b' '
+// A line of a table: its number, and where it begins.
+struct Found {
+    line: usize,
+    at: usize,
 }
 
-// What a line of a program with a table of operations asks for, and is lent. A name that the table has not gives the number of its lines.
-pub fn read(s: &[u8], table: &[u8], store: &[u8], bytes: &mut [u8], words: &mut [u64]) -> Request {
-    let end = find(s, 0, s.len(), b' ');
-    let from = wrapping_add_usize(end, 1);
-    let mut operation: usize = 0;
+// The line of a table that begins with a name and a blank; the one past the last where there is none.
+fn find_name(name: &[u8], table: &[u8]) -> Found {
+    let mut line: usize = 0;
     let mut at: usize = 0;
     while at < table.len() {
-        if is_named(table, at, s, end) {
-            let letters = wrapping_add_usize(at, from);
-            return arguments(
-                none(operation),
-                table,
-                letters,
-                s,
-                from,
-                store,
-                bytes,
-                words,
-            );
+        if begins(name, table, at) {
+            return Found { line, at };
         }
-        let next = find(table, at, table.len(), 10);
-        if table.len() <= next {
-            return none(operation);
-        }
-        at = next + 1;
-        operation = wrapping_add_usize(operation, 1);
+        line = wrapping_add_usize(line, 1);
+        at = next(table, at, 10);
     }
-    none(operation)
+    Found { line, at }
+}
+
+// What a line of a program with a table of operations asks for, and is lent: the operation's place in the table, or the number of its lines where
+// it has no such name. The words are lent with zeros.
+pub fn read(s: &[u8], table: &[u8], store: &[u8], bytes: &mut [u8], words: &mut [u64]) -> usize {
+    let name = piece(s, 0, b' ');
+    let found = find_name(name, table);
+    let from = wrapping_add_usize(name.len(), 1);
+    let letters = piece(table, wrapping_add_usize(found.at, from), 10);
+    push(words, WORDS, HEAD);
+    push(words, BYTES, 0);
+    arguments(letters, s, from, store, bytes, words);
+    found.line
 }

@@ -39,14 +39,9 @@ pub fn coordinates(s: &[u64]) -> [Word; 7] {
     ]
 }
 
-// Puts a word at a place, and answers the next place.
-fn put_at(out: &mut [u64], at: usize, w: Word) -> usize {
-    let high = put_half(out, at, w.lo);
-    put_half(out, high, w.hi)
-}
-
 pub fn put(out: &mut [u64], w: Word) {
-    put_at(out, 0, w);
+    put_half(out, 0, w.lo);
+    put_half(out, 1, w.hi);
 }
 
 pub fn put_coefficients(out: &mut [u64], c: [Word; 128]) {
@@ -54,7 +49,8 @@ pub fn put_coefficients(out: &mut [u64], c: [Word; 128]) {
     let mut b: usize = 0;
     while b < 128 {
         let w = c[b];
-        end = put_at(out, end, w);
+        let high = put_half(out, end, w.lo);
+        end = put_half(out, high, w.hi);
         b += 1;
     }
 }

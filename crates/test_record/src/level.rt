@@ -6,13 +6,17 @@ use test_lines::answer::no_room;
 use test_lines::answer::one;
 use test_lines::answer::three;
 use test_lines::bytes::put_part;
+use test_lines::request::Numbers;
 use test_lines::words::copy;
 
 // A length as the answer.
 fn length(x: usize) -> Answer {
     Answer {
         count: 1,
-        numbers: [x as u64, 0, 0, 0],
+        a: x as u64,
+        b: 0,
+        c: 0,
+        d: 0,
     }
 }
 
@@ -48,7 +52,10 @@ fn profile(n: usize, y: &mut [u8]) -> Answer {
     put_part(y, 0, &domain, 0, 24);
     Answer {
         count: 3,
-        numbers: [p.k as u64, p.queries as u64, p.length as u64, 0],
+        a: p.k as u64,
+        b: p.queries as u64,
+        c: p.length as u64,
+        d: 0,
     }
 }
 
@@ -59,9 +66,19 @@ fn tails(s: &[u8], w: &mut [u64]) -> Answer {
     three(r.number, r.n, r.k)
 }
 
-pub fn answer(
+pub fn answer(place: usize, n: usize, s: &[u8], y: &mut [u8]) -> Answer {
+    match place {
+        0 => length(code_level::fold_tree_width(n)),
+        1 => level_domain(n, s, y),
+        2 => profile(n, y),
+        _ => no_room(),
+    }
+}
+
+// The operations whose outputs are words.
+pub fn committed(
     place: usize,
-    n: [usize; 8],
+    n: Numbers,
     a: &[u64],
     s: &[u8],
     w: &mut [u64],
@@ -69,11 +86,8 @@ pub fn answer(
     y: &mut [u8],
 ) -> Answer {
     match place {
-        0 => length(code_level::fold_tree_width(n[0])),
-        1 => level_domain(n[0], s, y),
-        2 => profile(n[0], y),
-        3 => one(code_commit::commit(n[0], n[1], s, a, w, x, y)),
-        4 => tails(s, w),
+        0 => one(code_commit::commit(n.0, n.1, s, a, w, x, y)),
+        1 => tails(s, w),
         _ => no_room(),
     }
 }

@@ -1,171 +1,189 @@
 // Answers request lines on levels, commitments, query and tail records, two records compared and the whole run: the lines of the files in
 // data/, each of which says where its answers come from. tools/vectors.py writes the lines and what is to be printed.
 ghost use mathlib.Core.Path.{_≡_};
-ghost use Prim.Native.Nat.{_<_, _≤_};
 ghost use lib.ListN.{length};
 
 mod level;
+mod levels;
 mod many;
 mod pair;
 mod record;
 mod whole;
 
-use test_lines::answer::Answer;
-use test_lines::answer::fill;
-use test_lines::answer::fill_halves;
+use std::num::wrapping_add_usize;
 use test_lines::answer::no_room;
 use test_lines::answer::print_answer;
+use test_lines::answer::print_bytes;
 use test_lines::bytes::put_part;
 use test_lines::files;
-use test_lines::files::Kind;
 use test_lines::parts::first;
 use test_lines::parts::first_halves;
-use test_lines::parts::halves;
+use test_lines::parts::next;
 use test_lines::parts::part;
+use test_lines::parts::piece;
 use test_lines::request;
-use test_lines::request::Request;
-use test_lines::request::bytes_at;
-use test_lines::request::words_at;
+use test_lines::request::OUT_BYTES;
+use test_lines::request::OUT_WORDS;
+use test_lines::request::bytes_in;
+use test_lines::request::item;
+use test_lines::request::numbers_in;
+use test_lines::request::words_in;
 
-// Cuts the inputs of a request on levels.
-fn on_levels(
-    r: Request,
-    bytes: &[u8],
-    words: &[u64],
-    w: &mut [u64],
-    x: &mut [u64],
-    y: &mut [u8],
-) -> Answer {
-    let n = r.numbers;
-    let a = halves(words, 0, words_at(r, 1));
-    let s = part(bytes, 0, bytes_at(r, 1));
-    level::answer(r.operation % 8, n, a, s, w, x, y)
+// Each of these answers a request of one row of the table and prints the answer; the outputs hold what they hold before they are lent.
+
+fn on_levels(line: usize, place: usize, bytes: &[u8], words: &[u64]) {
+    let mut y = [0xa5u8; 1024];
+    let n = numbers_in(words);
+    let a = level::answer(
+        place,
+        n.0,
+        bytes_in(words, bytes, 0),
+        first(&mut y, item(words, OUT_BYTES, 0)),
+    );
+    print_bytes(line, words, a, &y);
 }
 
-fn on_records(r: Request, bytes: &[u8], words: &[u64], y: &mut [u8]) -> Answer {
-    let n = r.numbers;
-    let a = halves(words, 0, words_at(r, 1));
-    let s = part(bytes, 0, bytes_at(r, 1));
-    let t = part(bytes, bytes_at(r, 1), bytes_at(r, 2));
-    let u = part(bytes, bytes_at(r, 2), bytes_at(r, 3));
-    record::answer(r.operation % 8, n, a, s, t, u, y)
+fn on_commits(line: usize, place: usize, bytes: &[u8], words: &[u64]) {
+    let mut w = [0xa5a5_a5a5_a5a5_a5a5u64; 2048];
+    let mut x = [0xa5a5_a5a5_a5a5_a5a5u64; 2048];
+    let mut y = [0xa5u8; 32768];
+    let a = level::committed(
+        place,
+        numbers_in(words),
+        words_in(words, 0),
+        bytes_in(words, bytes, 0),
+        first_halves(&mut w, item(words, OUT_WORDS, 0)),
+        first_halves(&mut x, item(words, OUT_WORDS, 1)),
+        first(&mut y, item(words, OUT_BYTES, 0)),
+    );
+    print_answer(line, words, a, &w, &x, &y, &[]);
 }
 
-fn on_pairs(r: Request, bytes: &[u8], words: &[u64], y: &mut [u8], z: &mut [u8]) -> Answer {
-    let n = r.numbers;
-    let a = halves(words, 0, words_at(r, 1));
-    let s = part(bytes, 0, bytes_at(r, 1));
-    let t = part(bytes, bytes_at(r, 1), bytes_at(r, 2));
-    let u = part(bytes, bytes_at(r, 2), bytes_at(r, 3));
-    let v = part(bytes, bytes_at(r, 3), bytes_at(r, 4));
-    pair::answer(r.operation % 8, n, a, s, t, u, v, y, z)
+fn on_records(line: usize, place: usize, bytes: &[u8], words: &[u64]) {
+    let mut y = [0xa5u8; 32768];
+    let a = record::answer(
+        place,
+        numbers_in(words),
+        words_in(words, 0),
+        bytes_in(words, bytes, 0),
+        bytes_in(words, bytes, 1),
+        bytes_in(words, bytes, 2),
+        first(&mut y, item(words, OUT_BYTES, 0)),
+    );
+    print_bytes(line, words, a, &y);
 }
 
-fn on_whole(r: Request, words: &[u64], y: &mut [u8]) -> Answer {
-    let n = r.numbers;
-    let a = halves(words, 0, words_at(r, 1));
-    let b = halves(words, words_at(r, 1), words_at(r, 2));
-    let c = halves(words, words_at(r, 2), words_at(r, 3));
-    whole::answer(n[0], a, b, c, y)
-}
-
-// What a request is answered, by its row of the table; the outputs hold what they hold before they are lent.
-fn answer(
-    r: Request,
-    bytes: &[u8],
-    words: &[u64],
-    w: &mut [u64],
-    x: &mut [u64],
-    y: &mut [u8],
-    z: &mut [u8],
-) -> Answer {
-    fill_halves(w);
-    fill_halves(x);
-    fill(y);
-    fill(z);
-    match r.operation / 8 {
-        0 => on_levels(r, bytes, words, w, x, y),
-        1 => on_records(r, bytes, words, y),
-        2 => on_pairs(r, bytes, words, y, z),
-        3 => on_whole(r, words, y),
-        _ => no_room(),
-    }
-}
-
-// Cuts the outputs of a request.
-fn cut(
-    r: Request,
-    bytes: &[u8],
-    words: &[u64],
-    w: &mut [u64],
-    x: &mut [u64],
-    y: &mut [u8],
-    z: &mut [u8],
-) -> Answer {
-    let outputs = r.outputs;
-    answer(
-        r,
-        bytes,
+fn on_pairs(line: usize, place: usize, bytes: &[u8], words: &[u64]) {
+    let mut y = [0xa5u8; 1024];
+    let mut z = [0xa5u8; 1024];
+    let a = pair::answer(
+        place,
         words,
-        first_halves(w, outputs[0]),
-        first_halves(x, outputs[1]),
-        first(y, outputs[2]),
-        first(z, outputs[3]),
-    )
+        bytes,
+        first(&mut y, item(words, OUT_BYTES, 0)),
+        first(&mut z, item(words, OUT_BYTES, 1)),
+    );
+    print_answer(line, words, a, &[], &[], &y, &z);
 }
 
-// A request on many records made of one, which lies in a buffer of its own.
-fn run_many(line: usize, r: Request, bytes: &[u8], words: &[u64], y: &mut [u8], out: &mut [u8]) {
-    let n = r.numbers;
-    let g = many::given_by(r.operation % 8, n);
-    let a = halves(words, 0, words_at(r, 1));
-    let s = part(bytes, 0, bytes_at(r, 1));
-    let t = part(bytes, bytes_at(r, 1), bytes_at(r, 2));
-    let u = part(bytes, bytes_at(r, 2), bytes_at(r, 3));
-    let end = put_part(y, 0, u, 0, u.len());
-    many::print(line, g, a, s, t, first(y, end), out);
+fn on_whole(line: usize, bytes: &[u8], words: &[u64]) {
+    let mut w = [0xa5a5_a5a5_a5a5_a5a5u64; 64];
+    let mut y = [0xa5u8; 2048];
+    let mut z = [0xa5u8; 64];
+    let a = whole::answer(
+        words,
+        bytes,
+        first_halves(&mut w, item(words, OUT_WORDS, 0)),
+        first(&mut y, item(words, OUT_BYTES, 0)),
+        first(&mut z, item(words, OUT_BYTES, 1)),
+    );
+    print_answer(line, words, a, &w, &[], &y, &z);
 }
 
-// A request, answered.
-fn run_request(
-    line: usize,
-    r: Request,
-    bytes: &mut [u8],
-    words: &[u64],
-    w: &mut [u64],
-    x: &mut [u64],
-    y: &mut [u8],
-    z: &mut [u8],
-    out: &mut [u8],
-) {
-    if r.operation / 8 == 4 {
-        run_many(line, r, bytes, words, y, out);
+// Of a request on many records made of one, which lies in a buffer of its own.
+fn on_many(line: usize, place: usize, bytes: &[u8], words: &[u64]) {
+    let mut y = [0u8; 32768];
+    let u = bytes_in(words, bytes, 2);
+    let end = put_part(&mut y, 0, u, 0, u.len());
+    many::print(
+        line,
+        many::given_by(place, numbers_in(words)),
+        words_in(words, 0),
+        bytes_in(words, bytes, 0),
+        bytes_in(words, bytes, 1),
+        first(&mut y, end),
+    );
+}
+
+fn on_folds(line: usize, bytes: &[u8], words: &[u64]) {
+    let mut w = [0xa5a5_a5a5_a5a5_a5a5u64; 1024];
+    let mut x = [0xa5a5_a5a5_a5a5_a5a5u64; 512];
+    let mut y = [0xa5u8; 8192];
+    let mut z = [0xa5u8; 512];
+    let a = levels::fold_levels(
+        numbers_in(words),
+        words_in(words, 0),
+        words_in(words, 1),
+        bytes_in(words, bytes, 0),
+        first_halves(&mut w, item(words, OUT_WORDS, 0)),
+        first_halves(&mut x, item(words, OUT_WORDS, 1)),
+        first(&mut y, item(words, OUT_BYTES, 0)),
+        first(&mut z, item(words, OUT_BYTES, 1)),
+    );
+    print_answer(line, words, a, &w, &x, &y, &z);
+}
+
+// The entries on levels; all levels at once have outputs of every kind.
+fn on_all_levels(line: usize, place: usize, bytes: &[u8], words: &[u64]) {
+    let mut y = [0xa5u8; 2048];
+    if place == 3 {
+        on_folds(line, bytes, words);
         return;
     }
-    let a = cut(r, bytes, words, w, x, y, z);
-    print_answer(line, r, a, w, x, y, z, bytes, out);
+    let a = levels::answer(
+        place,
+        numbers_in(words),
+        words_in(words, 0),
+        bytes_in(words, bytes, 0),
+        first(&mut y, item(words, OUT_BYTES, 0)),
+    );
+    print_bytes(line, words, a, &y);
 }
 
-// A line with a request; as many bytes are kept.
-fn run(
-    s: &[u8],
-    line: usize,
-    store: &[u8],
-    stored: usize,
-    bytes: &mut [u8],
-    words: &mut [u64],
-    w: &mut [u64],
-    x: &mut [u64],
-    y: &mut [u8],
-    z: &mut [u8],
-    out: &mut [u8],
-) -> usize {
+// Answers a request by its row of the table.
+fn respond(line: usize, operation: usize, bytes: &[u8], words: &[u64]) {
+    let place = operation % 8;
+    match operation / 8 {
+        0 => on_levels(line, place, bytes, words),
+        1 => on_commits(line, place, bytes, words),
+        2 => on_records(line, place, bytes, words),
+        3 => on_pairs(line, place, bytes, words),
+        4 => on_whole(line, bytes, words),
+        5 => on_many(line, place, bytes, words),
+        6 => on_all_levels(line, place, bytes, words),
+        // a name that the table has not has no outputs
+        _ => print_bytes(line, words, no_room(), bytes),
+    }
+}
+
+// A line with a request.
+fn run(s: &[u8], line: usize, kept: &[u8]) {
+    let mut bytes = [0u8; 65536];
+    let mut words = [0u64; 4096];
     let table = b"\
 fold_tree_width n
 level_domain bnB
 profile nB
+none n
+none n
+none n
+none n
+none n
 commit nnbwWWB
 tails bW
+none n
+none n
+none n
 none n
 none n
 none n
@@ -185,7 +203,7 @@ none n
 none n
 none n
 none n
-run lwnwB
+run nnnbwlwwbblWBB
 none n
 none n
 none n
@@ -197,129 +215,67 @@ damaged_query nbnnnwbb
 damaged_tail nbnnbwb
 prefixes_query bnnnwbb
 prefixes_tail bnnbwb
+none n
+none n
+none n
+none n
+domain_length bn
+domain_into bnB
+level_tree nnnbwB
+fold_levels nnbwwWWBB
 ";
-    let r = request::read(s, table, part(store, 0, stored), bytes, words);
-    run_request(line, r, bytes, words, w, x, y, z, out);
-    stored
+    let operation = request::read(s, table, kept, &mut bytes, &mut words);
+    respond(line, operation, &bytes, &words);
 }
 
-// A line: how many bytes are kept after it.
-fn run_line(
-    s: &[u8],
-    line: usize,
-    store: &mut [u8],
-    stored: usize,
-    bytes: &mut [u8],
-    words: &mut [u64],
-    w: &mut [u64],
-    x: &mut [u64],
-    y: &mut [u8],
-    z: &mut [u8],
-    out: &mut [u8],
-) -> usize {
-    let kind = files::kind_of(s);
-    match kind {
-        Kind::Remark => stored,
-        Kind::Kept => files::keep(s, store, stored, bytes),
-        Kind::Request => run(s, line, store, stored, bytes, words, w, x, y, z, out),
-    }
-}
-
-// Where a file goes on after the line between two places.
-fn after(file: &[u8], from: usize, end: usize) -> usize
-    requires { ⌜ (from < length (now file)) × (from ≤ end) ⌝ }
-    ensures { λ r. ⌜ from < r ⌝ }
-{
-    if end < file.len() {
-        return end + 1;
-    }
-    file.len()
-}
-
-// Every line of a file.
-fn run_lines(
-    file: &[u8],
-    store: &mut [u8],
-    bytes: &mut [u8],
-    words: &mut [u64],
-    w: &mut [u64],
-    x: &mut [u64],
-    y: &mut [u8],
-    z: &mut [u8],
-    out: &mut [u8],
-) {
-    let mut stored: usize = 0;
+// Every line of a file: requests are answered.
+fn run_lines(file: &[u8], kept: &[u8]) {
     let mut line: usize = 1;
     let mut from: usize = 0;
     while from < file.len() {
-        let end = files::end_of_line(file, from);
-        let next = after(file, from, end);
-        stored = run_line(
-            part(file, from, end),
-            line,
-            store,
-            stored,
-            bytes,
-            words,
-            w,
-            x,
-            y,
-            z,
-            out,
-        );
-        line = std::num::wrapping_add_usize(line, 1);
-        from = next;
+        let s = piece(file, from, 10);
+        if files::is_request(s) {
+            run(s, line, kept);
+        }
+        line = wrapping_add_usize(line, 1);
+        from = next(file, from, 10);
     }
-}
-
-fn room() -> [u8; 262144]
-    ensures { λ r. ⌜ 262144 ≡ length r ⌝ }
-{
-    [0; 262144]
-}
-
-// A file's lines, with room for what they are lent.
-fn run_text(file: &[u8], store: &mut [u8], bytes: &mut [u8], out: &mut [u8]) {
-    let mut words = [0u64; 4096];
-    let mut w = [0u64; 2048];
-    let mut x = [0u64; 2048];
-    let mut y = [0u8; 32768];
-    let mut z = [0u8; 1024];
-    run_lines(
-        file,
-        store,
-        bytes,
-        &mut words,
-        &mut w,
-        &mut x,
-        &mut y,
-        &mut z,
-        out,
-    );
 }
 
 // The file with a name.
 fn run_file(name: &[u8]) {
-    let mut file = room();
-    let mut store = [0u8; 65536];
-    let mut bytes = [0u8; 65536];
-    let mut out = [0u8; 1024];
-    files::print_name(name, &mut out);
-    let n = files::read(name, &mut file);
-    run_text(part(&file, 0, n), &mut store, &mut bytes, &mut out);
+    let file = files::read(name);
+    let bytes = file.bytes;
+    let text = part(&bytes, 0, file.len);
+    let kept = files::kept(text);
+    run_lines(text, &kept);
+}
+
+// The files with these names, one to a line.
+fn run_files(names: &[u8]) {
+    let mut from: usize = 0;
+    while from < names.len() {
+        run_file(piece(names, from, 10));
+        from = next(names, from, 10);
+    }
 }
 
 fn main() {
-    run_file(b"levels.txt");
-    run_file(b"accepted.txt");
-    run_file(b"query.txt");
-    run_file(b"tail.txt");
-    run_file(b"build.txt");
-    run_file(b"compare.txt");
-    run_file(b"walks.txt");
-    run_file(b"tail_list.txt");
-    run_file(b"run.txt");
-    run_file(b"differences.txt");
-    run_file(b"rust_levels.txt");
-    run_file(b"rust_records.txt");
+    run_files(
+        b"\
+levels.txt
+all_levels.txt
+accepted.txt
+query.txt
+tail.txt
+build.txt
+compare.txt
+walks.txt
+tail_list.txt
+run.txt
+differences.txt
+rust_levels.txt
+rust_records.txt
+",
+    );
 }

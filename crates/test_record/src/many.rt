@@ -9,8 +9,10 @@ use test_lines::bytes::half_in;
 use test_lines::bytes::put;
 use test_lines::bytes::put_half;
 use test_lines::parts::part;
+use test_lines::request::Numbers;
 use test_lines::text::put_decimal;
 use test_lines::words::first;
+use tree_place::Place;
 
 enum Kind {
     Query,
@@ -27,33 +29,33 @@ pub struct Given {
 }
 
 // Those of the operation at a place: damaged_query, damaged_tail, prefixes_query, prefixes_tail.
-pub fn given_by(place: usize, n: [usize; 8]) -> Given {
+pub fn given_by(place: usize, n: Numbers) -> Given {
     match place {
         0 => Given {
             kind: Kind::Query,
-            n: n[1],
-            k: n[2],
-            position: n[3],
-            step: n[0],
+            n: n.1,
+            k: n.2,
+            position: n.3,
+            step: n.0,
         },
         1 => Given {
             kind: Kind::Tail,
-            n: n[1],
-            k: n[2],
+            n: n.1,
+            k: n.2,
             position: 0,
-            step: n[0],
+            step: n.0,
         },
         2 => Given {
             kind: Kind::Query,
-            n: n[0],
-            k: n[1],
-            position: n[2],
+            n: n.0,
+            k: n.1,
+            position: n.2,
             step: 0,
         },
         _ => Given {
             kind: Kind::Tail,
-            n: n[0],
-            k: n[1],
+            n: n.0,
+            k: n.1,
             position: 0,
             step: 0,
         },
@@ -61,7 +63,8 @@ pub fn given_by(place: usize, n: [usize; 8]) -> Given {
 }
 
 fn query_number(g: Given, a: &[u64], s: &[u8], t: &[u8], u: &[u8]) -> u32 {
-    let r = record_query_check::check_query(s, g.n, g.k, g.position, a, t, u);
+    let position = Place::at(g.position);
+    let r = record_query_check::check_query(s, g.n, g.k, position, a, t, u);
     r.number
 }
 
@@ -180,17 +183,18 @@ fn put_all_times(out: &mut [u8], at: usize, tally: &[u64]) -> usize {
 }
 
 // Prints a line's number, how many records are refused, of how many, and each number with how often it was the answer.
-pub fn print(line: usize, g: Given, a: &[u64], s: &[u8], t: &[u8], u: &mut [u8], out: &mut [u8]) {
+pub fn print(line: usize, g: Given, a: &[u64], s: &[u8], t: &[u8], u: &mut [u8]) {
     let mut tally = [0u64; 34];
     count(g, a, s, t, u, &mut tally);
-    print_tally(line, &tally, out);
+    print_tally(line, &tally);
 }
 
-fn print_tally(line: usize, tally: &[u64], out: &mut [u8]) {
+fn print_tally(line: usize, tally: &[u64]) {
+    let mut out = [0u8; 1024];
     let all = sum(tally);
-    let numbered = put_decimal(out, 0, line as u64);
-    let refused = put_number(out, numbered, wrapping_sub_u64(all, half_in(tally, 0)));
-    let counted = put_number(out, refused, all);
-    let end = put_all_times(out, counted, tally);
-    test_lines::answer::print(out, end);
+    let numbered = put_decimal(&mut out, 0, line as u64);
+    let refused = put_number(&mut out, numbered, wrapping_sub_u64(all, half_in(tally, 0)));
+    let counted = put_number(&mut out, refused, all);
+    let end = put_all_times(&mut out, counted, tally);
+    test_lines::answer::print(&mut out, end);
 }

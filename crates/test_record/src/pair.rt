@@ -2,18 +2,25 @@
 use test_lines::answer::Answer;
 use test_lines::answer::no_room;
 use test_lines::answer::three;
+use test_lines::request::bytes_in;
+use test_lines::request::numbers_in;
+use test_lines::request::words_in;
+use tree_place::Place;
 
-fn compare(
-    n: [usize; 8],
-    a: &[u64],
-    s: &[u8],
-    t: &[u8],
-    u: &[u8],
-    v: &[u8],
-    y: &mut [u8],
-    z: &mut [u8],
-) -> Answer {
-    let r = compare_records::compare(s, n[0], n[1], n[2], a, t, u, v, y, z);
+fn compare(words: &[u64], bytes: &[u8], y: &mut [u8], z: &mut [u8]) -> Answer {
+    let n = numbers_in(words);
+    let r = compare_records::compare(
+        bytes_in(words, bytes, 0),
+        n.0,
+        n.1,
+        Place::at(n.2),
+        words_in(words, 0),
+        bytes_in(words, bytes, 1),
+        bytes_in(words, bytes, 2),
+        bytes_in(words, bytes, 3),
+        y,
+        z,
+    );
     three(r.number, r.first, r.second)
 }
 
@@ -59,20 +66,24 @@ fn walk(
     three(0, m, m)
 }
 
-pub fn answer(
-    place: usize,
-    n: [usize; 8],
-    a: &[u64],
-    s: &[u8],
-    t: &[u8],
-    u: &[u8],
-    v: &[u8],
-    y: &mut [u8],
-    z: &mut [u8],
-) -> Answer {
+// The chains of a request.
+fn walk_chains(words: &[u64], bytes: &[u8], y: &mut [u8], z: &mut [u8]) -> Answer {
+    let n = numbers_in(words);
+    walk(
+        n.0,
+        n.1,
+        n.2,
+        bytes_in(words, bytes, 0),
+        bytes_in(words, bytes, 1),
+        y,
+        z,
+    )
+}
+
+pub fn answer(place: usize, words: &[u64], bytes: &[u8], y: &mut [u8], z: &mut [u8]) -> Answer {
     match place {
-        0 => compare(n, a, s, t, u, v, y, z),
-        1 => walk(n[0], n[1], n[2], s, t, y, z),
+        0 => compare(words, bytes, y, z),
+        1 => walk_chains(words, bytes, y, z),
         _ => no_room(),
     }
 }

@@ -1,5 +1,7 @@
 // The hash: BLAKE3 in one call and by a hasher, and `serialize_parts`.
+ghost use mathlib.Core.Path.{_≡_};
 ghost use Prim.Native.Nat.{_≤_, _<_};
+ghost use lib.ListN.{length};
 use hash_hasher::hasher::Hasher;
 use hash_hasher::hasher::finalize;
 use hash_hasher::hasher::new;
@@ -8,13 +10,17 @@ use hash_hasher::whole::Digested;
 use test_lines::answer::Answer;
 use test_lines::answer::no_room;
 use test_lines::answer::one;
+use test_lines::answer::two;
+use test_lines::bytes::half_in;
+use test_lines::bytes::put_bytes;
 use test_lines::bytes::put_part;
 use test_lines::parts::part;
+use test_lines::request::Numbers;
 
 // A digest, and the number that came with it.
-pub fn digested(d: Digested, b: &mut [u8]) -> Answer {
+pub fn digested(d: Digested, y: &mut [u8]) -> Answer {
     let bytes = d.bytes;
-    put_part(b, 0, &bytes, 0, 32);
+    put_part(y, 0, &bytes, 0, 32);
     one(d.number)
 }
 
@@ -46,7 +52,7 @@ fn fed_with(s: Hasher, input: &[u8]) -> Hasher {
 
 // The digest by a hasher that is fed in pieces: by the size with a number at a time, where step is 0, and by the sizes from there in turn, where
 // it is 1.
-fn pieces(input: &[u8], first: usize, step: usize, b: &mut [u8]) -> Answer {
+fn pieces(input: &[u8], first: usize, step: usize, y: &mut [u8]) -> Answer {
     let mut s = new();
     let mut i: usize = 0;
     let mut k = first % 8;
@@ -57,7 +63,7 @@ fn pieces(input: &[u8], first: usize, step: usize, b: &mut [u8]) -> Answer {
         i = end;
         k = (k + step % 2) % 8;
     }
-    digested(finalize(s), b)
+    digested(finalize(s), y)
 }
 
 // A state that is fed an input so many times.
@@ -73,19 +79,84 @@ fn fed_times(input: &[u8], times: usize) -> Hasher {
 }
 
 // The number that a last piece gets, and the digest of the state that comes back.
-fn fed(input: &[u8], times: usize, last: &[u8], b: &mut [u8]) -> Answer {
+fn fed(input: &[u8], times: usize, last: &[u8], y: &mut [u8]) -> Answer {
     let u = update(fed_times(input, times), last);
     let s = u.state;
-    digested(finalize(s), b);
+    digested(finalize(s), y);
     one(u.number)
 }
 
-pub fn answer(place: usize, n: [usize; 8], a: &[u64], s: &[u8], t: &[u8], b: &mut [u8]) -> Answer {
+// A state with these counters: blocks, fill, chunks, depth and byte count. What else it holds tells its fields apart.
+fn state_of(a: &[u64]) -> Hasher {
+    Hasher {
+        key: [1; 8],
+        flags: 0,
+        h: [2; 8],
+        blocks: half_in(a, 0) as usize,
+        block: [3; 64],
+        fill: half_in(a, 1) as usize,
+        chunks: half_in(a, 2),
+        depth: half_in(a, 3) as usize,
+        stack: [4; 112],
+        len: half_in(a, 4),
+    }
+}
+
+fn wide(x: u32) -> u64 {
+    x as u64
+}
+
+// Puts numbers of 32 bits, 8 bytes each, and answers the next place.
+fn put_all(y: &mut [u8], at: usize, s: &[u32]) -> usize {
+    let mut end = at;
+    let mut i: usize = 0;
+    while i < s.len() {
+        end = put_bytes(y, end, wide(s[i]));
+        i += 1;
+    }
+    end
+}
+
+// Puts the counters and the flags of a state.
+fn put_counters(y: &mut [u8], at: usize, s: Hasher) -> usize {
+    let flags = put_bytes(y, at, s.flags as u64);
+    let blocks = put_bytes(y, flags, s.blocks as u64);
+    let fill = put_bytes(y, blocks, s.fill as u64);
+    let chunks = put_bytes(y, fill, s.chunks);
+    let depth = put_bytes(y, chunks, s.depth as u64);
+    put_bytes(y, depth, s.len)
+}
+
+// Puts every field of a state.
+fn put_state(y: &mut [u8], at: usize, s: Hasher) {
+    let key = s.key;
+    let h = s.h;
+    let stack = s.stack;
+    let block = s.block;
+    let keyed = put_all(y, at, &key);
+    let chained = put_all(y, keyed, &h);
+    let stacked = put_all(y, chained, &stack);
+    let blocked = put_part(y, stacked, &block, 0, 64);
+    put_counters(y, blocked, s);
+}
+
+// What update and finalize answer for a state whose counters are given: both numbers; finalize's digest, and the state that update hands back.
+fn state(a: &[u64], input: &[u8], y: &mut [u8]) -> Answer {
+    let u = update(state_of(a), input);
+    let handed = u.state;
+    let d = finalize(state_of(a));
+    digested(d, y);
+    put_state(y, 32, handed);
+    two(u.number, d.number as usize)
+}
+
+pub fn answer(place: usize, n: Numbers, a: &[u64], s: &[u8], t: &[u8], y: &mut [u8]) -> Answer {
     match place {
-        0 => digested(hash_hasher::whole::digest(s), b),
-        1 => one(hash_serialize_parts::serialize_parts(s, a, b)),
-        2 => pieces(s, n[0], n[1], b),
-        3 => fed(s, n[0], t, b),
+        0 => digested(hash_hasher::whole::digest(s), y),
+        1 => one(hash_serialize_parts::serialize_parts(s, a, y)),
+        2 => pieces(s, n.0, n.1, y),
+        3 => fed(s, n.0, t, y),
+        4 => state(a, s, y),
         _ => no_room(),
     }
 }

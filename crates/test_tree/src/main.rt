@@ -6,76 +6,58 @@ ghost use lib.ListN.{length};
 mod hash;
 mod tree;
 
+use std::num::wrapping_add_usize;
 use test_lines::answer::Answer;
-use test_lines::answer::fill;
 use test_lines::answer::no_room;
-use test_lines::answer::print_answer;
+use test_lines::answer::print_bytes;
 use test_lines::files;
-use test_lines::files::Kind;
 use test_lines::parts::first;
-use test_lines::parts::halves;
+use test_lines::parts::next;
 use test_lines::parts::part;
+use test_lines::parts::piece;
 use test_lines::request;
-use test_lines::request::Request;
-use test_lines::request::bytes_at;
-use test_lines::request::words_at;
+use test_lines::request::OUT_BYTES;
+use test_lines::request::bytes_in;
+use test_lines::request::item;
+use test_lines::request::numbers_in;
+use test_lines::request::words_in;
 
-// What a request is answered: the layer by its row, the operation by its place in it.
-fn answer(
-    row: usize,
-    place: usize,
-    n: [usize; 8],
-    a: &[u64],
-    s: &[u8],
-    t: &[u8],
-    u: &[u8],
-    b: &mut [u8],
-) -> Answer {
-    fill(b);
-    match row {
-        0 => hash::answer(place, n, a, s, t, b),
-        1 => tree::answer(place, n, a, s, t, u, b),
+// What a request is answered: the layer by its row of the table, the operation by its place in it.
+fn answer(operation: usize, bytes: &[u8], words: &[u64], y: &mut [u8]) -> Answer {
+    let place = operation % 8;
+    let n = numbers_in(words);
+    let a = words_in(words, 0);
+    let s = bytes_in(words, bytes, 0);
+    let t = bytes_in(words, bytes, 1);
+    match operation / 8 {
+        0 => hash::answer(place, n, a, s, t, y),
+        1 => tree::answer(place, n, a, s, t, bytes_in(words, bytes, 2), y),
         _ => no_room(),
     }
 }
 
-// Cuts the inputs and the output of a request.
-fn cut(r: Request, bytes: &[u8], words: &[u64], b: &mut [u8]) -> Answer {
-    let a = halves(words, 0, words_at(r, 1));
-    let s = part(bytes, 0, bytes_at(r, 1));
-    let t = part(bytes, bytes_at(r, 1), bytes_at(r, 2));
-    let u = part(bytes, bytes_at(r, 2), bytes_at(r, 3));
-    let outputs = r.outputs;
-    let n = r.numbers;
-    answer(
-        r.operation / 8,
-        r.operation % 8,
-        n,
-        a,
-        s,
-        t,
-        u,
-        first(b, outputs[2]),
-    )
+// Answers a request and prints the answer; the output holds what it holds before it is lent.
+fn respond(line: usize, operation: usize, bytes: &[u8], words: &[u64]) {
+    let mut y = [0xa5u8; 65536];
+    let a = answer(
+        operation,
+        bytes,
+        words,
+        first(&mut y, item(words, OUT_BYTES, 0)),
+    );
+    print_bytes(line, words, a, &y);
 }
 
-// A request, answered; as many bytes are kept.
-fn run(
-    s: &[u8],
-    line: usize,
-    store: &[u8],
-    stored: usize,
-    bytes: &mut [u8],
-    words: &mut [u64],
-    b: &mut [u8],
-    out: &mut [u8],
-) -> usize {
+// A line with a request.
+fn run(s: &[u8], line: usize, kept: &[u8]) {
+    let mut bytes = [0u8; 131072];
+    let mut words = [0u64; 16384];
     let table = b"\
 blake3 bd
 serialize_parts blB
 pieces bnnd
 fed bnbd
-none n
+state lbB
 none n
 none n
 none n
@@ -86,96 +68,54 @@ open nnnbB
 root_of_path bnnnwbd
 leaf_message bnnnw
 ";
-    let r = request::read(s, table, part(store, 0, stored), bytes, words);
-    let a = cut(r, bytes, words, b);
-    print_answer(line, r, a, &[], &[], b, &[], bytes, out);
-    stored
+    let operation = request::read(s, table, kept, &mut bytes, &mut words);
+    respond(line, operation, &bytes, &words);
 }
 
-// A line: how many bytes are kept after it.
-fn run_line(
-    s: &[u8],
-    line: usize,
-    store: &mut [u8],
-    stored: usize,
-    bytes: &mut [u8],
-    words: &mut [u64],
-    b: &mut [u8],
-    out: &mut [u8],
-) -> usize {
-    let kind = files::kind_of(s);
-    match kind {
-        Kind::Remark => stored,
-        Kind::Kept => files::keep(s, store, stored, bytes),
-        Kind::Request => run(s, line, store, stored, bytes, words, b, out),
-    }
-}
-
-// Every line of a file.
-fn run_lines(
-    file: &[u8],
-    store: &mut [u8],
-    bytes: &mut [u8],
-    words: &mut [u64],
-    b: &mut [u8],
-    out: &mut [u8],
-) {
-    let mut stored: usize = 0;
+// Every line of a file: requests are answered.
+fn run_lines(file: &[u8], kept: &[u8]) {
     let mut line: usize = 1;
     let mut from: usize = 0;
     while from < file.len() {
-        let end = files::end_of_line(file, from);
-        stored = run_line(
-            part(file, from, end),
-            line,
-            store,
-            stored,
-            bytes,
-            words,
-            b,
-            out,
-        );
-        if file.len() <= end {
-            return;
+        let s = piece(file, from, 10);
+        if files::is_request(s) {
+            run(s, line, kept);
         }
-        line = std::num::wrapping_add_usize(line, 1);
-        from = end + 1;
+        line = wrapping_add_usize(line, 1);
+        from = next(file, from, 10);
     }
-}
-
-fn room() -> [u8; 262144]
-    ensures { λ r. ⌜ 262144 ≡ length r ⌝ }
-{
-    [0; 262144]
 }
 
 // The file with a name.
 fn run_file(name: &[u8]) {
-    let mut file = room();
-    let mut store = [0u8; 65536];
-    let mut bytes = [0u8; 131072];
-    let mut words = [0u64; 16384];
-    let mut b = [0u8; 65536];
-    let mut out = [0u8; 1024];
-    files::print_name(name, &mut out);
-    let n = files::read(name, &mut file);
-    run_lines(
-        part(&file, 0, n),
-        &mut store,
-        &mut bytes,
-        &mut words,
-        &mut b,
-        &mut out,
-    );
+    let file = files::read(name);
+    let bytes = file.bytes;
+    let text = part(&bytes, 0, file.len);
+    let kept = files::kept(text);
+    run_lines(text, &kept);
+}
+
+// The files with these names, one to a line.
+fn run_files(names: &[u8]) {
+    let mut from: usize = 0;
+    while from < names.len() {
+        run_file(piece(names, from, 10));
+        from = next(names, from, 10);
+    }
 }
 
 fn main() {
-    run_file(b"vectors.txt");
-    run_file(b"parts.txt");
-    run_file(b"trees.txt");
-    run_file(b"openings.txt");
-    run_file(b"refusals.txt");
-    run_file(b"differences.txt");
-    run_file(b"rust_hash.txt");
-    run_file(b"rust_trees.txt");
+    run_files(
+        b"\
+vectors.txt
+parts.txt
+trees.txt
+openings.txt
+refusals.txt
+states.txt
+differences.txt
+rust_hash.txt
+rust_trees.txt
+",
+    );
 }

@@ -57,7 +57,8 @@ module _ (key : List ℕ) (d : ℕ) where
       let f = fold-tree k (t + P) (n - P) (drop (1024 * P) done) cur 0 (simp length-drop (omega arith)) (omega (arith, pow-two k)) a b in
       let i : (t + P) + (n - P) ≡ t + n = omega arith in
       let f′ = rw i at f in
-      rw (stack-yes k t done j, fold-snoc, f′, tree-split key d k t (done ++ cur) x (simp length-append (omega arith)), take-append-le (1024 * P) done cur j, drop-append-le (1024 * P) done cur j))
+      let split = tree-split key d k t (done ++ cur) x (simp length-append (omega arith)) in
+      rw (stack-yes k t done j, fold-snoc, f′, split, take-append-le (1024 * P) done cur j, drop-append-le (1024 * P) done cur j))
       (lt-or-le n (2 ^ k))
 
   pub merge-append : (m : ℕ) (st e : List (List ℕ)) (v : List ℕ) → m ≤ length st → merge key d m (st ++ e) v ≡ merge key d m st v ++ e
@@ -104,7 +105,15 @@ module _ (key : List ℕ) (d : ℕ) where
       let f = fold-tree key d k t n done c 0 e l (omega arith) (omega arith) in
       let g = merge-all key d st (chunk key d (t + n) c) in
       let g′ = rw (u, f) at g in
-      rw (stack-no key d k t done (omega arith), z, g′, stack-yes key d k t (done ++ c) (omega arith), take-all (chunksBytes k) (done ++ c) (omega arith), drop-of-length-le (done ++ c) {i = chunksBytes k} (omega arith), stack-nil key d k (t + 2 ^ k))
+      rw (
+        stack-no key d k t done (omega arith),
+        z,
+        g′,
+        stack-yes key d k t (done ++ c) (omega arith),
+        take-all (chunksBytes k) (done ++ c) (omega arith),
+        drop-of-length-le (done ++ c) {i = chunksBytes k} (omega arith),
+        stack-nil key d k (t + 2 ^ k),
+      )
 
   -- a chunk more: the stack's top values are joined, as many as the new count has trailing zeros
   pub push-stack : (K k t n : ℕ) (done c : List ℕ) → k ≤ K → length done ≡ 1024 * n → length c ≡ 1024 → n + 1 < 2 ^ k
@@ -121,14 +130,16 @@ module _ (key : List ℕ) (d : ℕ) where
       let j : 1024 * P ≤ length done = omega arith in
       let jc : 1024 * P ≤ length (done ++ c) = simp length-append (omega arith) in
       let q : n - P + 1 < P = omega (arith, pow-two k) in
-      let ld : length (drop (1024 * P) done) ≡ 1024 * (n - P) = simp length-drop (omega arith) in
-      let f = push-stack K k (t + P) (n - P) (drop (1024 * P) done) c (omega arith) ld m q in
+      let rest = drop (1024 * P) done in
+      let ld : length rest ≡ 1024 * (n - P) = simp length-drop (omega arith) in
+      let f = push-stack K k (t + P) (n - P) rest c (omega arith) ld m q in
       let i : (t + P) + (n - P) ≡ t + n = omega arith in
       let s : P + (n - P + 1) ≡ n + 1 = omega arith in
       let z : trailingZeros K (n + 1) ≡ trailingZeros K (n - P + 1) = rw s at (tz-add K k (n - P + 1) (omega arith) q) in
-      let b : trailingZeros K (n - P + 1) ≤ length (stack key d k (t + P) (drop (1024 * P) done)) = rw (stack-length key d k (t + P) (n - P) (drop (1024 * P) done) ld (omega arith)) (tz-ones K (n - P)) in
+      let b : trailingZeros K (n - P + 1) ≤ length (stack key d k (t + P) rest) =
+      rw (stack-length key d k (t + P) (n - P) rest ld (omega arith)) (tz-ones K (n - P)) in
       let f′ = rw i at f in
       rw (stack-yes key d k t done j, stack-yes key d k t (done ++ c) jc, z, take-append-le (1024 * P) done c j, drop-append-le (1024 * P) done c j, ← f′)
-      (merge-append key d (trailingZeros K (n - P + 1)) (stack key d k (t + P) (drop (1024 * P) done)) _ _ b))
+      (merge-append key d (trailingZeros K (n - P + 1)) (stack key d k (t + P) rest) _ _ b))
       (lt-or-le n (2 ^ k)))
       (lt-or-le (n + 1) (2 ^ k))

@@ -13,16 +13,21 @@ use Rattle.theory_blake3.specs.Chunk.{chunk}
 use Rattle.theory_blake3.specs.Tree.{parent, tree, chunksBytes}
 use Rattle.theory_laws.proofs.Numbers.{pow-two, lt-or-le}
 
+-- 2^k chunks, k below n, are fewer bytes than these, and twice as many are not
+abbrev pub LeftLevel : List ℕ → ℕ → Type 0
+LeftLevel bs n = (k : ℕ) × (k < n) × (chunksBytes k < length bs) × (length bs ≤ chunksBytes (suc k))
+
 -- more than a chunk: there is a largest power of two of chunks that leaves something
-pub left-level : (bs : List ℕ) → 1024 < length bs → length bs ≤ chunksBytes 54
-    → (k : ℕ) × (k < 54) × (chunksBytes k < length bs) × (length bs ≤ chunksBytes (suc k))
+pub left-level : (bs : List ℕ) → 1024 < length bs → length bs ≤ chunksBytes 54 → LeftLevel bs 54
 left-level bs l u = go 54 u
   where
-    go : (n : ℕ) → length bs ≤ chunksBytes n → (k : ℕ) × (k < n) × (chunksBytes k < length bs) × (length bs ≤ chunksBytes (suc k))
+    go : (n : ℕ) → length bs ≤ chunksBytes n → LeftLevel bs n
     go zero h = absurd (omega arith)
-    go (suc n) h = ⊎-elim (λ (a : chunksBytes n < length bs). (n, omega arith, a, h)) (λ (b : length bs ≤ chunksBytes n). lift n (go n b)) (lt-or-le (chunksBytes n) (length bs))
+    go (suc n) h =
+        ⊎-elim (λ (a : chunksBytes n < length bs). (n, omega arith, a, h)) (λ (b : length bs ≤ chunksBytes n). lift n (go n b))
+        (lt-or-le (chunksBytes n) (length bs))
       where
-        lift : (n : ℕ) → (k : ℕ) × (k < n) × (chunksBytes k < length bs) × (length bs ≤ chunksBytes (suc k)) → (k : ℕ) × (k < suc n) × (chunksBytes k < length bs) × (length bs ≤ chunksBytes (suc k))
+        lift : (n : ℕ) → LeftLevel bs n → LeftLevel bs (suc n)
         lift n r = (r .0, omega (arith, r .1), r .2, r .3)
 
 module _ (key : List ℕ) (d : ℕ) where

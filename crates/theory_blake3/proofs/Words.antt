@@ -1,7 +1,7 @@
 -- The words of a block and the bytes of words, place by place, as code reads and writes them.
 use mathlib.Core.Path.{_≡_, refl, sym, ap, _∙_}
 use mathlib.Core.Logic.{⊎-elim}
-use mathlib.Core.List.{List, [], _∷_, _++_, map, append-nil}
+use mathlib.Core.List.{List, [], _∷_, _++_, map}
 use Prim.Native.Nat.{ℕ, zero, suc, _+_, _*_, _-_, _/_, _%_, _^_, _<_, _≤_}
 use native.Mathlib.Nat.{add-zero}
 use native.Mathlib.Omega.{arith}
@@ -10,7 +10,7 @@ use lib.Seq.{drop-cons, getD-append-add}
 use Rattle.theory_laws.specs.Table.{at}
 use Rattle.theory_laws.specs.Lists.{part, runs, flat, leBytes, leValue}
 use Rattle.theory_laws.proofs.Table.{tab-ext, zeros-at}
-use Rattle.theory_laws.proofs.Lists.{getD-part, AllLong, length-flat, runs-flat, getD-runs, length-leBytes, leBytes-at}
+use Rattle.theory_laws.proofs.Lists.{getD-part, AllLong, length-flat, runs-of-flat, getD-runs, length-leBytes, leBytes-at}
 use Rattle.theory_blake3.specs.Chunk.{word, block}
 use Rattle.theory_blake3.specs.Digest.{bytesOfWords32}
 use Rattle.theory_laws.proofs.Numbers.{lt-or-le}
@@ -34,7 +34,11 @@ leValue-more n i j l e =
 pub leValue-four : (i : ℕ) (l : List ℕ) → leValue (part 4 i l) ≡ at l i + at l (i + 1) * 2 ^ 8 + at l (i + 2) * 2 ^ 16 + at l (i + 3) * 2 ^ 24
 unfolding part leValue
 leValue-four i l =
-    omega (arith, leValue-more 3 i (i + 1) l (omega arith), leValue-more 2 (i + 1) (i + 2) l (omega arith), leValue-more 1 (i + 2) (i + 3) l (omega arith), leValue-more 0 (i + 3) (i + 4) l (omega arith))
+    let first = leValue-more 3 i (i + 1) l (omega arith) in
+    let second = leValue-more 2 (i + 1) (i + 2) l (omega arith) in
+    let third = leValue-more 1 (i + 2) (i + 3) l (omega arith) in
+    let fourth = leValue-more 0 (i + 3) (i + 4) l (omega arith) in
+    omega arith
 
 -- ---- the words of a block
 
@@ -90,7 +94,7 @@ unfolding bytesOfWords32
 bytesOfWords32-at ws k j h b =
     let xs = map (leBytes 4) ws in
     let n : length xs ≡ length ws = length-map ws (leBytes 4) in
-    let e : runs 4 (length xs) (flat xs) ≡ xs = rw append-nil at (runs-flat 4 xs [] (all-four ws)) in
+    let e : runs 4 (length xs) (flat xs) ≡ xs = runs-of-flat 4 (length xs) xs refl (all-four ws) in
     sym (getD-part 4 (4 * k) j (flat xs) b)
     ∙ ap (λ (l : List ℕ). at l j) (sym (getD-runs 4 (length xs) k (flat xs) (omega arith)) ∙ ap (λ (r : List (List ℕ)). getD r k []) e ∙ word-at ws k h)
     ∙ leBytes-at 4 (at ws k) j b

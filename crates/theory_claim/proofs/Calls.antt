@@ -102,7 +102,8 @@ unfoldable pub callsBy : ℕ → ℕ → List ℕ → List Call
 callsBy k m [] = []
 callsBy k m (x ∷ xs) = record { n = m; k = k; var = 0; by = x; room = 2 * (2 ^ (m + k) / 2) } ∷ callsBy k (m - 1) xs
 
-half-power : (i j : ℕ) → j ≡ suc i → 2 ^ j / 2 ≡ 2 ^ i
+-- 2^j halved
+pub half-power : (i j : ℕ) → j ≡ suc i → 2 ^ j / 2 ≡ 2 ^ i
 half-power i j e = rw e (omega arith)
 
 call-done : (k m x : ℕ) (c : List ℕ) → m ≤ 20 → k ≤ 4 → 0 < m → length c ≡ 2 ^ (m + k) → callNumber c (record { n = m; k = k; var = 0; by = x; room = 2 * (2 ^ (m + k) / 2) }) ≡ 0

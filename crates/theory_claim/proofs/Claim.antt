@@ -1,15 +1,13 @@
 -- The single claim is proved, from nothing but the ranges.
-use Prim.Native.Nat.{ℕ, suc, _+_, _-_, _*_, _/_, _^_, _<_, _≤_}
+use Prim.Native.Nat.{ℕ, suc, _+_, _-_, _*_, _^_, _<_, _≤_}
 use mathlib.Core.Path.{_≡_, refl, sym, _∙_, ap}
 use mathlib.Core.Logic.{_↔_, _⊎_, ⊎-elim, inl, inr}
-use mathlib.Core.List.{List, [], _∷_, _++_}
+use mathlib.Core.List.{List, []}
 use native.Mathlib.Omega.{arith}
-use borrow.Author.Tests.{le-leb, eq-eqb, lt-ltb}
-use lib.Dec.{ltb}
+use borrow.Author.Tests.{le-leb, eq-eqb}
 use lib.ListN.{length, getD}
 use Rattle.theory_laws.specs.Table.{at}
 use Rattle.theory_laws.specs.Lists.{flat}
-use Rattle.theory_laws.specs.Questions.{_asks_}
 use Rattle.theory_laws.proofs.Questions.{yes-all}
 use Rattle.theory_laws.proofs.Lists.{Bytes, length-flat}
 use Rattle.theory_field.specs.Words.{words}
@@ -25,17 +23,15 @@ use Rattle.theory_merkle.proofs.Tree.{treeOf-root}
 use Rattle.theory_blake3.specs.Digest.{hash}
 use Rattle.theory_blake3.proofs.HashMode.{length-hash}
 use Rattle.theory_code.specs.Gammas.{gammas}
-use Rattle.theory_code.specs.Questions.{sized, lent, foldNumber}
 use Rattle.theory_record.specs.Widths.{present, levelLength, levelWidth, levelGroups, treeLength}
 use Rattle.theory_record.specs.Domain.{levelDomain}
-use Rattle.theory_record.specs.Trees.{treeFor, rootFor, levelsLent, treesLent, rootsLent}
+use Rattle.theory_record.specs.Trees.{treeFor, rootFor, treesLent}
 use Rattle.theory_record.specs.Sizes.{querySize, tailSize}
 use Rattle.theory_record.specs.Query.{Answer, accepted, checkQuery}
 use Rattle.theory_record.specs.Tail.{checkTail}
 use Rattle.theory_record.specs.Build.{treeStart, buildQueryNumber, buildQuery, buildTailNumber, buildTail}
 use Rattle.theory_record.proofs.Ranges.{SizesFit, sizes-small}
 use Rattle.theory_record.proofs.Runs.{Words}
-use Rattle.theory_record.proofs.Totals.{endToEnd-ext}
 use Rattle.theory_record.proofs.Chain.{Sized, length-treesLent}
 use Rattle.theory_record.proofs.Widths.{present-powers, level-shape}
 use Rattle.theory_record.proofs.Accepted.{length-treeFor, treeFor-long}
@@ -51,13 +47,10 @@ use Rattle.theory_record.proofs.Exactly.{query-exactly, tail-exactly}
 use Rattle.theory_compare.proofs.Compare.{Equal, Different, compare-accepted}
 use Rattle.theory_claim.specs.Calls.{Call, callNumber, doneFolds, afterFolds, leftBy}
 use Rattle.theory_claim.specs.Claim.{Deposit, committed, levelOf, Lent, LastLent, After, Collided, Outcome, Claim, Theorem}
-use Rattle.theory_claim.proofs.Calls.{after-level, left-level, refused-among, refused-exist, calls-exist}
+use Rattle.theory_claim.proofs.Calls.{left-level, refused-among, refused-exist, calls-exist}
+use Rattle.theory_claim.proofs.Levels.{fold-done, level-is, levels-lent, trees-lent, roots-lent}
 use Rattle.theory_compare.specs.Compare.{messageBuffer}
 use Rattle.theory_record.specs.Scheme.{Scheme, scheme}
-
--- 2^j halved
-half-power : (i j : ℕ) → j ≡ suc i → 2 ^ j / 2 ≡ 2 ^ i
-half-power i j e = rw e (omega arith)
 
 module _ (n k : ℕ) (base table challenges : List ℕ) (d : Deposit n k base table challenges) where
   abbrev S : Scheme
@@ -99,22 +92,6 @@ module _ (n k : ℕ) (base table challenges : List ℕ) (d : Deposit n k base ta
   unfolding committedTree
   commit-leaves = refl
 
-  fold-done : (l : ℕ) → l < n → foldNumber (n - l) k 0 (2 * levelLength n k l) (2 * levelLength n k (suc l)) ≡ 0
-  unfolding foldNumber levelLength
-  fold-done l h =
-      let e : n + k - l ≡ n - l + k = omega arith in
-      let half : 2 ^ (n + k - suc l) ≡ 2 ^ (n - l + k) / 2 = sym (half-power (n + k - suc l) (n - l + k) (omega arith)) in
-      yes-all (sized (n - l) k (lent (2 * 2 ^ (n + k - l)) (2 ^ (n - l + k)) ∷ lent (2 * 2 ^ (n + k - suc l)) (2 ^ (n - l + k) / 2) ∷ (6 asks ltb 0 (n - l)) ∷ [])) (
-        le-leb (n - l) 20 (omega (arith, d .n-most)),
-        (
-          le-leb k 4 (d .k-most),
-          (
-            eq-eqb _ _ (ap (λ (x : ℕ). 2 * 2 ^ x) e),
-            (eq-eqb _ _ (ap (λ (x : ℕ). 2 * x) half), (lt-ltb 0 (n - l) (omega arith), tt)),
-          ),
-        ),
-      )
-
   tree-done : (l : ℕ) → l ≤ n → buildNumber (length (levelDomain base l)) (levelLength n k l) (levelWidth present n k l) (2 * levelLength n k l) (32 * treeLength present n k l) ≡ 0
   tree-done l h =
       build-allowed n k l (length (levelDomain base l)) (2 * levelLength n k l) (32 * treeLength present n k l) (sizes-small n k sizes)
@@ -141,44 +118,31 @@ module _ (n k : ℕ) (base table challenges : List ℕ) (d : Deposit n k base ta
     abbrev folded : ℕ → List ℕ
     folded = level c (words challenges)
 
-    -- level l, after l done folds, is the codeword folded l times at variable 0
-    level-is : (l : ℕ) → l ≤ n → levels l ≡ folded l
-    level-is l h = after-level calls c (words challenges) done l (rw r-long h)
-
     level-long : (l : ℕ) → l ≤ n → length (levels l) ≡ levelLength n k l
-    level-long l h = ap length (level-is l h) ∙ codeword-sized n k c (words challenges) c-long (sizes-small n k sizes) c-words .long l h
-
-    levels-lent : levelsLent n levels ≡ levelsLent n folded
-    levels-lent = endToEnd-ext (suc n) levels folded (λ l h. level-is l (omega arith))
-
-    trees-lent : treesLent S levels ≡ treesLent S folded
-    trees-lent = endToEnd-ext (suc n) _ _ (λ l h. ap (λ (x : List ℕ). flat (treeFor S l x)) (level-is l (omega arith)))
-
-    roots-lent : rootsLent S levels ≡ rootsLent S folded
-    roots-lent = endToEnd-ext (suc n) _ _ (λ l h. ap (rootFor S l) (level-is l (omega arith)))
+    level-long l h = ap length (level-is n k base table challenges (d .challenges-long) calls done l h) ∙ codeword-sized n k c (words challenges) c-long (sizes-small n k sizes) c-words .long l h
 
     last-left : leftBy c calls ≡ levels n
-    last-left = left-level calls c (words challenges) done ∙ ap folded r-long ∙ sym (level-is n (omega arith))
+    last-left = left-level calls c (words challenges) done ∙ ap folded r-long ∙ sym (level-is n k base table challenges (d .challenges-long) calls done n (omega arith))
 
     last-entry : (eps : ℕ) → eps < 2 ^ k → at (levels n) eps ≡ mle (at (words table)) (addPoint (words challenges) (shift n k (gammas hash base n k) eps))
     unfolding committedCodeword
-    last-entry eps h = ap (λ (x : List ℕ). at x eps) (level-is n (omega arith)) ∙ last-level-at n k eps (gammas hash base n k) (words table) (words challenges) r-long h
+    last-entry eps h = ap (λ (x : List ℕ). at x eps) (level-is n k base table challenges (d .challenges-long) calls done n (omega arith)) ∙ last-level-at n k eps (gammas hash base n k) (words table) (words challenges) r-long h
 
     query-record : (ls ts roots : List ℕ) → Lent n k base table challenges calls ls ts roots → (position : ℕ) → position < 2 ^ (n + k) → (out : List ℕ) → length out ≡ querySize present n k
         → checkQuery S position challenges roots (buildQuery present n k ls ts position out) ≡ accepted
     query-record ls ts roots z position low out long =
-        let e : ts ≡ treesLent S folded = z .trees-are ∙ trees-lent in
+        let e : ts ≡ treesLent S folded = z .trees-are ∙ trees-lent n k base table challenges (d .challenges-long) calls done in
         let sized = codeword-sized n k c (words challenges) c-long (sizes-small n k sizes) c-words in
         let t : length (treesLent S folded) ≡ 32 * treeStart present n k (suc n) = length-treesLent S length-hash present-powers folded sized in
         let b : QueryBuild present n k ls ts position out = record { sizes = sizes; levels-long = z .levels-long; trees-long = ap length e ∙ t; out-long = long; position-low = low } in
-        rw (build-query-done present n k ls ts position out b, z .levels-are, levels-lent, e, z .roots-are, roots-lent)
+        rw (build-query-done present n k ls ts position out b, z .levels-are, levels-lent n k base table challenges (d .challenges-long) calls done, e, z .roots-are, roots-lent n k base table challenges (d .challenges-long) calls done)
         (committed-query S length-hash present-powers (d .base-short) sizes c c-long c-words challenges (d .challenges-long) position low)
 
     tail-record : (last tree root : List ℕ) → LastLent n k base table challenges calls last tree root → (out : List ℕ) → length out ≡ tailSize present n k
         → (claim : ℕ) → (checkTail S root claim (buildTail present n k last tree out) ≡ 0) ↔ (claim ≡ mle (at (words table)) (words challenges))
     unfolding committedCodeword
     tail-record last tree root z out long claim =
-        let same : levels n ≡ folded n = level-is n (omega arith) in
+        let same : levels n ≡ folded n = level-is n k base table challenges (d .challenges-long) calls done n (omega arith) in
         let t : length tree ≡ 32 * treeLength present n k n =
         ap length (z .tree-is) ∙ length-flat 32 (treeFor S n (levels n)) (treeFor-long S length-hash n (levels n))
         ∙ ap (λ (x : ℕ). 32 * x) (length-treeFor S n (levels n) present-powers) in
@@ -221,7 +185,7 @@ module _ (n k : ℕ) (base table challenges : List ℕ) (d : Deposit n k base ta
       record {
         commit-done = commit-done;
         commit-leaves = commit-leaves;
-        fold-done = fold-done;
+        fold-done = λ l h. fold-done n k l (d .n-most) (d .k-most) h;
         tree-done = tree-done;
         root-last = λ l h values. root-last l values;
         query-done = query-done;

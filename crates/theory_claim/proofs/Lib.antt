@@ -1,2 +1,4 @@
 pub mod Calls
+pub mod Levels
 pub mod Claim
+pub mod Lent

@@ -13,7 +13,6 @@ use Rattle.theory_laws.specs.Questions.{pick}
 use Rattle.theory_laws.specs.Lists.{same}
 use Rattle.theory_laws.proofs.Lists.{Bytes, same-true, same-refl}
 use Rattle.theory_merkle.specs.Binding.{Found, none, pair}
-use Rattle.theory_record.specs.Widths.{Widths}
 use Rattle.theory_record.specs.Query.{checkQuery}
 use Rattle.theory_record.proofs.Widths.{PowersOfTwo}
 use Rattle.theory_record.proofs.Query.{QueryAccepted, query-accepted, query-zero}
@@ -89,12 +88,14 @@ module _ (S : Scheme) (position : ℕ) (challenges roots u v old old′ : List �
   answers-0 m m′ e f = rw (e, f) (refl, (message-in-buffer m, message-in-buffer m′))
 
   -- two records that are accepted for one position, and buffers of 512 bytes
-  pub compare-accepted : ((m : List ℕ) → length (H m) ≡ 32) → PowersOfTwo s → s .width ≤ 8 → Bytes u → Bytes v → length old ≡ messageBuffer → length old′ ≡ messageBuffer
+  pub compare-accepted : ((m : List ℕ) → length (H m) ≡ 32) → PowersOfTwo s → s .width ≤ 8 → Bytes u → Bytes v
+      → length old ≡ messageBuffer → length old′ ≡ messageBuffer
       → checkQuery S position challenges roots u .number ≡ 0 → checkQuery S position challenges roots v .number ≡ 0 → Equal ⊎ Different
   compare-accepted sized p narrow bu bv e e′ eu ev =
       let hu = query-accepted S position challenges roots u (query-zero S position challenges roots u eu) in
       let hv = query-accepted S position challenges roots v (query-zero S position challenges roots v ev) in
-      go (same u v) refl (number-is hu eu ev e e′) (recordsFound S position u v) refl (records-tell S sized narrow (hu .ranges .base-short) position challenges roots p u v bu bv hu hv)
+      go (same u v) refl (number-is hu eu ev e e′) (recordsFound S position u v) refl
+      (records-tell S sized narrow (hu .ranges .base-short) position challenges roots p u v bu bv hu hv)
     where
       go : (b : Bool) → same u v ≡ b → compareNumber S position challenges roots u v old old′ ≡ pick (not b) 0 33
           → (f : Found) → recordsFound S position u v ≡ f → Tells H (u ≡ v) (NearestRoot S position u v) f → Equal ⊎ Different

@@ -5,7 +5,7 @@ use mathlib.Core.Path.{_≡_, refl, sym, ap, ap₂, _∙_}
 use mathlib.Core.Bool.{Bool}
 use mathlib.Core.Logic.{_⊎_, inl, inr, _≢_}
 use mathlib.Core.List.{List, [], _∷_}
-use Prim.Native.Nat.{ℕ, zero, suc, _+_, _*_, _/_, _%_, _^_, _<_}
+use Prim.Native.Nat.{ℕ, zero, suc, _+_, _*_, _/_, _^_, _<_}
 use native.Mathlib.Nat.{le-of-suc-le, add-suc, add-zero}
 use native.Mathlib.Omega.{arith}
 use lib.Pow.{pow-lt}
@@ -15,7 +15,7 @@ use Rattle.theory_laws.proofs.Xor.{bit-cases, ⊕-self, ⊕-dbl, ⊕-half}
 use Rattle.theory_laws.proofs.Linear.{Additive, at-zero, ext, allBelow, below, sum-additive, linear, linear-additive}
 use Rattle.theory_field.specs.Field.{reduction, xtime, _⊗_, sq, frob, ladder, inverse}
 use Rattle.theory_field.specs.LongProduct.{long}
-use Rattle.theory_field.proofs.Product.{times, times-one, times-xtime, one-⊗, ⊗-one, pow-⊗, ⊗-lt, ⊗-comm, ⊗-assoc, ⊗-left-comm, zero-⊗, ⊗-zero}
+use Rattle.theory_field.proofs.Product.{times, times-one, times-xtime, one-⊗, ⊗-one, pow-⊗, ⊗-lt, ⊗-comm, ⊗-assoc, zero-⊗, ⊗-zero}
 use Rattle.theory_field.proofs.Square.{sq-lt, sq-⊕, sq-⊗, sqFast, sqFast-⊕, sq-fast, spread, reduceOnce, byReduction}
 
 -- ---- repeated squaring

@@ -3,14 +3,16 @@
 use mathlib.Core.Path.{_≡_, refl, sym, ap, ap₂, _∙_, subst}
 use mathlib.Core.Bool.{Bool}
 use Prim.Native.Nat.{ℕ, zero, suc, _+_, _-_, _*_, _/_, _%_, _^_, _<_}
-use native.Mathlib.Nat.{mul-comm, mul-assoc, zero-mul, mul-one, one-mul, add-comm, zero-add, add-zero, suc-add, add-suc, zero-lt-suc, pow-suc, lt-of-lt-of-le, not-suc-le-zero, le-of-suc-le-suc, mul-mod-left, mul-div-cancel, le-add-right, pow-succ'}
+use native.Mathlib.Nat.{mul-comm, mul-assoc, zero-mul, mul-one, one-mul, add-comm, zero-add, add-zero, suc-add, add-suc, pow-suc, pow-succ'}
+use native.Mathlib.Nat.{zero-lt-suc, lt-of-lt-of-le, not-suc-le-zero, le-of-suc-le-suc, le-add-right, mul-mod-left, mul-div-cancel}
 use native.Mathlib.Omega.{arith}
 use lib.Arith.{lt-one}
 use lib.Pow.{pow-pos, pow-mono, pow-add}
 use lib.Bits.{block-half, block-odd}
 use lib.Dec.{T, eqb, eqb→eq}
 use Rattle.theory_laws.specs.Xor.{_⊕_, sel}
-use Rattle.theory_laws.proofs.Xor.{zero-⊕, ⊕-zero, ⊕-self, ⊕-dbl, ⊕-mod, ⊕-shr, ⊕-shl, ⊕-half, ⊕-swap, ⊕-lt, ⊕-assoc, ⊕-comm, ⊕-left-comm, ⊕-cancel, ⊕-parts, sel-⊕, sel-odd, sel-lt}
+use Rattle.theory_laws.proofs.Xor.{zero-⊕, ⊕-zero, ⊕-self, ⊕-dbl, ⊕-mod, ⊕-shr, ⊕-shl, ⊕-half, ⊕-swap, ⊕-lt}
+use Rattle.theory_laws.proofs.Xor.{⊕-assoc, ⊕-comm, ⊕-left-comm, ⊕-cancel, ⊕-parts, sel-⊕, sel-odd, sel-lt}
 use Rattle.theory_laws.proofs.Linear.{Additive, at-zero, ext, allBelow, below}
 use Rattle.theory_field.specs.Field.{reduction, xtime, mulBits, _⊗_}
 use Rattle.theory_field.specs.LongProduct.{long, _·_}
@@ -141,7 +143,8 @@ pub karatsuba : (al ah bl bh : ℕ) → al < 2 ^ 64 → bl < 2 ^ 64
     ≡ (long 64 al bl ⊕ (long 64 (al ⊕ ah) (bl ⊕ bh) ⊕ (long 64 al bl ⊕ long 64 ah bh)) * 2 ^ 64) ⊕ long 64 ah bh * 2 ^ 64 * 2 ^ 64
 karatsuba al ah bl bh ha hb =
     long-split 64 64 (ah * 2 ^ 64 + al) bh bl hb
-    ∙ ap₂ _⊕_ (first bl) (long-shl 64 64 (ah * 2 ^ 64 + al) bh ∙ ap (λ (x : ℕ). x * 2 ^ 64) (first bh) ∙ sym (⊕-shl 64 (long 64 ah bh * 2 ^ 64) (long 64 al bh)))
+    ∙ ap₂ _⊕_ (first bl)
+    (long-shl 64 64 (ah * 2 ^ 64 + al) bh ∙ ap (λ (x : ℕ). x * 2 ^ 64) (first bh) ∙ sym (⊕-shl 64 (long 64 ah bh * 2 ^ 64) (long 64 al bh)))
     ∙ regroup (long 64 ah bl * 2 ^ 64) (long 64 al bl) (long 64 ah bh * 2 ^ 64 * 2 ^ 64) (long 64 al bh * 2 ^ 64)
     ∙ ap (λ (x : ℕ). (long 64 al bl ⊕ x) ⊕ long 64 ah bh * 2 ^ 64 * 2 ^ 64) (⊕-shl 64 (long 64 ah bl) (long 64 al bh) ∙ ap (λ (x : ℕ). x * 2 ^ 64) (sym middle))
   where
@@ -193,7 +196,9 @@ red-pow (suc m) h =
 red-shl : (i a : ℕ) → i < 128 → a < 2 ^ 128 → times i a ≡ red (a * 2 ^ i)
 red-shl i a h l =
     ext 128 (times i) (λ x. red (x * 2 ^ i)) (times-⊕ i) (λ x y. ap red (sym (⊕-shl i x y)) ∙ red-⊕ (x * 2 ^ i) (y * 2 ^ i))
-    (λ j k. ap (times i) (sym (times-one j k)) ∙ times-times i j 1 ∙ sym (red-pow (i + j) (omega arith)) ∙ ap red (pow-add 2 i j ∙ mul-comm (2 ^ i) (2 ^ j))) a l
+    (λ j k.
+    ap (times i) (sym (times-one j k)) ∙ times-times i j 1 ∙ sym (red-pow (i + j) (omega arith))
+    ∙ ap red (pow-add 2 i j ∙ mul-comm (2 ^ i) (2 ^ j))) a l
 
 -- the product of words, reduced from the long product
 pub ⊗-red : (a b : ℕ) → a < 2 ^ 128 → b < 2 ^ 128 → a ⊗ b ≡ red (long 128 a b)

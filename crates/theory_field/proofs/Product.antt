@@ -1,13 +1,14 @@
 -- The product is additive on both sides, commutative and associative, and 1 is its unit: a commutative ring of all numbers.
 use mathlib.Core.Path.{_≡_, refl, sym, ap, ap₂, _∙_}
 use Prim.Native.Nat.{ℕ, zero, suc, _+_, _*_, _/_, _%_, _^_, _<_}
-use native.Mathlib.Nat.{not-suc-le-zero, zero-lt-suc, mod-lt, le-of-suc-le-suc, pow-suc, mul-div-cancel, mul-mod-left, lt-of-lt-of-le, le-of-suc-le, mod-mod, mod-eq-of-lt, two-mul, add-mod, zero-add, suc-add}
-use native.Mathlib.Omega.{arith}
-use lib.Pow.{pow-pos, pow-mono, split, field}
+use native.Mathlib.Nat.{not-suc-le-zero, zero-lt-suc, le-of-suc-le-suc, le-of-suc-le, zero-add, suc-add, two-mul, pow-suc}
+use native.Mathlib.Nat.{mod-lt, mod-mod, mod-eq-of-lt, add-mod, mul-mod-left, mul-div-cancel}
+use lib.Pow.{pow-pos, split, field}
 use lib.Bits.{shifted-half, shifted-even}
-use lib.Dec.{T, eqb, eqb→eq, lit≤, lit<}
+use lib.Dec.{T, eqb, eqb→eq, lit<}
 use Rattle.theory_laws.specs.Xor.{_⊕_, bit, sel}
-use Rattle.theory_laws.proofs.Xor.{zero-⊕, ⊕-zero, ⊕-self, ⊕-dbl, ⊕-mod, ⊕-half, ⊕-swap, ⊕-lt, ⊕-parts, ⊕-assoc, ⊕-left-comm, ⊕-comm, ⊕-cancel, sel-zero, sel-⊕, sel-odd, sel-bit, sel-lt}
+use Rattle.theory_laws.proofs.Xor.{zero-⊕, ⊕-zero, ⊕-self, ⊕-dbl, ⊕-mod, ⊕-half, ⊕-swap, ⊕-lt, ⊕-parts}
+use Rattle.theory_laws.proofs.Xor.{⊕-assoc, ⊕-left-comm, ⊕-comm, ⊕-cancel, sel-⊕, sel-odd, sel-bit, sel-lt}
 use Rattle.theory_laws.proofs.Linear.{Additive, at-zero, ext, allBelow, below}
 use Rattle.theory_field.specs.Field.{reduction, xtime, mulBits, _⊗_}
 
@@ -208,7 +209,9 @@ pub ⊗-assoc : (a b c : ℕ) → (a ⊗ b) ⊗ c ≡ a ⊗ (b ⊗ c)
     ∙ ext 128 (λ x. (x ⊗ b) ⊗ c) (λ x. x ⊗ (b ⊗ c))
     (λ x y. ap (λ (z : ℕ). z ⊗ c) (⊕-⊗ x y b) ∙ ⊕-⊗ (x ⊗ b) (y ⊗ b) c)
     (λ x y. ⊕-⊗ x y (b ⊗ c))
-    (λ i k. ap (λ (x : ℕ). x ⊗ c) (pow-⊗-mod i b k) ∙ times-⊗ i (b % 2 ^ 128) c ∙ ap (times i) (mod-⊗ b c ∙ sym (mod-eq-of-lt (⊗-lt b c))) ∙ sym (pow-⊗-mod i (b ⊗ c) k))
+    (λ i k.
+    ap (λ (x : ℕ). x ⊗ c) (pow-⊗-mod i b k) ∙ times-⊗ i (b % 2 ^ 128) c ∙ ap (times i) (mod-⊗ b c ∙ sym (mod-eq-of-lt (⊗-lt b c)))
+    ∙ sym (pow-⊗-mod i (b ⊗ c) k))
     (a % 2 ^ 128) (mod-lt a (pow-pos 128))
     ∙ mod-⊗ a (b ⊗ c)
 
@@ -241,4 +244,22 @@ unfolding sel
 ⊗-sel (suc b) c x = refl
 
 -- `simp ring` decides equations between sums of products; where a bare 1 ⊗ a is left, `simp (ring, one-⊗)` with a < 2 ^ 128 in reach
-pub ruleset ring = (⊕-comm, ⊕-assoc, ⊕-left-comm, ⊕-self, ⊕-cancel, ⊕-zero, zero-⊕, ⊗-comm, ⊗-assoc, ⊗-left-comm, ⊗-zero, zero-⊗, ⊗-⊕, ⊕-⊗, one-⊗-⊗, ⊗-one-⊗, ⊗-⊗-one)
+pub ruleset ring = (
+  ⊕-comm,
+  ⊕-assoc,
+  ⊕-left-comm,
+  ⊕-self,
+  ⊕-cancel,
+  ⊕-zero,
+  zero-⊕,
+  ⊗-comm,
+  ⊗-assoc,
+  ⊗-left-comm,
+  ⊗-zero,
+  zero-⊗,
+  ⊗-⊕,
+  ⊕-⊗,
+  one-⊗-⊗,
+  ⊗-one-⊗,
+  ⊗-⊗-one,
+)

@@ -27,7 +27,8 @@ spread-split (suc m) n c d h =
     ∙ ap (λ (x : ℕ). d % 2 ⊕ x)
     (ap (λ (x : ℕ). x * 2 ^ 2) (spread-split m n c (d / 2) (omega arith))
     ∙ sym (⊕-shl 2 (spread m (d / 2)) (spread n c * 2 ^ (2 * m)))
-    ∙ ap (λ (x : ℕ). spread m (d / 2) * 2 ^ 2 ⊕ x) (mul-assoc (spread n c) (2 ^ (2 * m)) (2 ^ 2) ∙ ap (λ (x : ℕ). spread n c * x) (sym (pow-add 2 (2 * m) 2) ∙ ap (λ (x : ℕ). 2 ^ x) two)))
+    ∙ ap (λ (x : ℕ). spread m (d / 2) * 2 ^ 2 ⊕ x)
+    (mul-assoc (spread n c) (2 ^ (2 * m)) (2 ^ 2) ∙ ap (λ (x : ℕ). spread n c * x) (sym (pow-add 2 (2 * m) 2) ∙ ap (λ (x : ℕ). 2 ^ x) two)))
     ∙ sym (⊕-assoc (d % 2) (spread m (d / 2) * 2 ^ 2) (spread n c * 2 ^ (2 * suc m)))
   where
     two : 2 * m + 2 ≡ 2 * suc m
@@ -45,4 +46,6 @@ pub sq-spread : (v : ℕ) → v < 2 ^ 128 → sq v ≡ red (spread 128 v)
 unfolding sq right
 sq-spread v h =
     ext 128 sq (λ x. red (spread 128 x)) sq-⊕ (then-additive (spread 128) red (spread-⊕ 128) red-⊕)
-    (λ i k. ⊗-red (2 ^ i) (2 ^ i) (pow-lt k) (pow-lt k) ∙ ap red (long-pow 128 i (2 ^ i) k ∙ sym (eqb→eq (spread 128 (2 ^ i)) (2 ^ i * 2 ^ i) (below 128 right basis i k)))) v h
+    (λ i k.
+    let spreads = eqb→eq (spread 128 (2 ^ i)) (2 ^ i * 2 ^ i) (below 128 right basis i k) in
+    ⊗-red (2 ^ i) (2 ^ i) (pow-lt k) (pow-lt k) ∙ ap red (long-pow 128 i (2 ^ i) k ∙ sym spreads)) v h

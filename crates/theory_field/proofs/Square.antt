@@ -1,13 +1,13 @@
 -- Squaring is additive: the bits spread out, each with a zero above it, and reduced. `sqFast` computes it that way.
-use mathlib.Core.Path.{_≡_, refl, sym, ap, ap₂, _∙_}
+use mathlib.Core.Path.{_≡_, sym, ap, ap₂, _∙_}
 use mathlib.Core.Bool.{Bool}
 use Prim.Native.Nat.{ℕ, zero, suc, _*_, _/_, _%_, _^_, _<_}
 use lib.Pow.{pow-lt}
 use lib.Dec.{T, eqb, eqb→eq}
 use Rattle.theory_laws.specs.Xor.{_⊕_, bit, sel}
 use Rattle.theory_laws.proofs.Xor.{⊕-self, ⊕-mod, ⊕-shr, ⊕-shl, ⊕-half, ⊕-odd, ⊕-swap}
-use Rattle.theory_laws.proofs.Linear.{Additive, ext, allBelow, below, sum-additive, shl-additive}
-use Rattle.theory_field.specs.Field.{reduction, xtime, mulBits, _⊗_, sq}
+use Rattle.theory_laws.proofs.Linear.{Additive, ext, allBelow, below, sum-additive}
+use Rattle.theory_field.specs.Field.{reduction, xtime, _⊗_, sq}
 use Rattle.theory_field.specs.LongProduct.{long}
 use Rattle.theory_field.proofs.Product.{times, ⊗-pow, ⊗-lt, ring}
 use Rattle.theory_field.proofs.LongProduct.{⊕-long}

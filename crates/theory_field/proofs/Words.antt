@@ -42,6 +42,10 @@ length-words (a ∷ b ∷ l) = omega (arith, length-words l)
 pub length-words-even : (l : List ℕ) (m : ℕ) → length l ≡ 2 * m → length (words l) ≡ m
 length-words-even l m h = omega (arith, length-words l)
 
+-- and a longer one has them
+pub words-there : (l : List ℕ) (m : ℕ) → 2 * m ≤ length l → m ≤ length (words l)
+words-there l m h = omega (arith, length-words l)
+
 -- a run of words out of a slice
 pub take-words : (n : ℕ) (l : List ℕ) → words (take (2 * n) l) ≡ take n (words l)
 unfolding words

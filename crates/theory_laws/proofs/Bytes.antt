@@ -66,7 +66,8 @@ unfolding leBytes
 leBytes-add zero n x = ap₂ leBytes (zero-add n) (sym (div-one x))
 leBytes-add (suc m) n x =
     rw (suc-add m n) (ap (λ (r : List ℕ). x % 256 ∷ r)
-    (leBytes-add m n (x / 256) ∙ ap (λ (y : ℕ). leBytes m (x / 256) ++ leBytes n y) (div-div-eq-div-mul x 256 (256 ^ m) ∙ ap (λ (y : ℕ). x / y) (sym (pow-succ' 256 m)))))
+    (leBytes-add m n (x / 256)
+    ∙ ap (λ (y : ℕ). leBytes m (x / 256) ++ leBytes n y) (div-div-eq-div-mul x 256 (256 ^ m) ∙ ap (λ (y : ℕ). x / y) (sym (pow-succ' 256 m)))))
 
 -- what stands above the bytes does not show in them
 pub leBytes-low : (n h x : ℕ) → leBytes n (h * 256 ^ n + x) ≡ leBytes n x
@@ -120,7 +121,8 @@ unfolding flat
 length-numbers n [] = omega arith
 length-numbers n (x ∷ xs) = rw (length-append, length-leBytes, length-numbers n xs) (omega arith)
 
-pub numbers-determine : (n : ℕ) (xs ys : List ℕ) → 0 < n → AllBelow (256 ^ n) xs → AllBelow (256 ^ n) ys → flat (map (leBytes n) xs) ≡ flat (map (leBytes n) ys) → xs ≡ ys
+pub numbers-determine : (n : ℕ) (xs ys : List ℕ) → 0 < n → AllBelow (256 ^ n) xs → AllBelow (256 ^ n) ys
+    → flat (map (leBytes n) xs) ≡ flat (map (leBytes n) ys) → xs ≡ ys
 unfolding flat
 numbers-determine n [] [] h hx hy e = refl
 numbers-determine n [] (y ∷ ys) h hx hy e = absurd (omega (arith, simp (length-append, length-leBytes) at (ap length e)))

@@ -1,17 +1,16 @@
 -- Additive maps: two that agree on the powers of two below 2^n agree below 2^n. So a map that is linear over two values is
 -- known by n values, and those are one computed test (`below`).
-use mathlib.Core.Path.{_≡_, refl, sym, ap, ap₂, _∙_, subst}
+use mathlib.Core.Path.{_≡_, sym, ap, ap₂, _∙_}
 use mathlib.Core.Bool.{Bool, true, false, _&&_}
 use mathlib.Core.Logic.{_⊎_, inl, inr, ⊎-elim}
-use Prim.Native.Nat.{ℕ, zero, suc, _+_, _-_, _*_, _/_, _%_, _^_, _≤_, _<_, zero-le, suc-le-suc}
-use native.Mathlib.Nat.{mul-comm, pow-succ', not-suc-le-zero, zero-lt-suc, div-add-mod', zero-mul, one-mul, le-of-suc-le-suc, pow-suc, eq-or-lt-of-le, mod-lt, mod-eq-of-lt}
-use lib.Pow.{pow-pos, pow-lt}
+use Prim.Native.Nat.{ℕ, zero, suc, _-_, _*_, _/_, _%_, _^_, _<_, suc-le-suc}
+use native.Mathlib.Nat.{mul-comm, pow-succ', div-add-mod'}
+use native.Mathlib.Nat.{not-suc-le-zero, zero-lt-suc, le-of-suc-le-suc, eq-or-lt-of-le}
 use native.Mathlib.Omega.{arith}
-use native.Mathlib.Decide.{le-ind}
 use mathlib.Core.List.{List, [], _∷_}
 use lib.Arith.{lt-one}
 use lib.Bits.{bitAnd}
-use lib.Dec.{T, eqb, eqb→eq}
+use lib.Dec.{T}
 use Rattle.theory_laws.specs.Xor.{_⊕_, sel}
 use Rattle.theory_laws.proofs.Xor.{odd-cases, ⊕-self, ⊕-dbl, ⊕-parts, ⊕-mod, ⊕-shl, ⊕-shr, ⊕-swap, ⊕-half, sel-odd, and-⊕}
 

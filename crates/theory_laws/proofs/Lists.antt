@@ -10,7 +10,8 @@ use native.Mathlib.Decide.{decLt}
 use borrow.Author.Tests.{eqb-true, eq-eqb}
 use lib.Dec.{eqb}
 use lib.ListN.{length, getD, take, drop, set, length-append, length-take, length-drop, take-append-drop, drop-of-length-le}
-use lib.Seq.{drop-drop, getD-drop, getD-take, sets, sets-eq, length-sets, take-set-le, take-take, take-add, take-at, drop-at, take-nil, set-set, set-comm, set-getD, drop-cons, length-take-le}
+use lib.Seq.{drop-drop, getD-drop, getD-take, sets, sets-eq, length-sets, take-set-le, take-take, take-add, take-at, drop-at, take-nil}
+use lib.Seq.{set-set, set-comm, set-getD, drop-cons, length-take-le}
 use Rattle.theory_laws.specs.Questions.{both}
 use Rattle.theory_laws.specs.Lists.{part, runs, flat, stored, leBytes, leValue, same}
 pub use Rattle.theory_laws.specs.Lists.{AllLong, Bytes}
@@ -50,6 +51,9 @@ pub lent-part : (n i : ℕ) (l : List ℕ) → take (i + n - i) (drop i l) ≡ p
 unfolding part
 lent-part n i l = ap (λ (k : ℕ). take k (drop i l)) (let e : i + n - i ≡ n = omega arith in e)
 
+pub length-lent : (n i : ℕ) (l : List ℕ) → i + n ≤ length l → length (take (i + n - i) (drop i l)) ≡ n
+length-lent n i l h = ap length (lent-part n i l) ∙ length-part n i l h
+
 -- a part of bytes is bytes
 pub part-at-le : (m i : ℕ) (l : List ℕ) (k : ℕ) → at (part m i l) k ≤ at l (i + k)
 unfolding part
@@ -77,25 +81,37 @@ unfolding runs
 length-runs n zero l = refl
 length-runs n (suc c) l = ap suc (length-runs n c (drop n l))
 
+-- past the first item, and k items more
+drop-run : (n k : ℕ) (l : List ℕ) → drop (n * k) (drop n l) ≡ drop (n * suc k) l
+drop-run n k l =
+    let e : n + n * k ≡ n * suc k = omega arith in
+    drop-drop (n * k) n l ∙ ap (λ (m : ℕ). drop m l) e
+
 -- item k
 pub getD-runs : (n c k : ℕ) (l : List ℕ) → k < c → getD (runs n c l) k [] ≡ part n (n * k) l
 unfolding runs part
 getD-runs n zero k l h = absurd (omega arith)
 getD-runs n (suc c) zero l h = ap (λ (m : ℕ). take n (drop m l)) (let e : 0 ≡ n * 0 = omega arith in e)
 getD-runs n (suc c) (suc k) l h =
-    getD-runs n c k (drop n l) (omega arith) ∙ ap (take n) (drop-drop (n * k) n l ∙ ap (λ (m : ℕ). drop m l) (let e : n + n * k ≡ n * suc k = omega arith in e))
+    getD-runs n c k (drop n l) (omega arith) ∙ ap (take n) (drop-run n k l)
 
 pub flat-runs : (n c : ℕ) (l : List ℕ) → flat (runs n c l) ≡ take (n * c) l
 unfolding flat runs
 flat-runs n zero l = ap (λ (k : ℕ). take k l) (let e : 0 ≡ n * 0 = omega arith in e)
 flat-runs n (suc c) l =
-    ap (λ (r : List ℕ). take n l ++ r) (flat-runs n c (drop n l)) ∙ sym (take-add n (n * c) l) ∙ ap (λ (k : ℕ). take k l) (let e : n + n * c ≡ n * suc c = omega arith in e)
+    let e : n + n * c ≡ n * suc c = omega arith in
+    ap (λ (r : List ℕ). take n l ++ r) (flat-runs n c (drop n l)) ∙ sym (take-add n (n * c) l) ∙ ap (λ (k : ℕ). take k l) e
 
 pub runs-flat : (n : ℕ) (xs : List (List ℕ)) (t : List ℕ) → AllLong n xs → runs n (length xs) (flat xs ++ t) ≡ xs
 unfolding runs flat
 runs-flat n [] t h = refl
 runs-flat n (x ∷ xs) t h =
-    rw (append-assoc x (flat xs) t, take-at x (flat xs ++ t) n (h .0), drop-at x (flat xs ++ t) n (h .0)) (ap (λ (r : List (List ℕ)). x ∷ r) (runs-flat n xs t (h .1)))
+    rw (append-assoc x (flat xs) t, take-at x (flat xs ++ t) n (h .0), drop-at x (flat xs ++ t) n (h .0))
+    (ap (λ (r : List (List ℕ)). x ∷ r) (runs-flat n xs t (h .1)))
+
+-- items end to end, with nothing after them, read back
+pub runs-of-flat : (n c : ℕ) (xs : List (List ℕ)) → length xs ≡ c → AllLong n xs → runs n c (flat xs) ≡ xs
+runs-of-flat n c xs e a = ap₂ (λ (i : ℕ) (b : List ℕ). runs n i b) (sym e) (sym (append-nil (flat xs))) ∙ runs-flat n xs [] a
 
 pub length-flat : (n : ℕ) (xs : List (List ℕ)) → AllLong n xs → length (flat xs) ≡ n * length xs
 unfolding flat
@@ -113,7 +129,7 @@ drop-runs n c zero l h = ap₂ (λ i j. runs n i (drop j l)) (let e : c ≡ c - 
 drop-runs n zero (suc k) l h = absurd (omega arith)
 drop-runs n (suc c) (suc k) l h =
     drop-runs n c k (drop n l) (omega arith)
-    ∙ ap₂ (λ (i : ℕ) (x : List ℕ). runs n i x) (let e : c - k ≡ suc c - suc k = omega arith in e) (drop-drop (n * k) n l ∙ ap (λ i. drop i l) (let e : n + n * k ≡ n * suc k = omega arith in e))
+    ∙ ap₂ (λ (i : ℕ) (x : List ℕ). runs n i x) (let e : c - k ≡ suc c - suc k = omega arith in e) (drop-run n k l)
 
 -- items in two parts
 pub runs-add : (n a b : ℕ) (l : List ℕ) → runs n (a + b) l ≡ runs n a l ++ runs n b (drop (n * a) l)
@@ -122,7 +138,7 @@ runs-add n zero b l = ap₂ (λ (i j : ℕ). runs n i (drop j l)) (let e : 0 + b
 runs-add n (suc a) b l =
     rw (suc-add a b)
     (ap (λ (r : List (List ℕ)). take n l ∷ r)
-    (runs-add n a b (drop n l) ∙ ap (λ (x : List ℕ). runs n a (drop n l) ++ runs n b x) (drop-drop (n * a) n l ∙ ap (λ i. drop i l) (let e : n + n * a ≡ n * suc a = omega arith in e))))
+    (runs-add n a b (drop n l) ∙ ap (λ (x : List ℕ). runs n a (drop n l) ++ runs n b x) (drop-run n a l)))
 
 -- lists with one beginning have the same items in it
 pub runs-same : (n c : ℕ) (l m : List ℕ) → take (n * c) l ≡ take (n * c) m → runs n c l ≡ runs n c m
@@ -174,7 +190,9 @@ stored-cons l at x bs = refl
 pub stored-append : (l : List ℕ) (i : ℕ) (a b : List ℕ) → stored l i (a ++ b) ≡ stored (stored l i a) (i + length a) b
 unfolding stored
 stored-append l i [] b = ap (λ (k : ℕ). sets l k b) (let e : i ≡ i + 0 = omega arith in e)
-stored-append l i (x ∷ a) b = stored-append (set l i x) (suc i) a b ∙ ap (λ (k : ℕ). sets (sets (set l i x) (suc i) a) k b) (let e : suc i + length a ≡ i + suc (length a) = omega arith in e)
+stored-append l i (x ∷ a) b =
+    let e : suc i + length a ≡ i + suc (length a) = omega arith in
+    stored-append (set l i x) (suc i) a b ∙ ap (λ (k : ℕ). sets (sets (set l i x) (suc i) a) k b) e
 
 -- the whole of a list
 pub stored-all : (l vs : List ℕ) → length vs ≡ length l → stored l 0 vs ≡ vs
@@ -198,7 +216,9 @@ stored-same zero i t = refl
 stored-same (suc n) i t = go (stored-same n (suc i) t) (decLt i (length t))
   where
     go : sets t (suc i) (take n (drop (suc i) t)) ≡ t → Dec (i < length t) → sets t i (take (suc n) (drop i t)) ≡ t
-    go e (yes h) = ap (λ (x : List ℕ). sets t i (take (suc n) x)) (drop-cons t i 0 h) ∙ ap (λ (l : List ℕ). sets l (suc i) (take n (drop (suc i) t))) (set-getD t i 0) ∙ e
+    go e (yes h) =
+        ap (λ (x : List ℕ). sets t i (take (suc n) x)) (drop-cons t i 0 h)
+        ∙ ap (λ (l : List ℕ). sets l (suc i) (take n (drop (suc i) t))) (set-getD t i 0) ∙ e
     go e (no h) = rw (drop-of-length-le t {i = i} (omega arith))
 
 stored-set : (m : List ℕ) (j k y : ℕ) (a : List ℕ) → j < k → set (stored m k a) j y ≡ stored (set m j y) k a

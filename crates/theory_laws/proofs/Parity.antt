@@ -1,8 +1,8 @@
 -- Even and odd places: every v is w * 2 or w * 2 + 1. Halves, low bits, and the bits of a power of two.
 use mathlib.Core.Path.{_≡_, refl, sym, ap, _∙_, subst}
-use Prim.Native.Nat.{ℕ, zero, suc, _+_, _-_, _*_, _/_, _%_, _^_, _≤_, _<_}
+use Prim.Native.Nat.{ℕ, zero, suc, _+_, _-_, _*_, _/_, _%_, _^_, _<_}
 use mathlib.Core.Logic.{_≢_}
-use native.Mathlib.Nat.{div-one, zero-div, pow-suc, pow-succ', div-div-eq-div-mul}
+use native.Mathlib.Nat.{div-one, zero-div, pow-succ', div-div-eq-div-mul}
 use native.Mathlib.Numerals.{add-one}
 use lib.Pow.{field, mod-mod-pow, mod-pow-add}
 use native.Mathlib.Omega.{arith}
@@ -76,4 +76,6 @@ pub bit-other : (i b : ℕ) → i ≢ b → 2 ^ b / 2 ^ i % 2 ≡ 0
 bit-other zero zero h = absurd (h refl)
 bit-other zero (suc b) h = rw (div-one (2 ^ suc b)) (omega arith)
 bit-other (suc i) zero h = ap (λ x. x % 2) (sym (high-half 1 i) ∙ ap (λ x. x / 2 ^ i) {x = 1 / 2} {y = 0} refl ∙ zero-div (2 ^ i))
-bit-other (suc i) (suc b) h = ap (λ x. x % 2) (sym (high-half (2 ^ suc b) i) ∙ ap (λ x. x / 2 ^ i) {x = 2 ^ suc b / 2} {y = 2 ^ b} (omega arith)) ∙ bit-other i b (λ e. h (ap suc e))
+bit-other (suc i) (suc b) h =
+    let half : 2 ^ suc b / 2 ≡ 2 ^ b = omega arith in
+    ap (λ x. x % 2) (sym (high-half (2 ^ suc b) i) ∙ ap (λ x. x / 2 ^ i) half) ∙ bit-other i b (λ e. h (ap suc e))

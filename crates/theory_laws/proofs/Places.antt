@@ -1,13 +1,13 @@
 -- The places of pair q at bit i: `ins i 0 q` and `ins i 1 q`. `flip i` goes from one to the other, and `del i` gives q back.
-use mathlib.Core.Path.{_≡_, refl, sym, ap, ap₂, _∙_, subst, fun-ext}
-use mathlib.Core.Logic.{_≢_, _⊎_, inl, inr, ⊎-elim}
+use mathlib.Core.Path.{_≡_, sym, ap, ap₂, _∙_}
+use mathlib.Core.Logic.{_⊎_, inl, inr, ⊎-elim}
 use Prim.Native.Nat.{ℕ, zero, suc, _+_, _-_, _*_, _/_, _%_, _^_, _≤_, _<_}
 use native.Mathlib.Nat.{pow-suc, div-one, mod-one}
 use native.Mathlib.Omega.{arith}
-use lib.Pow.{pow-pos, split}
+use lib.Pow.{split}
 use lib.Arith.{digits-div, digits-mod}
 use Rattle.theory_laws.specs.Places.{ins, del, flip}
-use Rattle.theory_laws.proofs.Parity.{parity, even-half, even-bit, odd-half, odd-bit, by-parity, low-bit, low-half, high-half, mod-double}
+use Rattle.theory_laws.proofs.Parity.{parity, by-parity, low-bit, low-half, high-half, mod-double}
 
 pub ins-even : (i b w : ℕ) → ins (suc i) b (w * 2) ≡ ins i b w * 2
 unfolding ins
@@ -59,25 +59,32 @@ ins-closed (suc i) b v h =
     ap (λ x. x * 2 + v % 2) (ins-closed i b (v / 2) h)
     ∙ rw (high-half v i, mod-double v i, pow-suc 2 (suc i), pow-suc 2 i) (omega arith)
 
+-- a number whose halves were taken apart comes together again
+halved : (f : ℕ → ℕ) (x q : ℕ) → f ((x * 2 + q % 2) / 2) * 2 + (x * 2 + q % 2) % 2 ≡ f x * 2 + q % 2
+halved f x q =
+    let h : (x * 2 + q % 2) / 2 ≡ x = omega arith in
+    let l : (x * 2 + q % 2) % 2 ≡ q % 2 = omega arith in
+    ap₂ (λ y c. f y * 2 + c) h l
+
 pub del-ins : (i b q : ℕ) → b < 2 → del i (ins i b q) ≡ q
 unfolding del ins
 del-ins zero b q h = omega arith
 del-ins (suc i) b q h =
-    ap₂ (λ x c. del i x * 2 + c) {x = (ins i b (q / 2) * 2 + q % 2) / 2} {y = ins i b (q / 2)} {u = (ins i b (q / 2) * 2 + q % 2) % 2} {v = q % 2} (omega arith) (omega arith)
+    halved (del i) (ins i b (q / 2)) q
     ∙ ap (λ x. x * 2 + q % 2) (del-ins i b (q / 2) h) ∙ omega arith
 
 pub flip-lo : (i q : ℕ) → flip i (ins i 0 q) ≡ ins i 1 q
 unfolding flip ins
 flip-lo zero q = omega arith
 flip-lo (suc i) q =
-    ap₂ (λ x c. flip i x * 2 + c) {x = (ins i 0 (q / 2) * 2 + q % 2) / 2} {y = ins i 0 (q / 2)} {u = (ins i 0 (q / 2) * 2 + q % 2) % 2} {v = q % 2} (omega arith) (omega arith)
+    halved (flip i) (ins i 0 (q / 2)) q
     ∙ ap (λ x. x * 2 + q % 2) (flip-lo i (q / 2))
 
 pub flip-hi : (i q : ℕ) → flip i (ins i 1 q) ≡ ins i 0 q
 unfolding flip ins
 flip-hi zero q = omega arith
 flip-hi (suc i) q =
-    ap₂ (λ x c. flip i x * 2 + c) {x = (ins i 1 (q / 2) * 2 + q % 2) / 2} {y = ins i 1 (q / 2)} {u = (ins i 1 (q / 2) * 2 + q % 2) % 2} {v = q % 2} (omega arith) (omega arith)
+    halved (flip i) (ins i 1 (q / 2)) q
     ∙ ap (λ x. x * 2 + q % 2) (flip-hi i (q / 2))
 
 -- every place is one of a pair

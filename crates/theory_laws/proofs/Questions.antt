@@ -67,7 +67,8 @@ pub firstNo-append : (xs ys : List Question) → T (Numbered xs) → firstNo (xs
 firstNo-append [] ys t = refl
 firstNo-append (q ∷ xs) ys t = go (q .yes?) (eqb (q .number) 0) refl t (firstNo-append xs ys)
   where
-    go : (b z : Bool) → eqb (q .number) 0 ≡ z → T (pick z false (Numbered xs)) → (T (Numbered xs) → firstNo (xs ++ ys) ≡ pick (eqb (firstNo xs) 0) (firstNo ys) (firstNo xs))
+    go : (b z : Bool) → eqb (q .number) 0 ≡ z → T (pick z false (Numbered xs))
+        → (T (Numbered xs) → firstNo (xs ++ ys) ≡ pick (eqb (firstNo xs) 0) (firstNo ys) (firstNo xs))
         → pick b (firstNo (xs ++ ys)) (q .number) ≡ pick (eqb (pick b (firstNo xs) (q .number)) 0) (firstNo ys) (pick b (firstNo xs) (q .number))
     go true true e u ih = absurd u
     go true false e u ih = ih u

@@ -1,7 +1,7 @@
 -- Finite sums: additive, split, swapped, by pairs, with one term; and a number is the sum of its bits.
-use mathlib.Core.Path.{_≡_, refl, sym, ap, ap₂, _∙_, fun-ext}
+use mathlib.Core.Path.{_≡_, refl, sym, ap, ap₂, _∙_}
 use mathlib.Core.Logic.{_≢_, ⊎-elim}
-use Prim.Native.Nat.{ℕ, zero, suc, _+_, _-_, _*_, _/_, _%_, _^_, _≤_, _<_}
+use Prim.Native.Nat.{ℕ, zero, suc, _+_, _-_, _*_, _%_, _^_, _<_}
 use native.Mathlib.Nat.{suc-mul, eq-or-lt-of-le, add-suc, add-zero, zero-mul, mod-one, mod-lt, mod-eq-of-lt, div-eq-of-lt, zero-div}
 use native.Mathlib.Numerals.{add-one, one-add}
 use native.Mathlib.Omega.{arith}
@@ -9,7 +9,7 @@ use lib.Pow.{pow-pos, pow-lt, mod-pow-add}
 use Rattle.theory_laws.specs.Xor.{_⊕_, bit, sel}
 use Rattle.theory_laws.specs.Sum.{sum}
 use Rattle.theory_laws.proofs.Parity.{bit-same, bit-other}
-use Rattle.theory_laws.proofs.Xor.{zero-⊕, ⊕-zero, ⊕-self, ⊕-assoc, ⊕-comm, ⊕-swap, ⊕-lt, ⊕-bit, ⊕-parts, sel-zero, sel-⊕, ⊕-cancel}
+use Rattle.theory_laws.proofs.Xor.{zero-⊕, ⊕-zero, ⊕-self, ⊕-assoc, ⊕-comm, ⊕-swap, ⊕-lt, ⊕-bit, ⊕-parts, sel-⊕, ⊕-cancel}
 
 pub sum-ext : (m : ℕ) {f g : ℕ → ℕ} → ((v : ℕ) → v < m → f v ≡ g v) → sum m f ≡ sum m g
 unfolding sum

@@ -39,7 +39,8 @@ unfolding tab
 tab-add zero k f = rw (zero-add k) (ap (tab k) (fun-ext (λ v. ap f (sym (zero-add v)))))
 tab-add (suc m) k f =
     rw (suc-add m k)
-    (ap (λ (r : List ℕ). f 0 ∷ r) (tab-add m k (λ v. f (suc v)) ∙ ap (λ (g : ℕ → ℕ). tab m (λ v. f (suc v)) ++ tab k g) (fun-ext (λ v. ap f (sym (suc-add m v))))))
+    (ap (λ (r : List ℕ). f 0 ∷ r)
+    (tab-add m k (λ v. f (suc v)) ∙ ap (λ (g : ℕ → ℕ). tab m (λ v. f (suc v)) ++ tab k g) (fun-ext (λ v. ap f (sym (suc-add m v))))))
 
 -- one more entry: how a loop that writes f v at place v goes on
 pub tab-suc : (m : ℕ) (f : ℕ → ℕ) → tab (suc m) f ≡ tab m f ++ (f m ∷ [])

@@ -1,13 +1,14 @@
 -- Exclusive or on all naturals: a group in which every element is its own inverse, bit by bit; shifts, parts and masks are
 -- additive, and so is a choice by a bit. Rests on lib.Bits.
-use mathlib.Core.Path.{_≡_, refl, sym, ap, ap₂, _∙_, subst}
-use mathlib.Core.Logic.{_⊎_, inl, inr, ⊎-elim}
-use Prim.Native.Nat.{ℕ, zero, suc, _+_, _-_, _*_, _/_, _%_, _^_, _≤_, _<_, min}
-use native.Mathlib.Nat.{mod-lt, zero-lt-suc, add-zero, zero-add, mul-comm, div-add-mod', zero-mul, one-mul, lt-of-le-of-lt, min-le-left}
+use mathlib.Core.Path.{_≡_, refl, sym, ap, ap₂, _∙_}
+use mathlib.Core.Logic.{_⊎_, inl, inr}
+use Prim.Native.Nat.{ℕ, zero, suc, _+_, _-_, _*_, _/_, _%_, _^_, _<_, min}
+use native.Mathlib.Nat.{mod-lt, zero-lt-suc, add-zero, mul-comm, div-add-mod', zero-mul, one-mul, lt-of-le-of-lt, min-le-left}
 use native.Mathlib.Omega.{arith}
 use lib.Arith.{bin-ind, digits-mod}
 use lib.Pow.{pow-pos}
-use lib.Bits.{bitAnd, and-shr, and-step, and-zero-r, bitXor, differ, xor-step, xor-zero-l, xor-zero-r, xor-comm, xor-self, xor-lt, xor-block, xor-shr, xor-mod, xor-shifted}
+use lib.Bits.{bitAnd, and-shr, and-step, and-zero-r}
+use lib.Bits.{xor-zero-l, xor-zero-r, xor-comm, xor-self, xor-lt, xor-block, xor-shr, xor-mod, xor-shifted}
 use Rattle.theory_laws.specs.Xor.{_⊕_, bit, sel}
 
 -- ---- bits
@@ -175,7 +176,9 @@ and-half : (a m : ℕ) → bitAnd a m / 2 ≡ bitAnd (a / 2) (m / 2)
 and-half a m = and-shr a m 1
 
 and-odd : (a m : ℕ) → bitAnd a m % 2 ≡ min (a % 2) (m % 2)
-and-odd a m = ap (λ (x : ℕ). x % 2) (and-step a m) ∙ digits-mod (bitAnd (a / 2) (m / 2)) (lt-of-le-of-lt (min-le-left (a % 2) (m % 2)) (mod-lt a (zero-lt-suc 1)))
+and-odd a m =
+    let digit = lt-of-le-of-lt (min-le-left (a % 2) (m % 2)) (mod-lt a (zero-lt-suc 1)) in
+    ap (λ (x : ℕ). x % 2) (and-step a m) ∙ digits-mod (bitAnd (a / 2) (m / 2)) digit
 
 pub and-⊕ : (a b m : ℕ) → bitAnd (a ⊕ b) m ≡ bitAnd a m ⊕ bitAnd b m
 and-⊕ a b m = go m a b

@@ -2,7 +2,7 @@
 use Prim.Native.Nat.{ℕ, suc, _+_, _*_, _/_, _%_, _^_, _≤_}
 use mathlib.Core.Path.{_≡_, refl, sym, _∙_, ap, ap₂}
 use mathlib.Core.Bool.{Bool, true, false}
-use mathlib.Core.List.{List, [], _∷_, _++_}
+use mathlib.Core.List.{List, [], _∷_}
 use native.Mathlib.Omega.{arith}
 use lib.Dec.{eqb}
 use lib.ListN.{length}
@@ -43,7 +43,8 @@ sides g d s hd hs = go (eqb (g % 2) 0)
     go false = (hs, hd)
 
 -- the first message, where all that come after it are the same and so its digest is
-first-says : (H : List ℕ → List ℕ) (m m′ : List ℕ) (above above′ : List (List ℕ)) (P : Type 0) → H m ≡ H m′ → above ≡ above′ → (m ≡ m′ → P) → Says H (m ∷ above) (m′ ∷ above′) P (differing m m′)
+first-says : (H : List ℕ → List ℕ) (m m′ : List ℕ) (above above′ : List (List ℕ)) (P : Type 0) → H m ≡ H m′ → above ≡ above′
+    → (m ≡ m′ → P) → Says H (m ∷ above) (m′ ∷ above′) P (differing m m′)
 unfolding differing
 first-says H m m′ above above′ P d e f = go (same m m′) refl
   where
@@ -56,8 +57,8 @@ first-says H m m′ above above′ P d e f = go (same m m′) refl
     }
 
 -- a message before: where those after it say nothing, it does
-step-says : (H : List ℕ → List ℕ) (m m′ : List ℕ) (ms ms′ : List (List ℕ)) (P Q : Type 0) (f : Found) → Says H ms ms′ Q f → (Q → Says H (m ∷ ms) (m′ ∷ ms′) P (differing m m′))
-    → Says H (m ∷ ms) (m′ ∷ ms′) P (orElse f (differing m m′))
+step-says : (H : List ℕ → List ℕ) (m m′ : List ℕ) (ms ms′ : List (List ℕ)) (P Q : Type 0) (f : Found) → Says H ms ms′ Q f
+    → (Q → Says H (m ∷ ms) (m′ ∷ ms′) P (differing m m′)) → Says H (m ∷ ms) (m′ ∷ ms′) P (orElse f (differing m m′))
 step-says H m m′ ms ms′ P Q none q k = k q
 step-says H m m′ ms ms′ P Q (pair x x′) c k =
     record {
@@ -81,7 +82,8 @@ module _ (H : List ℕ → List ℕ) (domain : List ℕ) (sized : (m : List ℕ)
   -- two ways up from one number to one digest
   pub climbs-bind : (l g : ℕ) (m m′ : List ℕ) (ss ss′ : List (List ℕ)) → AllLong 32 ss → AllLong 32 ss′ → length ss ≡ length ss′
       → climb H domain l g (H m) ss ≡ climb H domain l g (H m′) ss′
-      → Says H (messages H domain l g m ss) (messages H domain l g m′ ss′) ((m ≡ m′) × (ss ≡ ss′)) (lastDiffering (messages H domain l g m ss) (messages H domain l g m′ ss′))
+      → Says H (messages H domain l g m ss) (messages H domain l g m′ ss′) ((m ≡ m′) × (ss ≡ ss′))
+      (lastDiffering (messages H domain l g m ss) (messages H domain l g m′ ss′))
   unfolding climb messages lastDiffering nodeDigest
   climbs-bind l g m m′ [] [] a a′ n e = first-says H m m′ [] [] ((m ≡ m′) × (_≡_ {A = List (List ℕ)} [] [])) e refl (λ z. (z, refl))
   climbs-bind l g m m′ [] (s′ ∷ ss′) a a′ n e = absurd (omega arith)
@@ -97,12 +99,14 @@ module _ (H : List ℕ → List ℕ) (domain : List ℕ) (sized : (m : List ℕ)
       (climbs-bind (suc l) (g / 2) p p′ ss ss′ (a .1) (a′ .1) (omega arith) e)
       (λ q.
       let d = apart g (H m) s (H m′) s′ (nodeMessage-determines-digests domain l _ _ _ _ short (x .0) (x .1) (x′ .0) (x′ .1) (q .0)) in
-      first-says H m m′ ms ms′ ((m ≡ m′) × (s ∷ ss ≡ s′ ∷ ss′)) (d .0) (ap₂ (λ (u : List ℕ) (us : List (List ℕ)). messages H domain (suc l) (g / 2) u us) (q .0) (q .1))
+      let after : ms ≡ ms′ = ap₂ (λ (u : List ℕ) (us : List (List ℕ)). messages H domain (suc l) (g / 2) u us) (q .0) (q .1) in
+      first-says H m m′ ms ms′ ((m ≡ m′) × (s ∷ ss ≡ s′ ∷ ss′)) (d .0) after
       (λ z. (z, ap₂ (λ (u : List ℕ) (us : List (List ℕ)). u ∷ us) (d .1) (q .1))))
 
   -- two (group, path) pairs for one place that lead to one root
   pub binding : (count width place : ℕ) (values values′ : List ℕ) (ss ss′ : List (List ℕ)) → AllBelow (2 ^ 128) values → AllBelow (2 ^ 128) values′
-      → AllLong 32 ss → AllLong 32 ss′ → length ss ≡ length ss′ → rootOfPath H domain count width place values ss ≡ rootOfPath H domain count width place values′ ss′
+      → AllLong 32 ss → AllLong 32 ss′ → length ss ≡ length ss′
+      → rootOfPath H domain count width place values ss ≡ rootOfPath H domain count width place values′ ss′
       → Says H (messagesOf H domain count width place values ss) (messagesOf H domain count width place values′ ss′) ((values ≡ values′) × (ss ≡ ss′))
       (collision H domain count width place values ss values′ ss′)
   unfolding rootOfPath leafOf leafDigest collision messagesOf
@@ -123,7 +127,8 @@ unfolding lastDiffering differing
 lastDiffering-same [] = refl
 lastDiffering-same (m ∷ ms) = rw (lastDiffering-same ms, same-refl m)
 
-pub collision-same : (H : List ℕ → List ℕ) (domain : List ℕ) (count width place : ℕ) (values : List ℕ) (ss : List (List ℕ)) → collision H domain count width place values ss values ss ≡ none
+pub collision-same : (H : List ℕ → List ℕ) (domain : List ℕ) (count width place : ℕ) (values : List ℕ) (ss : List (List ℕ))
+    → collision H domain count width place values ss values ss ≡ none
 unfolding collision
 collision-same H domain count width place values ss = lastDiffering-same (messagesOf H domain count width place values ss)
 
@@ -157,7 +162,8 @@ lastDiffering-within n (m ∷ ms) (m′ ∷ ms′) a b =
     orElse-within n (lastDiffering ms ms′) (differing m m′) (lastDiffering-within n ms ms′ (a .1) (b .1)) (differing-within n m m′ (a .0) (b .0))
 
 module _ (H : List ℕ → List ℕ) (domain : List ℕ) (sized : (m : List ℕ) → length (H m) ≡ 32) where
-  messages-within : (n l g : ℕ) (m : List ℕ) (ss : List (List ℕ)) → 136 + length domain ≤ n → length m ≤ n → AllLong 32 ss → AllWithin n (messages H domain l g m ss)
+  messages-within : (n l g : ℕ) (m : List ℕ) (ss : List (List ℕ)) → 136 + length domain ≤ n → length m ≤ n → AllLong 32 ss
+      → AllWithin n (messages H domain l g m ss)
   unfolding messages
   messages-within n l g m [] d k a = (k, tt)
   messages-within n l g m (s ∷ ss) d k a =
@@ -165,13 +171,15 @@ module _ (H : List ℕ → List ℕ) (domain : List ℕ) (sized : (m : List ℕ)
       let e = length-nodeMessage domain l (left g (H m) s) (right g (H m) s) (x .0) (x .1) in
       (k, messages-within n (suc l) (g / 2) (nodeMessage domain l (left g (H m) s) (right g (H m) s)) ss d (omega arith) (a .1))
 
-  pub collision-within : (n count width place : ℕ) (values values′ : List ℕ) (ss ss′ : List (List ℕ)) → 136 + length domain ≤ n → 97 + length domain + 16 * width ≤ n
-      → length values ≡ width → length values′ ≡ width → AllLong 32 ss → AllLong 32 ss′ → FoundWithin n (collision H domain count width place values ss values′ ss′)
+  pub collision-within : (n count width place : ℕ) (values values′ : List ℕ) (ss ss′ : List (List ℕ))
+      → 136 + length domain ≤ n → 97 + length domain + 16 * width ≤ n → length values ≡ width → length values′ ≡ width
+      → AllLong 32 ss → AllLong 32 ss′ → FoundWithin n (collision H domain count width place values ss values′ ss′)
   unfolding collision messagesOf
   collision-within n count width place values values′ ss ss′ d k v v′ a a′ =
       let g : ℕ = groupOf place width in
       let e = length-leafMessage domain count width g values v in
       let e′ = length-leafMessage domain count width g values′ v′ in
-      lastDiffering-within n (messages H domain 0 g (leafMessage domain count width g values) ss) (messages H domain 0 g (leafMessage domain count width g values′) ss′)
-      (messages-within n 0 g (leafMessage domain count width g values) ss d (omega arith) a)
-      (messages-within n 0 g (leafMessage domain count width g values′) ss′ d (omega arith) a′)
+      let m = leafMessage domain count width g values in
+      let m′ = leafMessage domain count width g values′ in
+      lastDiffering-within n (messages H domain 0 g m ss) (messages H domain 0 g m′ ss′)
+      (messages-within n 0 g m ss d (omega arith) a) (messages-within n 0 g m′ ss′ d (omega arith) a′)

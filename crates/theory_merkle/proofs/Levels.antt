@@ -92,9 +92,11 @@ path-at (suc h) zero t g k l =
     getD-take (2 ^ suc h) t (sibling g) [] (sibling-lt h g l)
     ∙ ap (λ j. getD t j []) (sym z) ∙ ap (λ j. getD t (levelStart (suc h) 0 + sibling j) []) (sym (div-one g))
 path-at (suc h) (suc i) t g k l =
+    let j = sibling (g / 2 / 2 ^ i) in
+    let z : 2 ^ suc h + (levelStart h i + j) ≡ levelStart (suc h) (suc i) + j = omega (arith, levelStart-next h i) in
     path-at h i (drop (2 ^ suc h) t) (g / 2) (omega arith) (omega arith)
-    ∙ getD-drop (2 ^ suc h) t (levelStart h i + sibling (g / 2 / 2 ^ i)) []
-    ∙ ap (λ j. getD t j []) (let z : 2 ^ suc h + (levelStart h i + sibling (g / 2 / 2 ^ i)) ≡ levelStart (suc h) (suc i) + sibling (g / 2 / 2 ^ i) = omega (arith, levelStart-next h i) in z)
+    ∙ getD-drop (2 ^ suc h) t (levelStart h i + j) []
+    ∙ ap (λ j. getD t j []) z
     ∙ ap (λ j. getD t (levelStart (suc h) (suc i) + sibling j) []) (high-half g i)
 
 -- ---- a tree that is built
@@ -106,7 +108,8 @@ module _ (H : List ℕ → List ℕ) (domain : List ℕ) where
   length-parents l zero (d ∷ d′ ∷ ds) e = absurd (omega arith)
   length-parents l (suc n) (d ∷ d′ ∷ ds) e = ap suc (length-parents l n ds (omega arith))
 
-  pub parents-at : (l : ℕ) (ds : List (List ℕ)) (q : ℕ) → 2 * q + 1 < length ds → getD (parents H domain l ds) q [] ≡ nodeDigest H domain l (getD ds (2 * q) []) (getD ds (2 * q + 1) [])
+  pub parents-at : (l : ℕ) (ds : List (List ℕ)) (q : ℕ) → 2 * q + 1 < length ds
+      → getD (parents H domain l ds) q [] ≡ nodeDigest H domain l (getD ds (2 * q) []) (getD ds (2 * q + 1) [])
   unfolding parents
   parents-at l [] q h = absurd (omega arith)
   parents-at l (d ∷ []) q h = absurd (omega arith)
@@ -118,11 +121,13 @@ module _ (H : List ℕ → List ℕ) (domain : List ℕ) where
 
   -- a digest and its sibling give the parent
   step-up : (l : ℕ) (ds : List (List ℕ)) (g : ℕ) → 2 * (g / 2) + 1 < length ds
-      → nodeDigest H domain l (left g (getD ds g []) (getD ds (sibling g) [])) (right g (getD ds g []) (getD ds (sibling g) [])) ≡ getD (parents H domain l ds) (g / 2) []
+      → nodeDigest H domain l (left g (getD ds g []) (getD ds (sibling g) [])) (right g (getD ds g []) (getD ds (sibling g) []))
+      ≡ getD (parents H domain l ds) (g / 2) []
   step-up l ds g h = go (eqb (g % 2) 0) refl
     where
       go : (b : Bool) → eqb (g % 2) 0 ≡ b
-          → nodeDigest H domain l (pick b (getD ds g []) (getD ds (sibling g) [])) (pick b (getD ds (sibling g) []) (getD ds g [])) ≡ getD (parents H domain l ds) (g / 2) []
+          → nodeDigest H domain l (pick b (getD ds g []) (getD ds (sibling g) [])) (pick b (getD ds (sibling g) []) (getD ds g []))
+          ≡ getD (parents H domain l ds) (g / 2) []
       go true e =
           let m = eqb-true (g % 2) 0 e in
           let x : g ≡ 2 * (g / 2) = omega arith in
@@ -140,7 +145,8 @@ module _ (H : List ℕ → List ℕ) (domain : List ℕ) where
   unfolding climb path levelsFrom root
   path-leads-to-root zero l ds g n k = ap (λ i. getD ds i []) (let z : g ≡ 0 = omega arith in z)
   path-leads-to-root (suc h) l ds g n k =
-      ap (λ (d : List ℕ). climb H domain (suc l) (g / 2) d (path h (levelsFrom H domain h (suc l) (parents H domain l ds)) (g / 2))) (step-up l ds g (omega arith))
+      let above = path h (levelsFrom H domain h (suc l) (parents H domain l ds)) (g / 2) in
+      ap (λ (d : List ℕ). climb H domain (suc l) (g / 2) d above) (step-up l ds g (omega arith))
       ∙ path-leads-to-root h (suc l) (parents H domain l ds) (g / 2) (length-parents l (2 ^ h) ds (omega arith)) (omega arith)
 
   -- ---- end to end
@@ -172,4 +178,6 @@ module _ (H : List ℕ → List ℕ) (domain : List ℕ) where
     pub endToEnd-long : (h l : ℕ) (ds : List (List ℕ)) → AllLong 32 ds → AllLong 32 (endToEnd (levelsFrom H domain h l ds))
     unfolding endToEnd levelsFrom
     endToEnd-long zero l ds a = append-long 32 ds [] a tt
-    endToEnd-long (suc h) l ds a = append-long 32 ds (endToEnd (levelsFrom H domain h (suc l) (parents H domain l ds))) a (endToEnd-long h (suc l) (parents H domain l ds) (parents-long l ds))
+    endToEnd-long (suc h) l ds a =
+        let ps = parents H domain l ds in
+        append-long 32 ds (endToEnd (levelsFrom H domain h (suc l) ps)) a (endToEnd-long h (suc l) ps (parents-long l ds))

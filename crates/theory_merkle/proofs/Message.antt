@@ -6,7 +6,8 @@ use native.Mathlib.Omega.{arith}
 use lib.ListN.{length, getD, length-append}
 use Rattle.theory_laws.specs.Lists.{flat, leBytes}
 use Rattle.theory_laws.proofs.Lists.{length-leBytes}
-use Rattle.theory_merkle.specs.Message.{prefixed, serializePrefix, serializeParts, leafLabel, nodeLabel, wordsBytes, leafPrefix, leafRest, leafMessage, nodePrefix, nodeMessage}
+use Rattle.theory_merkle.specs.Message.{prefixed, serializePrefix, serializeParts, wordsBytes}
+use Rattle.theory_merkle.specs.Message.{leafLabel, leafPrefix, leafRest, leafMessage, nodeLabel, nodePrefix, nodeMessage}
 use Rattle.theory_laws.proofs.Bytes.{AllBelow, append-determines, leBytes-determine, leBytes-append-determines, length-numbers, numbers-determine}
 
 -- ---- lengths
@@ -24,11 +25,13 @@ unfolding leafRest wordsBytes
 length-leafRest width group values h = simp (length-append, length-leBytes, length-numbers, h) (omega arith)
 
 -- over the width and the domain's length
-pub length-leafMessage : (domain : List ℕ) (count width group : ℕ) (values : List ℕ) → length values ≡ width → length (leafMessage domain count width group values) ≡ 97 + length domain + 16 * width
+pub length-leafMessage : (domain : List ℕ) (count width group : ℕ) (values : List ℕ) → length values ≡ width
+    → length (leafMessage domain count width group values) ≡ 97 + length domain + 16 * width
 unfolding leafMessage
 length-leafMessage domain count width group values h = rw (length-append, length-leafPrefix, length-leafRest width group values h) (omega arith)
 
-pub length-nodeMessage : (domain : List ℕ) (level : ℕ) (l r : List ℕ) → length l ≡ 32 → length r ≡ 32 → length (nodeMessage domain level l r) ≡ 136 + length domain
+pub length-nodeMessage : (domain : List ℕ) (level : ℕ) (l r : List ℕ) → length l ≡ 32 → length r ≡ 32
+    → length (nodeMessage domain level l r) ≡ 136 + length domain
 unfolding nodeMessage serializeParts serializePrefix flat nodeLabel
 length-nodeMessage domain level l r hl hr = simp (length-append, length-leBytes, length-prefixed, hl, hr) (omega arith)
 
@@ -42,7 +45,8 @@ unfolding nodePrefix serializePrefix flat nodeLabel
 length-nodePrefix domain level = simp (length-append, length-leBytes, length-prefixed) (omega arith)
 
 -- the case of SPECIFICATION 12.2: a 1-byte domain and width 8
-pub leaf-226 : (domain : List ℕ) (count group : ℕ) (values : List ℕ) → length domain ≡ 1 → length values ≡ 8 → length (leafMessage domain count 8 group values) ≡ 226
+pub leaf-226 : (domain : List ℕ) (count group : ℕ) (values : List ℕ) → length domain ≡ 1 → length values ≡ 8
+    → length (leafMessage domain count 8 group values) ≡ 226
 leaf-226 domain count group values hd hv = length-leafMessage domain count 8 group values hv ∙ rw hd
 
 -- ---- parts
@@ -58,10 +62,12 @@ AllShort (p ∷ ps) = Short p × AllShort ps
 pub prefixed-determines : (p q r s : List ℕ) → Short p → Short q → prefixed p ++ r ≡ prefixed q ++ s → (p ≡ q) × (r ≡ s)
 unfolding prefixed
 prefixed-determines p q r s hp hq e =
-    let d = leBytes-append-determines 8 (length p) (length q) (p ++ r) (q ++ s) (sym (append-assoc (leBytes 8 (length p)) p r) ∙ e ∙ append-assoc (leBytes 8 (length q)) q s) in
+    let e′ = sym (append-assoc (leBytes 8 (length p)) p r) ∙ e ∙ append-assoc (leBytes 8 (length q)) q s in
+    let d = leBytes-append-determines 8 (length p) (length q) (p ++ r) (q ++ s) e′ in
     append-determines p q r s (leBytes-determine 8 (length p) (length q) hp hq (d .0)) (d .1)
 
-parts-determine : (ps qs : List (List ℕ)) (r s : List ℕ) → length ps ≡ length qs → AllShort ps → AllShort qs → flat (map prefixed ps) ++ r ≡ flat (map prefixed qs) ++ s → (ps ≡ qs) × (r ≡ s)
+parts-determine : (ps qs : List (List ℕ)) (r s : List ℕ) → length ps ≡ length qs → AllShort ps → AllShort qs
+    → flat (map prefixed ps) ++ r ≡ flat (map prefixed qs) ++ s → (ps ≡ qs) × (r ≡ s)
 unfolding flat
 parts-determine [] [] r s n hp hq e = (refl, e)
 parts-determine [] (q ∷ qs) r s n hp hq e = absurd (omega arith)
@@ -73,7 +79,8 @@ parts-determine (p ∷ ps) (q ∷ qs) r s n hp hq e =
     (ap₂ (λ (z : List ℕ) (zs : List (List ℕ)). z ∷ zs) (d .0) (t .0), t .1)
 
 -- the parts, and what follows them
-pub prefix-determines : (c : ℕ) (ps qs : List (List ℕ)) (r s : List ℕ) → length ps ≡ length qs → AllShort ps → AllShort qs → serializePrefix c ps ++ r ≡ serializePrefix c qs ++ s → (ps ≡ qs) × (r ≡ s)
+pub prefix-determines : (c : ℕ) (ps qs : List (List ℕ)) (r s : List ℕ) → length ps ≡ length qs → AllShort ps → AllShort qs
+    → serializePrefix c ps ++ r ≡ serializePrefix c qs ++ s → (ps ≡ qs) × (r ≡ s)
 unfolding serializePrefix
 prefix-determines c ps qs r s n hp hq e =
     parts-determine ps qs r s n hp hq
@@ -91,23 +98,30 @@ short-number x = rw length-leBytes (omega arith)
 
 -- ---- of a node
 
-node-parts : (domain : List ℕ) (level : ℕ) (l r domain′ : List ℕ) (level′ : ℕ) (l′ r′ : List ℕ) → AllShort (domain ∷ l ∷ r ∷ []) → AllShort (domain′ ∷ l′ ∷ r′ ∷ [])
-    → nodeMessage domain level l r ≡ nodeMessage domain′ level′ l′ r′ → nodeLabel ∷ domain ∷ leBytes 8 level ∷ l ∷ r ∷ [] ≡ nodeLabel ∷ domain′ ∷ leBytes 8 level′ ∷ l′ ∷ r′ ∷ []
+-- the parts of a node message
+abbrev partsOfNode : List ℕ → ℕ → List ℕ → List ℕ → List (List ℕ)
+partsOfNode domain level l r = nodeLabel ∷ domain ∷ leBytes 8 level ∷ l ∷ r ∷ []
+
+node-parts : (domain : List ℕ) (level : ℕ) (l r domain′ : List ℕ) (level′ : ℕ) (l′ r′ : List ℕ)
+    → AllShort (domain ∷ l ∷ r ∷ []) → AllShort (domain′ ∷ l′ ∷ r′ ∷ [])
+    → nodeMessage domain level l r ≡ nodeMessage domain′ level′ l′ r′ → partsOfNode domain level l r ≡ partsOfNode domain′ level′ l′ r′
 unfolding nodeMessage serializeParts nodeLabel
 node-parts domain level l r domain′ level′ l′ r′ h h′ e =
-    prefix-determines 5 (nodeLabel ∷ domain ∷ leBytes 8 level ∷ l ∷ r ∷ []) (nodeLabel ∷ domain′ ∷ leBytes 8 level′ ∷ l′ ∷ r′ ∷ []) [] [] refl
+    prefix-determines 5 (partsOfNode domain level l r) (partsOfNode domain′ level′ l′ r′) [] [] refl
     (omega arith, (h .0, (short-number level, h .1))) (omega arith, (h′ .0, (short-number level′, h′ .1)))
     (append-nil (nodeMessage domain level l r) ∙ e ∙ sym (append-nil (nodeMessage domain′ level′ l′ r′))) .0
 
 -- every field
-pub nodeMessage-determines : (domain : List ℕ) (level : ℕ) (l r domain′ : List ℕ) (level′ : ℕ) (l′ r′ : List ℕ) → AllShort (domain ∷ l ∷ r ∷ []) → AllShort (domain′ ∷ l′ ∷ r′ ∷ [])
-    → Fits8 level → Fits8 level′ → nodeMessage domain level l r ≡ nodeMessage domain′ level′ l′ r′ → (domain ≡ domain′) × (level ≡ level′) × (l ≡ l′) × (r ≡ r′)
+pub nodeMessage-determines : (domain : List ℕ) (level : ℕ) (l r domain′ : List ℕ) (level′ : ℕ) (l′ r′ : List ℕ)
+    → AllShort (domain ∷ l ∷ r ∷ []) → AllShort (domain′ ∷ l′ ∷ r′ ∷ []) → Fits8 level → Fits8 level′
+    → nodeMessage domain level l r ≡ nodeMessage domain′ level′ l′ r′ → (domain ≡ domain′) × (level ≡ level′) × (l ≡ l′) × (r ≡ r′)
 nodeMessage-determines domain level l r domain′ level′ l′ r′ h h′ f f′ e =
     let p = node-parts domain level l r domain′ level′ l′ r′ h h′ e in
     (ap (λ ps. getD ps 1 []) p, leBytes-determine 8 level level′ f f′ (ap (λ ps. getD ps 2 []) p), ap (λ ps. getD ps 3 []) p, ap (λ ps. getD ps 4 []) p)
 
 -- the two digests, under one domain and at one level
-pub nodeMessage-determines-digests : (domain : List ℕ) (level : ℕ) (l r l′ r′ : List ℕ) → Short domain → length l ≡ 32 → length r ≡ 32 → length l′ ≡ 32 → length r′ ≡ 32
+pub nodeMessage-determines-digests : (domain : List ℕ) (level : ℕ) (l r l′ r′ : List ℕ) → Short domain
+    → length l ≡ 32 → length r ≡ 32 → length l′ ≡ 32 → length r′ ≡ 32
     → nodeMessage domain level l r ≡ nodeMessage domain level l′ r′ → (l ≡ l′) × (r ≡ r′)
 nodeMessage-determines-digests domain level l r l′ r′ hd hl hr hl′ hr′ e =
     let p = node-parts domain level l r domain level l′ r′ (hd, (omega arith, (omega arith, tt))) (hd, (omega arith, (omega arith, tt))) e in
@@ -117,7 +131,8 @@ nodeMessage-determines-digests domain level l r l′ r′ hd hl hr hl′ hr′ e
 
 -- every field
 pub leafMessage-determines : (domain : List ℕ) (count width group : ℕ) (values domain′ : List ℕ) (count′ width′ group′ : ℕ) (values′ : List ℕ)
-    → Short domain → Fits8 count → Fits8 width → Fits8 group → AllBelow (2 ^ 128) values → Short domain′ → Fits8 count′ → Fits8 width′ → Fits8 group′ → AllBelow (2 ^ 128) values′
+    → Short domain → Fits8 count → Fits8 width → Fits8 group → AllBelow (2 ^ 128) values
+    → Short domain′ → Fits8 count′ → Fits8 width′ → Fits8 group′ → AllBelow (2 ^ 128) values′
     → leafMessage domain count width group values ≡ leafMessage domain′ count′ width′ group′ values′
     → (domain ≡ domain′) × (count ≡ count′) × (width ≡ width′) × (group ≡ group′) × (values ≡ values′)
 unfolding leafMessage leafPrefix leafRest leafLabel wordsBytes
@@ -148,7 +163,8 @@ leafMessage-determines-values domain count width group values values′ hv hv′
     numbers-determine 16 values values′ (omega arith) hv hv′ (append-determines front front (wordsBytes values) (wordsBytes values′) refl (rest .1) .1)
 
 -- no leaf message is a node message
-pub leaf-is-no-node : (domain : List ℕ) (count width group : ℕ) (values domain′ : List ℕ) (level : ℕ) (l r : List ℕ) → leafMessage domain count width group values ≡ nodeMessage domain′ level l r → ⊥
+pub leaf-is-no-node : (domain : List ℕ) (count width group : ℕ) (values domain′ : List ℕ) (level : ℕ) (l r : List ℕ)
+    → leafMessage domain count width group values ≡ nodeMessage domain′ level l r → ⊥
 unfolding leafMessage leafPrefix nodeMessage serializeParts serializePrefix flat leafLabel nodeLabel
 leaf-is-no-node domain count width group values domain′ level l r e =
     let d = leBytes-append-determines 8 5 5 _ _ (simp append-assoc at e) in

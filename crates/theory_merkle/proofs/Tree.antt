@@ -1,16 +1,17 @@
 -- A tree over a list of values: its leaves, its size, and the path of a place that leads to its root, over the width as a variable.
 use Prim.Native.Nat.{ℕ, zero, suc, _+_, _*_, _-_, _/_, _^_, _≤_, _<_}
 use mathlib.Core.Path.{_≡_, refl, sym, _∙_, ap, ap₂}
-use mathlib.Core.List.{List, [], _∷_, append-nil}
+use mathlib.Core.List.{List, [], _∷_}
 use native.Mathlib.Nat.{div-self}
 use native.Mathlib.Omega.{arith}
 use lib.Pow.{pow-pos}
 use lib.ListN.{length, getD}
 use lib.Seq.{take-all}
 use Rattle.theory_laws.specs.Lists.{part, runs, flat}
-use Rattle.theory_laws.proofs.Lists.{AllLong, length-runs, getD-runs, runs-flat, length-flat}
+use Rattle.theory_laws.proofs.Lists.{AllLong, length-runs, getD-runs, runs-of-flat, length-flat}
 use Rattle.theory_merkle.specs.Message.{leafMessage}
-use Rattle.theory_merkle.specs.Tree.{groupOf, log2, depthOf, treeSize, root, path, endToEnd, leafDigest, leavesFrom, leaves, levelsFrom, levels, climb, leafOf, treeOf, rootOf, rootOfPath, pathOf}
+use Rattle.theory_merkle.specs.Tree.{groupOf, log2, depthOf, treeSize, root, path, endToEnd, leafDigest, leavesFrom, leaves}
+use Rattle.theory_merkle.specs.Tree.{levelsFrom, levels, climb, leafOf, treeOf, rootOf, rootOfPath, pathOf}
 use Rattle.theory_merkle.specs.Shape.{Shape}
 use Rattle.theory_merkle.proofs.Sizes.{group-lt, log2-end}
 use Rattle.theory_merkle.proofs.Levels.{length-path, path-long, path-leads-to-root, length-endToEnd, levelsOf-endToEnd, endToEnd-long, root-last}
@@ -27,19 +28,22 @@ module _ (H : List ℕ → List ℕ) (domain : List ℕ) (count width : ℕ) whe
   length-leavesFrom g [] = refl
   length-leavesFrom g (values ∷ groups) = ap suc (length-leavesFrom (suc g) groups)
 
-  leavesFrom-at : (g k : ℕ) (groups : List (List ℕ)) → k < length groups → getD (leavesFrom H domain count width g groups) k [] ≡ leafDigest H domain count width (g + k) (getD groups k [])
+  leavesFrom-at : (g k : ℕ) (groups : List (List ℕ)) → k < length groups
+      → getD (leavesFrom H domain count width g groups) k [] ≡ leafDigest H domain count width (g + k) (getD groups k [])
   unfolding leavesFrom
   leavesFrom-at g k [] h = absurd (omega arith)
   leavesFrom-at g zero (values ∷ groups) h = ap (λ i. leafDigest H domain count width i values) (let z : g ≡ g + 0 = omega arith in z)
   leavesFrom-at g (suc k) (values ∷ groups) h =
-      leavesFrom-at (suc g) k groups (omega arith) ∙ ap (λ i. leafDigest H domain count width i (getD groups k [])) (let z : suc g + k ≡ g + suc k = omega arith in z)
+      let z : suc g + k ≡ g + suc k = omega arith in
+      leavesFrom-at (suc g) k groups (omega arith) ∙ ap (λ i. leafDigest H domain count width i (getD groups k [])) z
 
   pub length-leaves : (values : List ℕ) → length (leaves H domain count width values) ≡ count / width
   unfolding leaves
   length-leaves values = length-leavesFrom 0 (runs width (count / width) values) ∙ length-runs width (count / width) values
 
   -- leaf g is the digest of group g: width values from place width × g on
-  pub leaf-at : (g : ℕ) (values : List ℕ) → g < count / width → getD (leaves H domain count width values) g [] ≡ leafDigest H domain count width g (part width (width * g) values)
+  pub leaf-at : (g : ℕ) (values : List ℕ) → g < count / width
+      → getD (leaves H domain count width values) g [] ≡ leafDigest H domain count width g (part width (width * g) values)
   unfolding leaves
   leaf-at g values h =
       leavesFrom-at 0 g (runs width (count / width) values) (rw length-runs h)
@@ -84,7 +88,8 @@ module _ (H : List ℕ → List ℕ) (domain : List ℕ) (count width : ℕ) whe
 
     -- the path read off a built tree leads to its root from the group's own values
     pub path-of-tree-leads-to-root : (place : ℕ) → place < count
-        → rootOfPath H domain count width place (groupValues width place values) (pathOf count width place (treeOf H domain count width values)) ≡ rootOf H domain count width values
+        → rootOfPath H domain count width place (groupValues width place values) (pathOf count width place (treeOf H domain count width values))
+        ≡ rootOf H domain count width values
     unfolding rootOfPath leafOf pathOf treeOf rootOf levels
     path-of-tree-leads-to-root place h =
         let d : ℕ = depthOf count width in
@@ -101,21 +106,22 @@ module _ (H : List ℕ → List ℕ) (domain : List ℕ) (count width : ℕ) whe
 pub runs-tree : (H : List ℕ → List ℕ) (domain : List ℕ) (count width : ℕ) → ((m : List ℕ) → length (H m) ≡ 32) → Shape count width → (values : List ℕ)
     → runs 32 (treeSize count width) (flat (treeOf H domain count width values)) ≡ treeOf H domain count width values
 runs-tree H domain count width sized shape values =
-    let t : List (List ℕ) = treeOf H domain count width values in
-    ap₂ (λ (n : ℕ) (bs : List ℕ). runs 32 n bs) (sym (length-treeOf H domain count width shape values)) (sym (append-nil (flat t)))
-    ∙ runs-flat 32 t [] (treeOf-long H domain count width sized values)
+    runs-of-flat 32 (treeSize count width) (treeOf H domain count width values) (length-treeOf H domain count width shape values)
+    (treeOf-long H domain count width sized values)
 
 pub length-flat-tree : (H : List ℕ → List ℕ) (domain : List ℕ) (count width : ℕ) → ((m : List ℕ) → length (H m) ≡ 32) → Shape count width → (values : List ℕ)
     → length (flat (treeOf H domain count width values)) ≡ 32 * treeSize count width
 length-flat-tree H domain count width sized shape values =
-    length-flat 32 (treeOf H domain count width values) (treeOf-long H domain count width sized values) ∙ ap (λ n. 32 * n) (length-treeOf H domain count width shape values)
+    length-flat 32 (treeOf H domain count width values) (treeOf-long H domain count width sized values)
+    ∙ ap (λ n. 32 * n) (length-treeOf H domain count width shape values)
 
 pub length-pathOf : (count width place : ℕ) (t : List (List ℕ)) → length (pathOf count width place t) ≡ depthOf count width
 unfolding pathOf
 length-pathOf count width place t = length-path (depthOf count width) t (groupOf place width)
 
 -- the path's digests are digests of the tree
-pub pathOf-long : (count width place : ℕ) (t : List (List ℕ)) → Shape count width → place < count → AllLong 32 t → length t ≡ treeSize count width → AllLong 32 (pathOf count width place t)
+pub pathOf-long : (count width place : ℕ) (t : List (List ℕ)) → Shape count width → place < count → AllLong 32 t
+    → length t ≡ treeSize count width → AllLong 32 (pathOf count width place t)
 unfolding pathOf
 pathOf-long count width place t shape h a n =
     let p : 1 ≤ 2 ^ depthOf count width = pow-pos (depthOf count width) in
@@ -123,7 +129,8 @@ pathOf-long count width place t shape h a n =
     path-long 32 (depthOf count width) t (groupOf place width) a e (group-lt count width place shape h)
 
 -- the same law on bytes, as they are lent: build, open, and the root of a path
-pub opened-bytes-lead-to-root : (H : List ℕ → List ℕ) (domain : List ℕ) (count width : ℕ) → ((m : List ℕ) → length (H m) ≡ 32) → Shape count width → (values : List ℕ) (place : ℕ) → place < count
+pub opened-bytes-lead-to-root : (H : List ℕ → List ℕ) (domain : List ℕ) (count width : ℕ) → ((m : List ℕ) → length (H m) ≡ 32)
+    → Shape count width → (values : List ℕ) (place : ℕ) → place < count
     → rootOfPath H domain count width place (groupValues width place values)
     (runs 32 (depthOf count width) (flat (pathOf count width place (runs 32 (treeSize count width) (flat (treeOf H domain count width values))))))
     ≡ rootOf H domain count width values
@@ -131,10 +138,11 @@ opened-bytes-lead-to-root H domain count width sized shape values place h =
     let t : List (List ℕ) = treeOf H domain count width values in
     let ss : List (List ℕ) = pathOf count width place t in
     let long = pathOf-long count width place t shape h (treeOf-long H domain count width sized values) (length-treeOf H domain count width shape values) in
-    let e : runs 32 (depthOf count width) (flat ss) ≡ ss =
-    ap₂ (λ (n : ℕ) (bs : List ℕ). runs 32 n bs) (sym (length-pathOf count width place t)) (sym (append-nil (flat ss))) ∙ runs-flat 32 ss [] long in
-    ap (λ (l : List (List ℕ)). rootOfPath H domain count width place (groupValues width place values) (runs 32 (depthOf count width) (flat (pathOf count width place l)))) (runs-tree H domain count width sized shape values)
-    ∙ ap (rootOfPath H domain count width place (groupValues width place values)) e
+    let e : runs 32 (depthOf count width) (flat ss) ≡ ss = runs-of-flat 32 (depthOf count width) ss (length-pathOf count width place t) long in
+    let rootFrom : List (List ℕ) → List ℕ = rootOfPath H domain count width place (groupValues width place values) in
+    ap (λ (l : List (List ℕ)). rootFrom (runs 32 (depthOf count width) (flat (pathOf count width place l))))
+    (runs-tree H domain count width sized shape values)
+    ∙ ap rootFrom e
     ∙ path-of-tree-leads-to-root H domain count width shape values place h
 
 -- ---- a tree of one group
@@ -149,10 +157,12 @@ module _ (width : ℕ) (filled : 0 < width) where
   one-group-path place t = rw one-group-depth
 
   -- and its root is the leaf digest, not hashed again
-  pub one-group-root : (H : List ℕ → List ℕ) (domain values : List ℕ) → length values ≡ width → rootOf H domain width width values ≡ leafDigest H domain width width 0 values
+  pub one-group-root : (H : List ℕ → List ℕ) (domain values : List ℕ) → length values ≡ width
+      → rootOf H domain width width values ≡ leafDigest H domain width width 0 values
   unfolding rootOf levels levelsFrom root leaves leavesFrom runs
   one-group-root H domain values n = rw (one-group-depth, div-self filled, take-all width values (omega arith))
 
-  pub one-group-tree : (H : List ℕ → List ℕ) (domain values : List ℕ) → length values ≡ width → treeOf H domain width width values ≡ leafDigest H domain width width 0 values ∷ []
+  pub one-group-tree : (H : List ℕ → List ℕ) (domain values : List ℕ) → length values ≡ width
+      → treeOf H domain width width values ≡ leafDigest H domain width width 0 values ∷ []
   unfolding treeOf endToEnd levels levelsFrom leaves leavesFrom runs
   one-group-tree H domain values n = rw (one-group-depth, div-self filled, take-all width values (omega arith))

@@ -53,7 +53,8 @@ eqTable-at z v h = at-tab (2 ^ length z) (eqAt z) v h
 pub eq-append : (xs ys : List ℕ) (v : ℕ) → eqAt (xs ++ ys) v ≡ eqAt xs (v % 2 ^ length xs) ⊗ eqAt ys (v / 2 ^ length xs)
 eq-append [] ys v = rw (eq-nil (v % 1), div-one v) (sym (one-⊗ (eqAt ys v) (eq-lt ys v)))
 eq-append (x ∷ xs) ys v =
-    rw (eq-cons x (xs ++ ys) v, eq-cons x xs (v % 2 ^ suc (length xs)), low-bit v (length xs), low-half v (length xs), ← high-half v (length xs), eq-append xs ys (v / 2))
+    let n = length xs in
+    rw (eq-cons x (xs ++ ys) v, eq-cons x xs (v % 2 ^ suc n), low-bit v n, low-half v n, ← high-half v n, eq-append xs ys (v / 2))
     (sym (⊗-assoc (factor x (v % 2)) (eqAt xs (v / 2 % 2 ^ length xs)) (eqAt ys (v / 2 / 2 ^ length xs))))
 
 -- one more coordinate: place v of the half b

@@ -24,7 +24,8 @@ pub shift-add : (n k : ℕ) (gammas : List ℕ) (a b : ℕ) → shift n k gammas
 unfolding shift shiftAt
 shift-add n k gammas a b =
     ap (tab n) (fun-ext (λ i.
-    ap (sum k) (fun-ext (λ j. sel-bit j a b (gamma n gammas j i))) ∙ sum-⊕ k (λ j. sel (bit j a) (gamma n gammas j i)) (λ j. sel (bit j b) (gamma n gammas j i))))
+    ap (sum k) (fun-ext (λ j. sel-bit j a b (gamma n gammas j i)))
+    ∙ sum-⊕ k (λ j. sel (bit j a) (gamma n gammas j i)) (λ j. sel (bit j b) (gamma n gammas j i))))
     ∙ sym (addPoint-tab n (shiftAt n k gammas a) (shiftAt n k gammas b))
 
 pub shift-zero : (n k : ℕ) (gammas : List ℕ) → shift n k gammas 0 ≡ replicate n 0

@@ -14,7 +14,7 @@ use Rattle.theory_field.specs.Words.{words}
 use Rattle.theory_merkle.specs.Tree.{groupOf, treeSize}
 use Rattle.theory_merkle.proofs.Tree.{length-treeOf, treeOf-long, treeOf-root, path-of-tree-leads-to-root}
 use Rattle.theory_record.specs.Trees.{groupAt, pathAt, treeFor, rootFor, leadsTo}
-use Rattle.theory_record.specs.Widths.{Widths, levelLength, levelWidth, levelGroups, treeLength}
+use Rattle.theory_record.specs.Widths.{levelLength, levelWidth, levelGroups, treeLength}
 use Rattle.theory_record.specs.Domain.{levelDomain}
 use Rattle.theory_record.specs.Format.{LevelRecord, TailGroup, levelForm, tailForm, recordItems, recordBytes}
 use Rattle.theory_record.specs.Query.{accepted, pairOf, rootAt, checkQuery}
@@ -25,7 +25,8 @@ use Rattle.theory_record.proofs.Widths.{PowersOfTwo, level-shape, width
 use Rattle.theory_record.proofs.Offsets.{pair-lt, b-lt}
 use Rattle.theory_record.proofs.Runs.{Words}
 use Rattle.theory_record.proofs.Records.{Written}
-use Rattle.theory_record.proofs.Build.{Lent, value-of-group, level-shaped, open-shaped, group-low, built-query-reads, open-groups-read, length-builtLevels, length-openGroups}
+use Rattle.theory_record.proofs.Build.{Lent, value-of-group, level-shaped, open-shaped, group-low}
+use Rattle.theory_record.proofs.Build.{built-query-reads, open-groups-read, length-builtLevels, length-openGroups}
 use Rattle.theory_record.proofs.Query.{Ranges, LevelHolds, AllHold, accepted-query}
 use Rattle.theory_record.proofs.Tail.{GroupHolds, AllGroupsHold, tail-accepted, accepted-tail}
 use Rattle.theory_record.specs.Scheme.{Scheme}
@@ -37,7 +38,8 @@ module _ (S : Scheme) where
   pub opening-leads : (l place : ℕ) (values : List ℕ) → PowersOfTwo s → place < levelLength n k l
       → leadsTo S l place (groupAt (levelWidth s n k l) place values) (pathAt s n k l place (treeFor S l values)) ≡ rootFor S l values
   unfolding leadsTo groupAt pathAt treeFor rootFor
-  opening-leads l place values p h = path-of-tree-leads-to-root H (levelDomain base l) (levelLength n k l) (levelWidth s n k l) (level-shape s n k l p .tree) values place h
+  opening-leads l place values p h =
+      path-of-tree-leads-to-root H (levelDomain base l) (levelLength n k l) (levelWidth s n k l) (level-shape s n k l p .tree) values place h
 
   -- sizes of a level's tree and of its root, for digests of 32 bytes
   pub length-treeFor : (l : ℕ) (values : List ℕ) → PowersOfTwo s → length (treeFor S l values) ≡ treeLength s n k l
@@ -56,7 +58,8 @@ module _ (S : Scheme) where
         let pos = groups-pos s n k l (level-shape s n k l p) in
         let t : List (List ℕ) = treeFor S l values in
         let i : ℕ = treeSize (levelLength n k l) (levelWidth s n k l) - 1 in
-        let e : getD t i [] ≡ rootFor S l values = treeOf-root H (levelDomain base l) (levelLength n k l) (levelWidth s n k l) (level-shape s n k l p .tree) values in
+        let e : getD t i [] ≡ rootFor S l values =
+        treeOf-root H (levelDomain base l) (levelLength n k l) (levelWidth s n k l) (level-shape s n k l p .tree) values in
         rw (← e) (getD-long 32 i t (treeFor-long l values) (omega (arith, length-treeFor l values p)))
 
   -- ---- a query record
@@ -67,7 +70,8 @@ module _ (S : Scheme) where
     pub trees : (l : ℕ) → l ≤ n → levelTree s n k ts l ≡ treeFor S l (levelValues n k ws l)
     pub roots-are : (l : ℕ) → l ≤ n → rootAt roots l ≡ rootFor S l (levelValues n k ws l)
     pub folded : (l q : ℕ) → l < n → q < levelLength n k (suc l)
-        → at (levelValues n k ws l) (2 * q) ⊕ at (words challenges) l ⊗ (at (levelValues n k ws l) (2 * q) ⊕ at (levelValues n k ws l) (2 * q + 1)) ≡ at (levelValues n k ws (suc l)) q
+        → at (levelValues n k ws l) (2 * q) ⊕ at (words challenges) l ⊗ (at (levelValues n k ws l) (2 * q) ⊕ at (levelValues n k ws l) (2 * q + 1))
+        ≡ at (levelValues n k ws (suc l)) q
 
   module _ (p : PowersOfTwo s) (ws ts challenges roots : List ℕ) (z : Levels ws ts challenges roots) where
     leads-at : (l place : ℕ) → l ≤ n → place < levelLength n k l
@@ -133,12 +137,15 @@ module _ (S : Scheme) where
     pub long : length values ≡ levelLength n k n
     pub tree-is : digests (treeLength s n k n) 0 treeBytes ≡ treeFor S n values
 
-  module _ (sized : (m : List ℕ) → length (H m) ≡ 32) (p : PowersOfTwo s) (base-short : length base ≤ 200) (values treeBytes : List ℕ) (z : LastLevel values treeBytes) where
+  module _ (sized : (m : List ℕ) → length (H m) ≡ 32) (p : PowersOfTwo s) (base-short : length base ≤ 200) (values treeBytes : List ℕ)
+      (z : LastLevel values treeBytes) where
     built-group-holds : (g : ℕ) → g < levelGroups s n k n → GroupHolds S (rootFor S n values) g (openGroup s n k values (treeFor S n values) g)
     unfolding openGroup
     built-group-holds g h =
-        let low = group-low s p n k (sizes-small n k (z .sizes)) values (z .all-words) (z .long) (treeFor S n values) (length-treeFor n values p) (treeFor-long sized n values) g h in
-        let sh = open-shaped s p n k (sizes-small n k (z .sizes)) values (z .all-words) (z .long) (treeFor S n values) (length-treeFor n values p) (treeFor-long sized n values) g h in
+        let t = treeFor S n values in
+        let small = sizes-small n k (z .sizes) in
+        let low = group-low s p n k small values (z .all-words) (z .long) t (length-treeFor n values p) (treeFor-long sized n values) g h in
+        let sh = open-shaped s p n k small values (z .all-words) (z .long) t (length-treeFor n values p) (treeFor-long sized n values) g h in
         record { width = sh .width; depth = sh .depth; leads = opening-leads n (g * levelWidth s n k n) values p low }
 
     built-groups-hold : (c g : ℕ) → g + c ≤ levelGroups s n k n → AllGroupsHold S (rootFor S n values) g (openGroups s n k values (treeFor S n values) c g)
@@ -168,7 +175,9 @@ module _ (S : Scheme) where
 
     written : Written tailForm groups
     unfolding groups
-    written = open-groups-read s p n k (sizes-small n k (z .sizes)) values (z .all-words) (z .long) (treeFor S n values) (length-treeFor n values p) (treeFor-long sized n values)
+    written =
+        open-groups-read s p n k (sizes-small n k (z .sizes)) values (z .all-words) (z .long) (treeFor S n values) (length-treeFor n values p)
+        (treeFor-long sized n values)
 
     bytes-are : tailBytes s n k values treeBytes ≡ recordBytes tailForm groups
     unfolding tailBytes groups

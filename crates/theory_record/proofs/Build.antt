@@ -17,7 +17,8 @@ use Rattle.theory_record.specs.Widths.{Widths, levelLength, levelWidth, 
 use Rattle.theory_record.specs.Format.{levelForm, tailForm, recordBytes}
 use Rattle.theory_record.specs.Sizes.{querySize, tailSize}
 use Rattle.theory_record.specs.Query.{pairOf, valueAt}
-use Rattle.theory_record.specs.Build.{levelsLength, treeStart, levelValues, levelTree, digests, openPair, builtLevel, builtLevels, queryBytes, openGroup, openGroups, tailBytes}
+use Rattle.theory_record.specs.Build.{levelsLength, treeStart, levelValues, levelTree, digests}
+use Rattle.theory_record.specs.Build.{openPair, builtLevel, builtLevels, queryBytes, openGroup, openGroups, tailBytes}
 use Rattle.theory_record.proofs.Widths.{PowersOfTwo, LevelShape, level-shape, width-pos, width-le, depth-le, groups-times-width}
 use Rattle.theory_record.proofs.Offsets.{level-le, length-levelValues, length-levelTree, levelTree-long, length-digests, digests-long, pair-lt, b-lt}
 use Rattle.theory_record.proofs.Runs.{Words}
@@ -39,15 +40,17 @@ value-of-group width place values pos =
     getD-part width (width * groupOf place width) (place % width) values (mod-lt place pos) ∙ ap (at values) (div-add-mod place width)
 
 module _ (s : Widths) (n k l place : ℕ) (z : LevelShape s n k l) (small : n + k ≤ 24) (low : place < levelLength n k l)
-    (values : List ℕ) (tree : List (List ℕ)) (long : length values ≡ levelLength n k l) (tree-long : length tree ≡ treeLength s n k l) (digests : AllLong 32 tree) where
+    (values : List ℕ) (tree : List (List ℕ)) (long : length values ≡ levelLength n k l) (tree-long : length tree ≡ treeLength s n k l)
+    (digests : AllLong 32 tree) where
   -- a group read off a level, and the path read off its tree, have the level's shape
   pub group-shaped : GroupShaped s n k l (groupAt (levelWidth s n k l) place values) (pathAt s n k l place tree)
   unfolding groupAt pathAt levelDepth treeLength
   group-shaped =
+      let w = levelWidth s n k l in
       record {
-        width = length-part (levelWidth s n k l) (levelWidth s n k l * groupOf place (levelWidth s n k l)) values (omega (arith, group-within (levelLength n k l) (levelWidth s n k l) place (z .tree) low));
-        depth = length-pathOf (levelLength n k l) (levelWidth s n k l) place tree;
-        digests = pathOf-long (levelLength n k l) (levelWidth s n k l) place tree (z .tree) low digests tree-long;
+        width = length-part w (w * groupOf place w) values (omega (arith, group-within (levelLength n k l) w place (z .tree) low));
+        depth = length-pathOf (levelLength n k l) w place tree;
+        digests = pathOf-long (levelLength n k l) w place tree (z .tree) low digests tree-long;
       }
 
   -- and can be held
@@ -168,19 +171,23 @@ module _ (s : Widths) (p : PowersOfTwo s) (n k : ℕ) (small : n + k ≤ 24) (va
 
   pub open-groups-fill : length (recordBytes tailForm (openGroups s n k values tree (levelGroups s n k n) 0)) ≡ tailSize s n k
   open-groups-fill =
-      tail-fills s n k (openGroups s n k values tree (levelGroups s n k n) 0) (length-openGroups s n k values tree (levelGroups s n k n) 0) (groups-shaped (levelGroups s n k n) 0 (omega arith))
+      let c = levelGroups s n k n in
+      tail-fills s n k (openGroups s n k values tree c 0) (length-openGroups s n k values tree c 0) (groups-shaped c 0 (omega arith))
 
   pub open-groups-read : Written tailForm (openGroups s n k values tree (levelGroups s n k n) 0)
   open-groups-read =
       let z = level-shape s n k n p in
+      let c = levelGroups s n k n in
       let size : 2 ^ (n + k) ≤ 2 ^ 24 = pow-mono {i = n + k} {j = 24} small in
-      let few : levelGroups s n k n ≤ levelLength n k n = omega (arith, groups-times-width s n k n z, le-mul-of-pos-right (levelGroups s n k n) (width-pos s n k n z)) in
-      record-written tailForm TailGroupHeld tail-faithful (openGroups s n k values tree (levelGroups s n k n) 0) (groups-held (levelGroups s n k n) 0 (omega arith))
-      (rw (length-openGroups s n k values tree (levelGroups s n k n) 0) (omega (arith, level-le n k n)))
+      let few : c ≤ levelLength n k n = omega (arith, groups-times-width s n k n z, le-mul-of-pos-right c (width-pos s n k n z)) in
+      record-written tailForm TailGroupHeld tail-faithful (openGroups s n k values tree c 0) (groups-held c 0 (omega arith))
+      (rw (length-openGroups s n k values tree c 0) (omega (arith, level-le n k n)))
 
 -- the same from the bytes of the tree
-pub built-tail-fills : (s : Widths) → PowersOfTwo s → (n k : ℕ) → n + k ≤ 24 → (values : List ℕ) → Words values → length values ≡ levelLength n k n → (tree : List ℕ) → length tree ≡ 32 * treeLength s n k n
+pub built-tail-fills : (s : Widths) → PowersOfTwo s → (n k : ℕ) → n + k ≤ 24 → (values : List ℕ) → Words values
+    → length values ≡ levelLength n k n → (tree : List ℕ) → length tree ≡ 32 * treeLength s n k n
     → length (tailBytes s n k values tree) ≡ tailSize s n k
 unfolding tailBytes
 built-tail-fills s p n k small values w long tree e =
-    open-groups-fill s p n k small values w long (digests (treeLength s n k n) 0 tree) (length-digests (treeLength s n k n) 0 tree) (digests-long (treeLength s n k n) 0 tree (omega arith))
+    let c = treeLength s n k n in
+    open-groups-fill s p n k small values w long (digests c 0 tree) (length-digests c 0 tree) (digests-long c 0 tree (omega arith))

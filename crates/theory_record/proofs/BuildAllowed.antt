@@ -14,7 +14,8 @@ use Rattle.theory_field.specs.Words.{words}
 use Rattle.theory_field.proofs.Words.{Halves, at-words, length-words-even}
 use Rattle.theory_record.specs.Widths.{Widths, levelLength, treeLength}
 use Rattle.theory_record.specs.Sizes.{querySize, tailSize}
-use Rattle.theory_record.specs.Build.{levelsLength, treeStart, queryBytes, tailBytes, buildQueryQuestions, buildQueryNumber, buildQuery, buildTailQuestions, buildTailNumber, buildTail}
+use Rattle.theory_record.specs.Build.{levelsLength, treeStart, queryBytes, tailBytes}
+use Rattle.theory_record.specs.Build.{buildQueryQuestions, buildQueryNumber, buildQuery, buildTailQuestions, buildTailNumber, buildTail}
 use Rattle.theory_record.proofs.Ranges.{SizesFit, sizes-fit, fit-sizes, sizes-small}
 use Rattle.theory_record.proofs.Widths.{PowersOfTwo}
 use Rattle.theory_record.proofs.Runs.{Words}
@@ -71,7 +72,8 @@ module _ (s : Widths) (n k : ℕ) where
     unfolding buildQuery
     length-buildQuery p halves = go (eqb (buildQueryNumber s n k levels trees position out) 0) refl
       where
-        go : (b : Bool) → eqb (buildQueryNumber s n k levels trees position out) 0 ≡ b → length (pick b (queryBytes s n k (words levels) trees position) out) ≡ length out
+        go : (b : Bool) → eqb (buildQueryNumber s n k levels trees position out) 0 ≡ b
+            → length (pick b (queryBytes s n k (words levels) trees position) out) ≡ length out
         go true e =
             let h = query-build (eqb-true _ 0 e) in
             built-query-fills s p n k (words levels) trees (query-lent h halves) position (h .position-low) ∙ sym (h .out-long)
@@ -110,6 +112,7 @@ module _ (s : Widths) (n k : ℕ) where
         go : (b : Bool) → eqb (buildTailNumber s n k level tree out) 0 ≡ b → length (pick b (tailBytes s n k (words level) tree) out) ≡ length out
         go true e =
             let h = tail-build (eqb-true _ 0 e) in
-            built-tail-fills s p n k (sizes-small n k (h .sizes)) (words level) (words-of-halves level halves) (length-words-even level (levelLength n k n) (h .level-long)) tree (h .tree-long)
+            built-tail-fills s p n k (sizes-small n k (h .sizes)) (words level) (words-of-halves level halves)
+            (length-words-even level (levelLength n k n) (h .level-long)) tree (h .tree-long)
             ∙ sym (h .out-long)
         go false e = refl

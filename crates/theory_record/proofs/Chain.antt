@@ -12,7 +12,7 @@ use Rattle.theory_laws.proofs.Lists.{length-flat}
 use Rattle.theory_field.specs.Field.{_⊗_}
 use Rattle.theory_field.specs.Words.{words}
 use Rattle.theory_record.specs.Trees.{treeFor, rootFor, levelsLent, treesLent, rootsLent}
-use Rattle.theory_record.specs.Widths.{Widths, levelLength, treeLength}
+use Rattle.theory_record.specs.Widths.{levelLength, treeLength}
 use Rattle.theory_record.specs.Query.{rootAt}
 use Rattle.theory_record.specs.Build.{levelStart, levelsLength, treeStart, levelValues}
 use Rattle.theory_record.proofs.Widths.{PowersOfTwo}
@@ -31,7 +31,8 @@ pub record Sized (n k : ℕ) (levels : ℕ → List ℕ) : Type 0 where
 -- each is the fold of the one before, at variable 0, by its challenge
 abbrev pub Folded : ℕ → ℕ → (ℕ → List ℕ) → List ℕ → Type 0
 Folded n k levels r =
-    (l q : ℕ) → l < n → q < levelLength n k (suc l) → at (levels l) (2 * q) ⊕ at r l ⊗ (at (levels l) (2 * q) ⊕ at (levels l) (2 * q + 1)) ≡ at (levels (suc l)) q
+    (l q : ℕ) → l < n → q < levelLength n k (suc l)
+    → at (levels l) (2 * q) ⊕ at r l ⊗ (at (levels l) (2 * q) ⊕ at (levels l) (2 * q + 1)) ≡ at (levels (suc l)) q
 
 module _ (S : Scheme) (sized : (m : List ℕ) → length (S .digest m) ≡ 32) (p : PowersOfTwo (S .widths)) (levels : ℕ → List ℕ) where
   open Scheme S using (widths as s, n, k)
@@ -67,11 +68,19 @@ module _ (S : Scheme) (sized : (m : List ℕ) → length (S .digest m) ≡ 32) (
         ∙ part-endToEnd (suc n) l (λ i. rootFor S i (levels i)) (λ i. 32) (λ i g. length-rootFor S sized i (levels i) p) (omega arith)
 
     -- so that built-query-accepted speaks of them
-    pub chain-levels : (challenges : List ℕ) → Folded n k levels (words challenges) → Levels S (levelsLent n levels) (treesLent S levels) challenges (rootsLent S levels)
+    pub chain-levels : (challenges : List ℕ) → Folded n k levels (words challenges)
+        → Levels S (levelsLent n levels) (treesLent S levels) challenges (rootsLent S levels)
     chain-levels challenges f =
         record {
-          lent = record { small = z .small; words-long = length-levelsLent; all-words = below-endToEnd (2 ^ 128) (suc n) levels (pow-pos 128) (λ l g. z .all-words l (omega arith)); trees-long = length-treesLent };
-          trees = λ l h. levelTree-endToEnd s n k l (λ i. treeFor S i (levels i)) (λ i g. length-treeFor S i (levels i) p) (λ i g. treeFor-long S sized i (levels i)) h
+          lent = record {
+            small = z .small;
+            words-long = length-levelsLent;
+            all-words = below-endToEnd (2 ^ 128) (suc n) levels (pow-pos 128) (λ l g. z .all-words l (omega arith));
+            trees-long = length-treesLent;
+          };
+          trees = λ l h.
+              levelTree-endToEnd s n k l (λ i. treeFor S i (levels i)) (λ i g. length-treeFor S i (levels i) p)
+              (λ i g. treeFor-long S sized i (levels i)) h
               ∙ ap (treeFor S l) (sym (values-at l h));
           roots-are = λ l h. root-at l h ∙ ap (rootFor S l) (sym (values-at l h));
           folded = λ l q h g. rw (values-at l (omega arith), values-at (suc l) h) (f l q h g);

@@ -15,7 +15,7 @@ use Rattle.theory_multilinear.specs.Fold.{line}
 use Rattle.theory_multilinear.specs.Codeword.{encode}
 use Rattle.theory_multilinear.specs.Levels.{level}
 use Rattle.theory_multilinear.proofs.Levels.{length-level, level-lt, level-pair, last-level-first}
-use Rattle.theory_record.specs.Widths.{Widths, levelLength, treeLength}
+use Rattle.theory_record.specs.Widths.{levelLength, treeLength}
 use Rattle.theory_record.specs.Trees.{treeFor, rootFor, levelsLent, treesLent, rootsLent}
 use Rattle.theory_record.specs.Query.{accepted, checkQuery}
 use Rattle.theory_record.specs.Tail.{checkTail}
@@ -48,7 +48,8 @@ module _ (n k : ℕ) (c r : List ℕ) (long : length c ≡ 2 ^ (n + k)) where
 -- ---- the records of a codeword of 2^(n+k) words, folded n times by the challenges
 
 module _ (S : Scheme) (sized : (m : List ℕ) → length (S .digest m) ≡ 32) (p : PowersOfTwo (S .widths)) (base-short : length (S .base) ≤ 200)
-    (sizes : SizesFit (S .n) (S .k)) (c : List ℕ) (long : length c ≡ 2 ^ (S .n + S .k)) (all-words : Words c) (challenges : List ℕ) (challenges-long : length challenges ≡ 2 * S .n) where
+    (sizes : SizesFit (S .n) (S .k)) (c : List ℕ) (long : length c ≡ 2 ^ (S .n + S .k)) (all-words : Words c)
+    (challenges : List ℕ) (challenges-long : length challenges ≡ 2 * S .n) where
   open Scheme S using (widths as s, base, n, k)
 
   abbrev folded : ℕ → List ℕ
@@ -62,8 +63,9 @@ module _ (S : Scheme) (sized : (m : List ℕ) → length (S .digest m) ≡ 32) (
       → checkQuery S position challenges (rootsLent S (level c (words challenges)))
       (queryBytes s n k (levelsLent n (level c (words challenges))) (treesLent S (level c (words challenges))) position) ≡ accepted
   committed-query position low =
+      let z = codeword-sized n k c (words challenges) long (sizes-small n k sizes) all-words in
       built-query-accepted S p (levelsLent n folded) (treesLent S folded) challenges (rootsLent S folded)
-      (chain-levels S sized p folded (codeword-sized n k c (words challenges) long (sizes-small n k sizes) all-words) challenges (codeword-folded n k c (words challenges) long))
+      (chain-levels S sized p folded z challenges (codeword-folded n k c (words challenges) long))
       position low ranges
 
   -- the tail record is accepted for the first value of the last level, and for no other
@@ -88,5 +90,6 @@ module _ (S : Scheme) (sized : (m : List ℕ) → length (S .digest m) ≡ 32) (
   )
 
 -- for the codeword of a table that first value is P(r)
-pub claim-is-P : (n k : ℕ) (gammas t challenges : List ℕ) → length challenges ≡ 2 * n → at (level (encode n k gammas t) (words challenges) n) 0 ≡ mle (at t) (words challenges)
+pub claim-is-P : (n k : ℕ) (gammas t challenges : List ℕ) → length challenges ≡ 2 * n
+    → at (level (encode n k gammas t) (words challenges) n) 0 ≡ mle (at t) (words challenges)
 claim-is-P n k gammas t challenges long = last-level-first n k gammas t (words challenges) (length-words-even challenges n long)

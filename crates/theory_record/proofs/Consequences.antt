@@ -89,7 +89,8 @@ module _ (S : Scheme) (p : PowersOfTwo (S .widths)) (position : ℕ) (challenges
     pub accepted-size : length bytes ≡ querySize s n k
     accepted-size =
         ap length (sym accepted-bytes)
-        ∙ query-fills s n k (recordItems levelForm n bytes) (length-recordItems levelForm n bytes) (hold-shaped 0 (recordItems levelForm n bytes) (h .levels-hold) accepted-held)
+        ∙ query-fills s n k (recordItems levelForm n bytes) (length-recordItems levelForm n bytes)
+        (hold-shaped 0 (recordItems levelForm n bytes) (h .levels-hold) accepted-held)
 
 -- ---- a level is settled by its groups and paths: a, b and c stand in them
 
@@ -102,10 +103,14 @@ AllSame (x ∷ xs) (y ∷ ys) = SameOpenings x y × AllSame xs ys
 made : ℕ → ℕ → ℕ → List ℕ → List ℕ → List (List ℕ) → List (List ℕ) → LevelRecord
 made a b c ag cg pa pc = record { a = a; b = b; c = c; aGroup = ag; cGroup = cg; aPath = pa; cPath = pc }
 
-by-parts : {x y : LevelRecord} → x .a ≡ y .a → x .b ≡ y .b → x .c ≡ y .c → x .aGroup ≡ y .aGroup → x .cGroup ≡ y .cGroup → x .aPath ≡ y .aPath → x .cPath ≡ y .cPath → x ≡ y
-unfolding made
+again : LevelRecord → LevelRecord
+again x = made (x .a) (x .b) (x .c) (x .aGroup) (x .cGroup) (x .aPath) (x .cPath)
+
+by-parts : {x y : LevelRecord} → x .a ≡ y .a → x .b ≡ y .b → x .c ≡ y .c → x .aGroup ≡ y .aGroup → x .cGroup ≡ y .cGroup
+    → x .aPath ≡ y .aPath → x .cPath ≡ y .cPath → x ≡ y
+unfolding made again
 by-parts {x} {y} a b c ag cg pa pc =
-    let e : made (x .a) (x .b) (x .c) (x .aGroup) (x .cGroup) (x .aPath) (x .cPath) ≡ made (y .a) (y .b) (y .c) (y .aGroup) (y .cGroup) (y .aPath) (y .cPath) = rw (a, b, c, ag, cg, pa, pc) in
+    let e : again x ≡ again y = rw (a, b, c, ag, cg, pa, pc) in
     e
 
 module _ (S : Scheme) (position : ℕ) (challenges roots : List ℕ) where
@@ -119,12 +124,14 @@ module _ (S : Scheme) (position : ℕ) (challenges roots : List ℕ) where
       let c : x .c ≡ y .c = sym (hx .has-c) ∙ ap (valueAt (levelWidth s n k (suc l)) (pairOf position l)) (e .c-groups) ∙ hy .has-c in
       by-parts a b c (e .a-groups) (e .c-groups) (e .a-paths) (e .c-paths)
 
-  levels-settled : (l : ℕ) (xs ys : List LevelRecord) → AllHold S position challenges roots l xs → AllHold S position challenges roots l ys → AllSame xs ys → xs ≡ ys
+  levels-settled : (l : ℕ) (xs ys : List LevelRecord) → AllHold S position challenges roots l xs → AllHold S position challenges roots l ys
+      → AllSame xs ys → xs ≡ ys
   levels-settled l [] [] hx hy e = refl
   levels-settled l [] (y ∷ ys) hx hy e = absurd e
   levels-settled l (x ∷ xs) [] hx hy e = absurd e
   levels-settled l (x ∷ xs) (y ∷ ys) hx hy e =
-      ap₂ (λ (z : LevelRecord) (zs : List LevelRecord). z ∷ zs) (level-settled l x y (hx .0) (hy .0) (e .0)) (levels-settled (suc l) xs ys (hx .1) (hy .1) (e .1))
+      ap₂ (λ (z : LevelRecord) (zs : List LevelRecord). z ∷ zs) (level-settled l x y (hx .0) (hy .0) (e .0))
+      (levels-settled (suc l) xs ys (hx .1) (hy .1) (e .1))
 
   -- two records that are accepted for one position and have the same groups and paths are the same bytes
   pub query-settled : (u v : List ℕ) → Bytes u → Bytes v → QueryAccepted S position challenges roots u → QueryAccepted S position challenges roots v

@@ -33,7 +33,8 @@ unfolding decimalValue decimalWithin
 within-read zero x h = omega arith
 within-read (suc most) x h = go (within-read most (x / 10)) (ltb x 10) refl
   where
-    go : (x / 10 ≤ most → decimalValue 0 (decimalWithin most (x / 10)) ≡ x / 10) → (b : Bool) → ltb x 10 ≡ b → decimalValue 0 (pick b (digit x ∷ []) (longer most x)) ≡ x
+    go : (x / 10 ≤ most → decimalValue 0 (decimalWithin most (x / 10)) ≡ x / 10) → (b : Bool) → ltb x 10 ≡ b
+        → decimalValue 0 (pick b (digit x ∷ []) (longer most x)) ≡ x
     go ih true e = omega arith
     go ih false e =
         let ge = ltb-false x 10 e in
@@ -62,7 +63,8 @@ unfolding decimalWithin
 within-leads zero x p h = absurd (omega arith)
 within-leads (suc most) x p h = go (within-leads most (x / 10)) (ltb x 10) refl
   where
-    go : (0 < x / 10 → x / 10 ≤ most → 48 < getD (decimalWithin most (x / 10)) 0 0) → (b : Bool) → ltb x 10 ≡ b → 48 < getD (pick b (digit x ∷ []) (longer most x)) 0 0
+    go : (0 < x / 10 → x / 10 ≤ most → 48 < getD (decimalWithin most (x / 10)) 0 0) → (b : Bool) → ltb x 10 ≡ b
+        → 48 < getD (pick b (digit x ∷ []) (longer most x)) 0 0
     go ih true e = omega arith
     go ih false e =
         let ge = ltb-false x 10 e in

@@ -1,7 +1,7 @@
 -- A query record and a tail record are accepted exactly when they are what `specs/Accepted` says: a fact for each question. Rests on the
 -- conjunctions over what is read, and on reading back what was written.
-use Prim.Native.Nat.{ℕ, _^_, _<_, _≤_}
-use mathlib.Core.Path.{_≡_, refl, sym, _∙_, ap}
+use Prim.Native.Nat.{ℕ, _^_, _<_}
+use mathlib.Core.Path.{_≡_, _∙_}
 use mathlib.Core.Logic.{_↔_}
 use mathlib.Core.Bool.{true}
 use mathlib.Core.List.{List}
@@ -9,11 +9,11 @@ use native.Mathlib.Omega.{arith}
 use lib.ListN.{length}
 use Rattle.theory_laws.specs.Lists.{Bytes, All}
 use Rattle.theory_record.specs.Widths.{levelGroups}
-use Rattle.theory_record.specs.Format.{Form, LevelRecord, TailGroup, levelForm, tailForm, runCount, recordWhole, recordBytes, recordItems}
+use Rattle.theory_record.specs.Format.{Form, levelForm, tailForm, runCount, recordWhole, recordBytes, recordItems}
 use Rattle.theory_record.specs.Query.{accepted, checkQuery}
-use Rattle.theory_record.specs.Tail.{firstValue, checkTail}
+use Rattle.theory_record.specs.Tail.{checkTail}
 use Rattle.theory_record.specs.Scheme.{Scheme}
-use Rattle.theory_record.specs.Accepted.{Few, LevelHeld, TailGroupHeld, AllHold, AllGroupsHold, AcceptedQuery, AcceptedTail}
+use Rattle.theory_record.specs.Accepted.{Few, LevelHeld, TailGroupHeld, AcceptedQuery, AcceptedTail}
 use Rattle.theory_record.proofs.Records.{Faithful, Written, record-written, record-held, record-read, length-recordItems}
 use Rattle.theory_record.proofs.Format.{level-faithful, tail-faithful}
 use Rattle.theory_record.proofs.Query.{QueryAccepted, query-accepted, accepted-query}

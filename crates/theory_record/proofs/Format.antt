@@ -10,10 +10,13 @@ use lib.ListN.{length, take, drop, length-append, take-append-drop}
 use lib.Seq.{take-at, drop-at, drop-drop}
 use Rattle.theory_laws.specs.Questions.{both}
 use Rattle.theory_laws.specs.Lists.{part, leValue}
-use Rattle.theory_laws.proofs.Lists.{AllLong, Bytes, length-leBytes, length-part, both-true}
+use Rattle.theory_laws.proofs.Lists.{Bytes, length-leBytes, length-part, both-true}
 pub use Rattle.theory_record.specs.Accepted.{GroupHeld, LevelHeld, TailGroupHeld}
-use Rattle.theory_record.specs.Format.{LevelRecord, TailGroup, levelForm, tailForm, wordBytes, wordAt, runBytes, runFits, runItems, levelBytes, fromAGroup, fromCGroup, fromAPath, fromCPath, afterLevel, levelFits, levelRead, tailGroupBytes, fromTailPath, afterTailGroup, tailGroupFits, tailGroupOf}
-use Rattle.theory_record.proofs.Runs.{Few, Words, word-back, words-back, RunBack, run-back, word-run-back, run-read, word-run-read, bytes-afterRun, items-long, word-run-held, run-few}
+use Rattle.theory_record.specs.Format.{LevelRecord, TailGroup, levelForm, tailForm, wordBytes, wordAt, runBytes, runFits, runItems}
+use Rattle.theory_record.specs.Format.{levelBytes, fromAGroup, fromCGroup, fromAPath, fromCPath, afterLevel, levelFits, levelRead}
+use Rattle.theory_record.specs.Format.{tailGroupBytes, fromTailPath, afterTailGroup, tailGroupFits, tailGroupOf}
+use Rattle.theory_record.proofs.Runs.{word-back, words-back, RunBack, run-back, word-run-back}
+use Rattle.theory_record.proofs.Runs.{run-read, word-run-read, bytes-afterRun, items-long, word-run-held, run-few}
 use Rattle.theory_record.proofs.Records.{Faithful}
 use Rattle.theory_laws.proofs.Bytes.{leBytes-leValue, leValue-lt, below-part, below-drop}
 
@@ -99,8 +102,10 @@ module _ (x : LevelRecord) (h : LevelHeld x) (t : List ℕ) where
   level-read : levelRead (levelBytes x ++ t) ≡ x
   unfolding levelRead
   level-read =
+      let a-words = words-back (x .aGroup) (h .a-held .words) in
+      let c-words = words-back (x .cGroup) (h .c-held .words) in
       rw (a-is, b-is, c-is, aGroup-from, cGroup-from, aPath-from, cPath-from)
-      (rw (aGroup-back .items, cGroup-back .items, aPath-back .items, cPath-back .items, words-back (x .aGroup) (h .a-held .words), words-back (x .cGroup) (h .c-held .words)))
+      (rw (aGroup-back .items, cGroup-back .items, aPath-back .items, cPath-back .items, a-words, c-words))
 
   level-long : 48 ≤ length (levelBytes x ++ t)
   level-long = rw (three-words x t) (simp (length-append, length-leBytes) (omega arith))
@@ -141,12 +146,15 @@ module _ (t : List ℕ) (b : Bytes t) where
   bytes-level = bytes-afterRun 32 (fromCPath t) bytes-cPath
 
 module _ (t : List ℕ) (b : Bytes t) (fits : levelFits t ≡ true) where
-  all-fit : (leb 48 (length t) ≡ true) × (runFits 16 (fromAGroup t) ≡ true) × (runFits 16 (fromCGroup t) ≡ true) × (runFits 32 (fromAPath t) ≡ true) × (runFits 32 (fromCPath t) ≡ true)
+  all-fit : (leb 48 (length t) ≡ true) × (runFits 16 (fromAGroup t) ≡ true) × (runFits 16 (fromCGroup t) ≡ true)
+      × (runFits 32 (fromAPath t) ≡ true) × (runFits 32 (fromCPath t) ≡ true)
   unfolding levelFits
   all-fit =
-      let p = both-true (leb 48 (length t)) (both (runFits 16 (fromAGroup t)) (both (runFits 16 (fromCGroup t)) (both (runFits 32 (fromAPath t)) (runFits 32 (fromCPath t))))) fits in
-      let q = both-true (runFits 16 (fromAGroup t)) (both (runFits 16 (fromCGroup t)) (both (runFits 32 (fromAPath t)) (runFits 32 (fromCPath t)))) (p .1) in
-      let r = both-true (runFits 16 (fromCGroup t)) (both (runFits 32 (fromAPath t)) (runFits 32 (fromCPath t))) (q .1) in
+      let paths = both (runFits 32 (fromAPath t)) (runFits 32 (fromCPath t)) in
+      let from-c = both (runFits 16 (fromCGroup t)) paths in
+      let p = both-true (leb 48 (length t)) (both (runFits 16 (fromAGroup t)) from-c) fits in
+      let q = both-true (runFits 16 (fromAGroup t)) from-c (p .1) in
+      let r = both-true (runFits 16 (fromCGroup t)) paths (q .1) in
       let u = both-true (runFits 32 (fromAPath t)) (runFits 32 (fromCPath t)) (r .1) in
       (p .0, q .0, r .0, u .0, u .1)
 

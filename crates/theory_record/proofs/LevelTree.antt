@@ -13,13 +13,18 @@ use Rattle.theory_merkle.specs.Numbers.{buildNumber}
 use Rattle.theory_merkle.specs.Questions.{buildQuestions}
 use Rattle.theory_merkle.proofs.Sizes.{Power, isPow-holds}
 use Rattle.theory_record.specs.Widths.{present, levelLength, levelWidth, levelGroups, levelDepth, treeLength}
-use Rattle.theory_record.proofs.Widths.{present-powers, widthLogAt, width-by-exponent, level-shape, width-pos, groups-times-width, groups-pos, groups-by-depth, depth-le}
+use Rattle.theory_record.proofs.Widths.{present-powers, widthLogAt, width-by-exponent, level-shape, width-pos}
+use Rattle.theory_record.proofs.Widths.{groups-times-width, groups-pos, groups-by-depth, depth-le}
 
 module _ (n k l : ℕ) where
   -- the width is one of 1, 2 and 8
   width-power : Power 9 (levelWidth present n k l)
   unfolding present-powers
-  width-power = record { exponent = widthLogAt present-powers (n + k - l); within = small (leb 4 (n + k - l)) (leb 1 (n + k - l)); is = width-by-exponent present present-powers n k l }
+  width-power = record {
+    exponent = widthLogAt present-powers (n + k - l);
+    within = small (leb 4 (n + k - l)) (leb 1 (n + k - l));
+    is = width-by-exponent present present-powers n k l;
+  }
     where
       small : (a b : Bool) → pick a 3 (pick b 1 0) ≤ 9
       small true b = omega arith

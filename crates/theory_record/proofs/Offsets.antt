@@ -1,7 +1,7 @@
 -- Where the levels and their trees stand in what is lent, and the places of a query in its levels: all within the totals.
 use Prim.Native.Nat.{ℕ, zero, suc, _+_, _-_, _*_, _/_, _^_, _<_, _≤_}
 use mathlib.Core.Path.{_≡_, sym, _∙_, ap, ap₂}
-use mathlib.Core.List.{List, [], append-nil}
+use mathlib.Core.List.{List}
 use native.Mathlib.Omega.{arith}
 use native.Mathlib.Nat.{div-div-eq-div-mul}
 use lib.ListN.{length, take, drop}
@@ -9,7 +9,7 @@ use lib.Seq.{take-all, take-take, drop-drop}
 use lib.Pow.{pow-pos, pow-add, pow-mono, shr-lt}
 use Rattle.theory_laws.specs.Table.{at}
 use Rattle.theory_laws.specs.Lists.{part, runs, flat}
-use Rattle.theory_laws.proofs.Lists.{AllLong, length-part, getD-part, take-drop, length-runs, runs-flat, length-flat, runs-long}
+use Rattle.theory_laws.proofs.Lists.{AllLong, length-part, getD-part, take-drop, length-runs, runs-of-flat, length-flat, runs-long}
 use Rattle.theory_field.specs.Words.{words}
 use Rattle.theory_field.proofs.Words.{take-words, drop-words}
 use Rattle.theory_record.specs.Trees.{endToEnd}
@@ -87,7 +87,8 @@ unfolding levelValues
 length-levelValues n k l ws h e = length-part (levelLength n k l) (levelStart n k l) ws (omega (arith, level-within n k l h))
 
 -- level l, of levels lent end to end
-pub levelValues-endToEnd : (n k l : ℕ) (levels : ℕ → List ℕ) → ((j : ℕ) → j ≤ n → length (levels j) ≡ levelLength n k j) → l ≤ n → levelValues n k (endToEnd (suc n) levels) l ≡ levels l
+pub levelValues-endToEnd : (n k l : ℕ) (levels : ℕ → List ℕ) → ((j : ℕ) → j ≤ n → length (levels j) ≡ levelLength n k j) → l ≤ n
+    → levelValues n k (endToEnd (suc n) levels) l ≡ levels l
 unfolding levelValues levelStart
 levelValues-endToEnd n k l levels e h = part-endToEnd (suc n) l levels (levelLength n k) (λ j g. e j (omega arith)) (omega arith)
 
@@ -125,29 +126,28 @@ module _ (s : Widths) (n k l : ℕ) (ts : List ℕ) where
   unfolding levelTree
   levelTree-long h e = digests-long (treeLength s n k l) (treeStart s n k l) ts (omega (arith, tree-within s n k l h))
 
--- digests end to end read back
-runs-of-flat : (c : ℕ) (tree : List (List ℕ)) → length tree ≡ c → AllLong 32 tree → runs 32 c (flat tree) ≡ tree
-runs-of-flat c tree e a = ap₂ (λ (x : ℕ) (b : List ℕ). runs 32 x b) (sym e) (sym (append-nil (flat tree))) ∙ runs-flat 32 tree [] a
-
 -- a tree lent by itself
 pub digests-flat : (c : ℕ) (tree : List (List ℕ)) → length tree ≡ c → AllLong 32 tree → digests c 0 (flat tree) ≡ tree
 unfolding digests
 digests-flat c tree e a =
     let len : length (flat tree) ≡ 32 * c = length-flat 32 tree a ∙ ap (λ (x : ℕ). 32 * x) e in
-    ap (runs 32 c) (part-all (32 * c) (flat tree) len) ∙ runs-of-flat c tree e a
+    ap (runs 32 c) (part-all (32 * c) (flat tree) len) ∙ runs-of-flat 32 c tree e a
 
 -- tree l, of trees lent end to end
-pub levelTree-endToEnd : (s : Widths) (n k l : ℕ) (trees : ℕ → List (List ℕ)) → ((j : ℕ) → j ≤ n → length (trees j) ≡ treeLength s n k j) → ((j : ℕ) → j ≤ n → AllLong 32 (trees j)) → l ≤ n
+pub levelTree-endToEnd : (s : Widths) (n k l : ℕ) (trees : ℕ → List (List ℕ))
+    → ((j : ℕ) → j ≤ n → length (trees j) ≡ treeLength s n k j) → ((j : ℕ) → j ≤ n → AllLong 32 (trees j)) → l ≤ n
     → levelTree s n k (endToEnd (suc n) (λ j. flat (trees j))) l ≡ trees l
 unfolding levelTree digests treeStart
 levelTree-endToEnd s n k l trees e a h =
     let c : ℕ = treeLength s n k l in
     let bytes : ℕ → List ℕ = λ j. flat (trees j) in
-    let len : (j : ℕ) → j < suc n → length (bytes j) ≡ 32 * treeLength s n k j = λ j g. length-flat 32 (trees j) (a j (omega arith)) ∙ ap (λ (x : ℕ). 32 * x) (e j (omega arith)) in
-    let there : part (32 * c) (total l (λ j. 32 * treeLength s n k j)) (endToEnd (suc n) bytes) ≡ flat (trees l) = part-endToEnd (suc n) l bytes (λ j. 32 * treeLength s n k j) len (omega arith) in
+    let size : ℕ → ℕ = λ j. 32 * treeLength s n k j in
+    let len : (j : ℕ) → j < suc n → length (bytes j) ≡ size j = λ j g.
+    length-flat 32 (trees j) (a j (omega arith)) ∙ ap (λ (x : ℕ). 32 * x) (e j (omega arith)) in
+    let there : part (32 * c) (total l size) (endToEnd (suc n) bytes) ≡ flat (trees l) = part-endToEnd (suc n) l bytes size len (omega arith) in
     ap (λ (x : ℕ). runs 32 c (part (32 * c) x (endToEnd (suc n) bytes))) (sym (total-times 32 l (treeLength s n k)))
     ∙ ap (runs 32 c) there
-    ∙ runs-of-flat c (trees l) (e l h) (a l h)
+    ∙ runs-of-flat 32 c (trees l) (e l h) (a l h)
 
 -- ---- a query's places
 

@@ -1,25 +1,20 @@
 -- A query record is accepted exactly when every question put to it has its yes, as one conjunction of facts.
-use Prim.Native.Nat.{ℕ, suc, _+_, _*_, _^_, _<_, _≤_}
+use Prim.Native.Nat.{ℕ, suc, _+_, _^_, _<_}
 use mathlib.Core.Path.{_≡_, refl, ap}
 use mathlib.Core.Bool.{Bool, true, false}
 use mathlib.Core.List.{List, [], _∷_}
 use borrow.Author.Tests.{eqb-true, eqb-false, leb-true, ltb-true, eq-eqb, le-leb, lt-ltb}
 use lib.Dec.{eqb}
-use lib.ListN.{length}
-use Rattle.theory_laws.specs.Xor.{_⊕_}
 use Rattle.theory_laws.specs.Table.{at}
 use Rattle.theory_laws.specs.Questions.{pick, firstNo}
 use Rattle.theory_laws.proofs.Lists.{same-true}
 use Rattle.theory_laws.proofs.Questions.{all-yes, yes-all, same-yes}
-use Rattle.theory_field.specs.Field.{_⊗_}
 use Rattle.theory_field.specs.Words.{words}
-use Rattle.theory_merkle.specs.Tree.{groupOf}
 pub use Rattle.theory_record.specs.Accepted.{LevelHolds, Ranges, Holds, AllHold}
-use Rattle.theory_record.specs.Trees.{leadsTo}
-use Rattle.theory_record.specs.Widths.{Widths, levelWidth, levelDepth}
 use Rattle.theory_record.specs.Format.{LevelRecord, levelForm, runCount, recordWhole, recordItems}
-use Rattle.theory_record.specs.Query.{Answer, accepted, refused, pairOf, valueAt, rootAt, pairQuestions, levelNumber, checkLevels, queryQuestions, queryNumber, checkQuery}
-use Rattle.theory_record.proofs.Ranges.{SizesFit, sizes-fit, fit-sizes}
+use Rattle.theory_record.specs.Query.{Answer, accepted, refused, pairOf, rootAt, pairQuestions, levelNumber}
+use Rattle.theory_record.specs.Query.{checkLevels, queryQuestions, queryNumber, checkQuery}
+use Rattle.theory_record.proofs.Ranges.{sizes-fit, fit-sizes}
 use Rattle.theory_record.specs.Scheme.{Scheme}
 
 module _ (S : Scheme) (l q r : ℕ) (ra rc : List ℕ) (x : LevelRecord) where
@@ -88,7 +83,8 @@ module _ (S : Scheme) (position : ℕ) (challenges roots : List ℕ) where
       number = levelNumber S position challenges roots l x
 
       go : (b : Bool) → eqb number 0 ≡ b → pick b (checkLevels S position challenges roots (suc l) xs) (record { number = number; level = l }) ≡ accepted
-          → (checkLevels S position challenges roots (suc l) xs ≡ accepted → AllHold S position challenges roots (suc l) xs) → AllHold S position challenges roots l (x ∷ xs)
+          → (checkLevels S position challenges roots (suc l) xs ≡ accepted → AllHold S position challenges roots (suc l) xs)
+          → AllHold S position challenges roots l (x ∷ xs)
       go true z f rest = (level-holds S l (pairOf position l) (at (words challenges) l) (rootAt roots l) (rootAt roots (suc l)) x (eqb-true number 0 z), rest f)
       go false z f rest = absurd (eqb-false number 0 z (ap (λ (r : Answer). r .number) f))
 
@@ -96,7 +92,8 @@ module _ (S : Scheme) (position : ℕ) (challenges roots : List ℕ) where
   unfolding checkLevels levelNumber
   hold-all l [] h = refl
   hold-all l (x ∷ xs) h =
-      rw (eq-eqb _ 0 (holds-level S l (pairOf position l) (at (words challenges) l) (rootAt roots l) (rootAt roots (suc l)) x (h .0))) (hold-all (suc l) xs (h .1))
+      let yes = holds-level S l (pairOf position l) (at (words challenges) l) (rootAt roots l) (rootAt roots (suc l)) x (h .0) in
+      rw (eq-eqb _ 0 yes) (hold-all (suc l) xs (h .1))
 
   -- ---- the whole record
 
@@ -115,12 +112,18 @@ module _ (S : Scheme) (position : ℕ) (challenges roots : List ℕ) where
       number : ℕ
       number = queryNumber S position challenges roots bytes
 
-      go : (b : Bool) → eqb number 0 ≡ b → pick b (checkLevels S position challenges roots 0 (recordItems levelForm n bytes)) (refused number) ≡ accepted → QueryAccepted bytes
+      go : (b : Bool) → eqb number 0 ≡ b
+          → pick b (checkLevels S position challenges roots 0 (recordItems levelForm n bytes)) (refused number) ≡ accepted → QueryAccepted bytes
       go true z f =
           let all = sizes-fit n k (all-yes (queryQuestions S position challenges roots bytes) tt (eqb-true number 0 z)) in
           let y = all .1 in
           record {
-            ranges = record { sizes = all .0; challenges-long = eqb-true _ _ (y .0); roots-long = eqb-true _ _ (y .1 .0); base-short = leb-true _ _ (y .1 .1 .0) };
+            ranges = record {
+              sizes = all .0;
+              challenges-long = eqb-true _ _ (y .0);
+              roots-long = eqb-true _ _ (y .1 .0);
+              base-short = leb-true _ _ (y .1 .1 .0);
+            };
             position-low = ltb-true _ _ (y .1 .1 .1 .0);
             reads-whole = y .1 .1 .1 .1 .0;
             has-n-levels = eqb-true _ _ (y .1 .1 .1 .1 .1 .0);
@@ -154,7 +157,8 @@ module _ (S : Scheme) (position : ℕ) (challenges roots : List ℕ) where
 
   -- ---- the number 0 says all: the level is then 0 too
 
-  levels-zero : (l : ℕ) (xs : List LevelRecord) → checkLevels S position challenges roots l xs .number ≡ 0 → checkLevels S position challenges roots l xs ≡ accepted
+  levels-zero : (l : ℕ) (xs : List LevelRecord) → checkLevels S position challenges roots l xs .number ≡ 0
+      → checkLevels S position challenges roots l xs ≡ accepted
   unfolding checkLevels
   levels-zero l [] e = refl
   levels-zero l (x ∷ xs) e = go (eqb number 0) refl e (levels-zero (suc l) xs)

@@ -15,7 +15,8 @@ use Rattle.theory_laws.specs.Questions.{both, Question, firstNo, onDone}
 use Rattle.theory_laws.specs.Lists.{part, leValue}
 use Rattle.theory_laws.proofs.Lists.{getD-runs, both-true}
 use Rattle.theory_laws.proofs.Questions.{firstNo-append}
-use Rattle.theory_record.specs.Format.{Form, levelForm, tailForm, levelRead, afterLevel, tailGroupOf, afterTailGroup, wordAt, runCount, runSize, runFits, runItems, afterRun, itemsOf, wholeItems, recordWhole}
+use Rattle.theory_record.specs.Format.{Form, levelForm, tailForm, levelRead, afterLevel, tailGroupOf, afterTailGroup, wordAt}
+use Rattle.theory_record.specs.Format.{runCount, runSize, runFits, runItems, afterRun, itemsOf, wholeItems, recordWhole}
 use Rattle.theory_record.specs.Query.{Answer, accepted, levelNumber, checkLevels}
 use Rattle.theory_record.specs.Tail.{groupQuestions, groupsQuestions}
 use Rattle.theory_record.specs.Scheme.{Scheme}
@@ -80,7 +81,8 @@ module _ {A : Type 0} (form : Form A) (s : List ℕ) (from c l : ℕ) (r : Bool)
       let z : c - l ≡ 0 = omega arith in
       sym (diff-zero (length s) from k) ∙ (rw (z, length-drop from s) at e)
 
-pub whole-here : {A : Type 0} (form : Form A) (s : List ℕ) (from c l : ℕ) → l < c → wholeItems form (c - l) (drop from s) ≡ true → form .fits (drop from s) ≡ true
+pub whole-here : {A : Type 0} (form : Form A) (s : List ℕ) (from c l : ℕ) → l < c → wholeItems form (c - l) (drop from s) ≡ true
+    → form .fits (drop from s) ≡ true
 unfolding wholeItems
 whole-here form s from c l h e =
     let z : c - l ≡ suc (c - (l + 1)) = omega arith in
@@ -116,8 +118,8 @@ module _ (S : Scheme) (position : ℕ) (challenges roots s : List ℕ) where
   checkFrom from l = checkLevels S position challenges roots l (itemsOf levelForm (n - l) (drop from s))
 
   module _ (from l : ℕ) (r : Answer) where
-    pub check-step : (next q : ℕ) → l < n → q ≡ levelNumber S position challenges roots l (levelRead (drop from s)) → q ≡ 0 → afterLevel (drop from s) ≡ drop next s
-        → checkFrom from l ≡ r → checkFrom next (l + 1) ≡ r
+    pub check-step : (next q : ℕ) → l < n → q ≡ levelNumber S position challenges roots l (levelRead (drop from s)) → q ≡ 0
+        → afterLevel (drop from s) ≡ drop next s → checkFrom from l ≡ r → checkFrom next (l + 1) ≡ r
     unfolding checkLevels itemsOf
     check-step next q h f g a e =
         let z : n - l ≡ suc (n - suc l) = omega arith in
@@ -143,20 +145,23 @@ module _ (S : Scheme) (lastRoot s : List ℕ) (c : ℕ) (rest : List Question) w
   abbrev pub checkGroupsFrom : ℕ → ℕ → ℕ
   checkGroupsFrom from g = firstNo (groupsQuestions S lastRoot g (itemsOf tailForm (c - g) (drop from s)) ++ rest)
 
-  -- group g, and what is left after it
+  -- the questions put to group g, and those that are left after it
+  abbrev here : ℕ → ℕ → List Question
+  here from g = groupQuestions S lastRoot g (tailGroupOf (drop from s))
+
+  abbrev after : ℕ → ℕ → List Question
+  after from g = groupsQuestions S lastRoot (suc g) (itemsOf tailForm (c - suc g) (afterTailGroup (drop from s))) ++ rest
+
   groups-split : (from g : ℕ) → g < c
-      → checkGroupsFrom from g
-      ≡ onDone (firstNo (groupQuestions S lastRoot g (tailGroupOf (drop from s))))
-      (firstNo (groupsQuestions S lastRoot (suc g) (itemsOf tailForm (c - suc g) (afterTailGroup (drop from s))) ++ rest))
-      (firstNo (groupQuestions S lastRoot g (tailGroupOf (drop from s))))
+      → checkGroupsFrom from g ≡ onDone (firstNo (here from g)) (firstNo (after from g)) (firstNo (here from g))
   unfolding groupsQuestions itemsOf
   groups-split from g h =
       let z : c - g ≡ suc (c - suc g) = omega arith in
-      rw z (firstNo-append (groupQuestions S lastRoot g (tailGroupOf (drop from s))) (groupsQuestions S lastRoot (suc g) (itemsOf tailForm (c - suc g) (afterTailGroup (drop from s))) ++ rest) tt)
+      rw z (firstNo-append (here from g) (after from g) tt)
 
   module _ (from g r : ℕ) where
-    pub groups-step : (next q : ℕ) → g < c → q ≡ firstNo (groupQuestions S lastRoot g (tailGroupOf (drop from s))) → q ≡ 0 → afterTailGroup (drop from s) ≡ drop next s
-        → checkGroupsFrom from g ≡ r → checkGroupsFrom next (g + 1) ≡ r
+    pub groups-step : (next q : ℕ) → g < c → q ≡ firstNo (groupQuestions S lastRoot g (tailGroupOf (drop from s))) → q ≡ 0
+        → afterTailGroup (drop from s) ≡ drop next s → checkGroupsFrom from g ≡ r → checkGroupsFrom next (g + 1) ≡ r
     groups-step next q h f z a e = rw add-one (rw (← f, eq-eqb q 0 z, a) at (sym (groups-split from g h) ∙ e))
 
     pub groups-stop : (q : ℕ) → g < c → q ≡ firstNo (groupQuestions S lastRoot g (tailGroupOf (drop from s))) → (q ≡ 0 → ⊥) → checkGroupsFrom from g ≡ r → q ≡ r

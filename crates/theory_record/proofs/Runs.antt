@@ -10,10 +10,11 @@ use lib.Pow.{pow-pos}
 use lib.ListN.{length, take, drop, length-append, length-drop, length-map, length-take, take-append-drop}
 use lib.Seq.{take-at, drop-at, drop-drop, take-add}
 use Rattle.theory_laws.specs.Lists.{part, runs, flat, leBytes, leValue}
-use Rattle.theory_laws.proofs.Lists.{AllLong, Bytes, length-leBytes, leValue-leBytes, length-runs, runs-flat, flat-runs, length-flat, length-part, both-true, runs-long, runs-take}
+use Rattle.theory_laws.proofs.Lists.{AllLong, Bytes, length-leBytes, leValue-leBytes, length-part, both-true}
+use Rattle.theory_laws.proofs.Lists.{length-runs, runs-flat, flat-runs, length-flat, runs-long, runs-take}
 pub use Rattle.theory_record.specs.Accepted.{Few, Words}
 use Rattle.theory_record.specs.Format.{wordBytes, runBytes, runCount, runSize, runFits, runItems, afterRun}
-use Rattle.theory_laws.proofs.Bytes.{AllBelow, leBytes-leValue, leValue-lt, below-part, below-drop, below-take}
+use Rattle.theory_laws.proofs.Bytes.{leBytes-leValue, leValue-lt, below-part, below-drop, below-take}
 use Rattle.theory_laws.proofs.Questions.{true-both}
 
 -- ---- words as items
@@ -101,7 +102,8 @@ length-runItems size t = length-runs size (runCount t) (drop 4 t)
 
 pub words-read : (xs : List (List ℕ)) → AllLong 16 xs → AllBytes xs → map wordBytes (map leValue xs) ≡ xs
 words-read [] long bytes = refl
-words-read (x ∷ xs) long bytes = ap₂ (λ (y : List ℕ) (r : List (List ℕ)). y ∷ r) (leBytes-leValue 16 x (long .0) (bytes .0)) (words-read xs (long .1) (bytes .1))
+words-read (x ∷ xs) long bytes =
+    ap₂ (λ (y : List ℕ) (r : List (List ℕ)). y ∷ r) (leBytes-leValue 16 x (long .0) (bytes .0)) (words-read xs (long .1) (bytes .1))
 
 pub items-words : (xs : List (List ℕ)) → AllLong 16 xs → AllBytes xs → Words (map leValue xs)
 items-words [] long bytes j = pow-pos 128
@@ -133,7 +135,8 @@ module _ (size : ℕ) (t : List ℕ) (fits : runFits size t ≡ true) where
   unfolding runBytes runItems afterRun runSize runCount
   run-read h =
       let c : ℕ = leValue (part 4 0 t) in
-      let front : leBytes 4 c ≡ part 4 0 t = leBytes-leValue 4 (part 4 0 t) (length-part 4 0 t (omega (arith, fits-count))) (below-part 256 4 0 t (omega arith) h) in
+      let long : length (part 4 0 t) ≡ 4 = length-part 4 0 t (omega (arith, fits-count)) in
+      let front : leBytes 4 c ≡ part 4 0 t = leBytes-leValue 4 (part 4 0 t) long (below-part 256 4 0 t (omega arith) h) in
       rw (length-runs, front, flat-runs) (both-parts t (size * c))
 
 pub word-run-read : (t : List ℕ) → Bytes t → runFits 16 t ≡ true → runBytes (map wordBytes (map leValue (runItems 16 t))) ++ afterRun 16 t ≡ t

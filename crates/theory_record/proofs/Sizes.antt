@@ -6,7 +6,8 @@ use native.Mathlib.Omega.{arith}
 use lib.ListN.{length, length-append, length-map}
 use Rattle.theory_laws.proofs.Lists.{AllLong, length-leBytes}
 use Rattle.theory_record.specs.Widths.{Widths, present, levelWidth, levelGroups, levelDepth, total}
-use Rattle.theory_record.specs.Format.{LevelRecord, TailGroup, levelForm, tailForm, wordBytes, runBytes, levelBytes, tailGroupBytes, itemsBytes, recordBytes}
+use Rattle.theory_record.specs.Format.{LevelRecord, TailGroup, levelForm, tailForm}
+use Rattle.theory_record.specs.Format.{wordBytes, runBytes, levelBytes, tailGroupBytes, itemsBytes, recordBytes}
 use Rattle.theory_record.specs.Sizes.{groupSize, levelSize, querySize, tailSize}
 use Rattle.theory_record.proofs.Widths.{PowersOfTwo, present-powers, widthLogAt, width-by-exponent, depth-by-exponent, level-shape, groups-by-depth}
 use Rattle.theory_record.proofs.Totals.{total-ext, total-first}
@@ -19,10 +20,13 @@ pub record GroupShaped (s : Widths) (n k l : ℕ) (values : List ℕ) (path : Li
   pub digests : AllLong 32 path
 
 module _ (s : Widths) (n k : ℕ) where
-  pub length-group : (l : ℕ) (values : List ℕ) (path : List (List ℕ)) → GroupShaped s n k l values path → length (runBytes (map wordBytes values)) + length (runBytes path) ≡ groupSize s n k l
+  pub length-group : (l : ℕ) (values : List ℕ) (path : List (List ℕ)) → GroupShaped s n k l values path
+      → length (runBytes (map wordBytes values)) + length (runBytes path) ≡ groupSize s n k l
   unfolding groupSize
   length-group l values path h =
-      rw (length-runBytes 16 (map wordBytes values) (words-long values), length-runBytes 32 path (h .digests), length-map values wordBytes, h .width, h .depth) (omega arith)
+      let word-run = length-runBytes 16 (map wordBytes values) (words-long values) in
+      let path-run = length-runBytes 32 path (h .digests) in
+      rw (word-run, path-run, length-map values wordBytes, h .width, h .depth) (omega arith)
 
   -- ---- a query record
 
@@ -55,7 +59,8 @@ module _ (s : Widths) (n k : ℕ) where
   pub query-fills : (xs : List LevelRecord) → length xs ≡ n → LevelsShaped 0 xs → length (recordBytes levelForm xs) ≡ querySize s n k
   unfolding recordBytes querySize
   query-fills xs e h =
-      let r : total n (λ i. levelSize s n k (0 + i)) ≡ total n (levelSize s n k) = total-ext n (λ i. levelSize s n k (0 + i)) (levelSize s n k) (λ i g. ap (levelSize s n k) (omega arith)) in
+      let f : ℕ → ℕ = λ i. levelSize s n k (0 + i) in
+      let r : total n f ≡ total n (levelSize s n k) = total-ext n f (levelSize s n k) (λ i g. ap (levelSize s n k) (omega arith)) in
       rw (length-append, length-leBytes, length-levels 0 xs h, e, r)
 
   -- ---- a tail record
@@ -86,7 +91,9 @@ module _ (s : Widths) (p : PowersOfTwo s) (n k : ℕ) where
 
   pub query-size : querySize s n k ≡ 4 + total n (λ l. 48 + groupBytesAt p (n + k - l) + groupBytesAt p (n + k - suc l))
   unfolding querySize levelSize
-  query-size = ap (λ (x : ℕ). 4 + x) (total-ext n (levelSize s n k) (λ l. 48 + groupBytesAt p (n + k - l) + groupBytesAt p (n + k - suc l)) (λ l h. rw (group-size l, group-size (suc l))))
+  query-size =
+      let f : ℕ → ℕ = λ l. 48 + groupBytesAt p (n + k - l) + groupBytesAt p (n + k - suc l) in
+      ap (λ (x : ℕ). 4 + x) (total-ext n (levelSize s n k) f (λ l h. rw (group-size l, group-size (suc l))))
 
   -- the tail's size is fixed by k
   pub tail-size : tailSize s n k ≡ 4 + 2 ^ (k - widthLogAt p k) * groupBytesAt p k
@@ -98,8 +105,14 @@ module _ (s : Widths) (p : PowersOfTwo s) (n k : ℕ) where
 -- the sizes of SPECIFICATION 7.6 under the present widths: (n, k) of (1, 0), (2, 1), (18, 2), (20, 4), and tails for k from 0 to 4
 pub query-sizes : (querySize present 1 0 ≡ 116) × (querySize present 2 1 ≡ 388) × (querySize present 18 2 ≡ 14884) × (querySize present 20 4 ≡ 20484)
 unfolding total present-powers
-query-sizes = (query-size present present-powers 1 0, query-size present present-powers 2 1, query-size present present-powers 18 2, query-size present present-powers 20 4)
+query-sizes =
+    let size = query-size present present-powers in
+    (size 1 0, size 2 1, size 18 2, size 20 4)
 
-pub tail-sizes : (n : ℕ) → (tailSize present n 0 ≡ 28) × (tailSize present n 1 ≡ 44) × (tailSize present n 2 ≡ 148) × (tailSize present n 3 ≡ 420) × (tailSize present n 4 ≡ 340)
+pub tail-sizes : (n : ℕ)
+    → (tailSize present n 0 ≡ 28) × (tailSize present n 1 ≡ 44) × (tailSize present n 2 ≡ 148) × (tailSize present n 3 ≡ 420)
+    × (tailSize present n 4 ≡ 340)
 unfolding present-powers
-tail-sizes n = (tail-size present present-powers n 0, tail-size present present-powers n 1, tail-size present present-powers n 2, tail-size present present-powers n 3, tail-size present present-powers n 4)
+tail-sizes n =
+    let size = tail-size present present-powers n in
+    (size 0, size 1, size 2, size 3, size 4)

@@ -1,5 +1,5 @@
 -- A tail record is accepted exactly when every question put to it has its yes, as one conjunction of facts.
-use Prim.Native.Nat.{ℕ, suc, _*_, _≤_}
+use Prim.Native.Nat.{ℕ, suc, _≤_}
 use mathlib.Core.Path.{_≡_}
 use mathlib.Core.Bool.{true}
 use mathlib.Core.List.{List, [], _∷_, _++_}
@@ -10,8 +10,7 @@ use Rattle.theory_laws.specs.Questions.{Question, _asks_}
 use Rattle.theory_laws.proofs.Lists.{same-true}
 use Rattle.theory_laws.proofs.Questions.{AllYes, Numbered, all-yes, yes-all, same-yes, yes-append, append-yes}
 pub use Rattle.theory_record.specs.Accepted.{GroupHolds, AllGroupsHold}
-use Rattle.theory_record.specs.Trees.{leadsTo}
-use Rattle.theory_record.specs.Widths.{Widths, levelWidth, levelGroups, levelDepth}
+use Rattle.theory_record.specs.Widths.{levelGroups}
 use Rattle.theory_record.specs.Format.{TailGroup, tailForm, runCount, recordWhole, recordItems}
 use Rattle.theory_record.specs.Tail.{firstValue, groupQuestions, groupsQuestions, tailQuestions, checkTail}
 use Rattle.theory_record.proofs.Ranges.{SizesFit, sizes-fit, fit-sizes}

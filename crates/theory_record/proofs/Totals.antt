@@ -59,14 +59,17 @@ unfolding part
 part-last xs ys n i e f = rw (drop-at xs ys i e) (take-all n ys (omega arith))
 
 -- list i, by its length and the lengths before it
-pub part-endToEnd : (m i : ℕ) (f : ℕ → List ℕ) (len : ℕ → ℕ) → ((j : ℕ) → j < m → length (f j) ≡ len j) → i < m → part (len i) (total i len) (endToEnd m f) ≡ f i
+pub part-endToEnd : (m i : ℕ) (f : ℕ → List ℕ) (len : ℕ → ℕ) → ((j : ℕ) → j < m → length (f j) ≡ len j) → i < m
+    → part (len i) (total i len) (endToEnd m f) ≡ f i
 unfolding endToEnd
 part-endToEnd zero i f len h k = absurd (omega arith)
 part-endToEnd (suc m) i f len h k =
     let all : length (endToEnd m f) ≡ total m len = length-endToEnd m f ∙ total-ext m (λ j. length (f j)) len (λ j g. h j (omega arith)) in
     ⊎-elim
     (λ (e : i ≡ m). rw e (part-last (endToEnd m f) (f m) (len m) (total m len) all (h m (omega arith))))
-    (λ (g : i < m). part-front (len i) (total i len) (endToEnd m f) (f m) (omega (arith, total-within m i len g)) ∙ part-endToEnd m i f len (λ j g. h j (omega arith)) g)
+    (λ (g : i < m).
+    part-front (len i) (total i len) (endToEnd m f) (f m) (omega (arith, total-within m i len g))
+    ∙ part-endToEnd m i f len (λ j g. h j (omega arith)) g)
     (eq-or-lt-of-le {n = i} {m = m} (omega arith))
 
 -- summands that are at most b

@@ -11,7 +11,7 @@ use Rattle.theory_laws.specs.Lists.{part, same}
 use Rattle.theory_field.specs.Field.{_⊗_}
 use Rattle.theory_field.specs.Words.{words}
 use Rattle.theory_merkle.specs.Tree.{groupOf}
-use Rattle.theory_record.specs.Widths.{Widths, levelWidth, levelDepth}
+use Rattle.theory_record.specs.Widths.{levelWidth, levelDepth}
 use Rattle.theory_record.specs.Trees.{leadsTo}
 use Rattle.theory_record.specs.Format.{LevelRecord, levelForm, runCount, recordWhole, recordItems}
 use Rattle.theory_record.specs.Scheme.{Scheme}

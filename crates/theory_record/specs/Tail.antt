@@ -7,7 +7,7 @@ use lib.ListN.{length}
 use Rattle.theory_laws.specs.Table.{at}
 use Rattle.theory_laws.specs.Questions.{Question, _asks_, firstNo}
 use Rattle.theory_laws.specs.Lists.{same}
-use Rattle.theory_record.specs.Widths.{Widths, levelWidth, levelGroups, levelDepth}
+use Rattle.theory_record.specs.Widths.{levelWidth, levelGroups, levelDepth}
 use Rattle.theory_record.specs.Format.{TailGroup, tailForm, runCount, recordWhole, recordItems}
 use Rattle.theory_record.specs.Trees.{leadsTo}
 use Rattle.theory_record.specs.Query.{sizeQuestions}

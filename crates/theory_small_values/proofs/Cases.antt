@@ -3,6 +3,7 @@
 use mathlib.Core.Path.{_≡_, refl, sym, ap}
 use mathlib.Core.List.{_++_}
 use lib.Dec.{lit<}
+use lib.ListN.{drop}
 use Rattle.theory_laws.specs.Xor.{_⊕_, sel}
 use Rattle.theory_laws.specs.Sum.{sum}
 use Rattle.theory_laws.specs.Table.{tab}
@@ -17,7 +18,8 @@ use Rattle.theory_multilinear.specs.Points.{vertex, addPoint}
 use Rattle.theory_multilinear.specs.Phi.{phi}
 use Rattle.theory_multilinear.specs.Partials.{partial, partialEvals, materialize, indicator}
 use Rattle.theory_laws.specs.Lists.{flat, leBytes, same}
-use Rattle.theory_merkle.specs.Message.{prefixed, serializePrefix, serializeParts, leafLabel, nodeLabel, wordsBytes, leafPrefix, leafRest, leafMessage, nodeMessage}
+use Rattle.theory_merkle.specs.Message.{prefixed, serializePrefix, serializeParts, wordsBytes}
+use Rattle.theory_merkle.specs.Message.{leafLabel, leafPrefix, leafRest, leafMessage, nodeLabel, nodeMessage}
 use Rattle.theory_merkle.specs.Binding.{differing, lastDiffering, messages, messagesOf, collision}
 use Rattle.theory_record.specs.Widths.{widthFor, levelLength, levelWidth}
 use Rattle.theory_record.specs.Domain.{decimalWithin, decimal, levelDomain}
@@ -31,6 +33,13 @@ unfolding reduction xtime mulBits _⊗_ sel _⊕_
 inverse-of-2 = sym (inverse-unique 2 0x80000000000000000000000000000043 (lit< tt) (lit< tt) refl)
 
 pub all-hold : AllHold (cases ++ compareCases)
-unfolding codeword reduction xtime mulBits _⊗_ sq sel _⊕_ sum tab ins prod factor eqAt eqTable mle line foldAt foldList gamma shiftAt shift vertex addPoint block inBlocks encode phi partial partialEvals materialize indicator
-    flat leBytes same prefixed serializePrefix serializeParts leafLabel nodeLabel wordsBytes leafPrefix leafRest leafMessage nodeMessage differing lastDiffering messages messagesOf collision widthFor levelLength levelWidth decimalWithin decimal levelDomain pairOf openingFound pairFound levelsFound inBuffer
-all-hold = (refl, (refl, (refl, (ap one inverse-of-2, (refl, (refl, (refl, (refl, (refl, (refl, (refl, (refl, (refl, (refl, (refl, (refl, (refl, (refl, tt))))))))))))))))))
+unfolding codeword reduction xtime mulBits _⊗_ sq sel _⊕_ sum tab ins prod factor eqAt eqTable mle line foldAt foldList
+    gamma shiftAt shift vertex addPoint block inBlocks encode phi partial partialEvals materialize indicator
+    flat leBytes same prefixed serializePrefix serializeParts leafLabel nodeLabel wordsBytes leafPrefix leafRest leafMessage nodeMessage
+    differing lastDiffering messages messagesOf collision widthFor levelLength levelWidth decimalWithin decimal levelDomain
+    pairOf openingFound pairFound levelsFound inBuffer
+all-hold = (refl, (refl, (refl, (ap one inverse-of-2, rest))))
+  where
+    -- all but the first four
+    rest : AllHold (drop 4 (cases ++ compareCases))
+    rest = (refl, (refl, (refl, (refl, (refl, (refl, (refl, (refl, (refl, (refl, (refl, (refl, (refl, (refl, tt))))))))))))))

@@ -1,7 +1,7 @@
 -- Small values of comparing, under a stand-in digest by which all messages collide: which messages are found of two records that differ.
 -- Rests on what comparing finds.
 use Prim.Native.Nat.{ℕ}
-use mathlib.Core.List.{List, [], _∷_, _++_}
+use mathlib.Core.List.{List, [], _∷_}
 use lib.ListN.{length, replicate}
 use Rattle.theory_laws.specs.Table.{at}
 use Rattle.theory_merkle.specs.Binding.{Found}
@@ -38,9 +38,11 @@ compareCases =
     -- path a before path c, where both differ
     (told 105 (pairFound toy 0 0 (shows (1 ∷ 2 ∷ []) (3 ∷ 4 ∷ []) (digest 5 ∷ [])) (shows (6 ∷ 2 ∷ []) (7 ∷ 4 ∷ []) (digest 5 ∷ []))) gives (137 ∷ 1 ∷ 6 ∷ []))
     -- path c, where only c's group differs
-    ∷ (told 105 (pairFound toy 0 0 (shows (1 ∷ 2 ∷ []) (3 ∷ 4 ∷ []) (digest 5 ∷ [])) (shows (1 ∷ 2 ∷ []) (7 ∷ 4 ∷ []) (digest 5 ∷ []))) gives (137 ∷ 3 ∷ 7 ∷ []))
+    ∷ (told 105 (pairFound toy 0 0 (shows (1 ∷ 2 ∷ []) (3 ∷ 4 ∷ []) (digest 5 ∷ [])) (shows (1 ∷ 2 ∷ []) (7 ∷ 4 ∷ []) (digest 5 ∷ [])))
+    gives (137 ∷ 3 ∷ 7 ∷ []))
     -- the node message, nearer the root than the leaf message, where both differ
-    ∷ (told 112 (pairFound toy 0 0 (shows (1 ∷ 2 ∷ []) (3 ∷ 4 ∷ []) (digest 5 ∷ [])) (shows (6 ∷ 2 ∷ []) (3 ∷ 4 ∷ []) (digest 8 ∷ []))) gives (144 ∷ 5 ∷ 8 ∷ []))
+    ∷ (told 112 (pairFound toy 0 0 (shows (1 ∷ 2 ∷ []) (3 ∷ 4 ∷ []) (digest 5 ∷ [])) (shows (6 ∷ 2 ∷ []) (3 ∷ 4 ∷ []) (digest 8 ∷ [])))
+    gives (144 ∷ 5 ∷ 8 ∷ []))
     -- the lowest level, where both differ
     ∷ (told 105
     (levelsFound toy 0 0 (shows (1 ∷ 2 ∷ []) (3 ∷ 4 ∷ []) (digest 5 ∷ []) ∷ shows (3 ∷ 4 ∷ []) (9 ∷ []) [] ∷ [])

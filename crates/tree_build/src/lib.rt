@@ -16,27 +16,28 @@ ghost use Rattle.tree_by_fours.specs.helpers.Fours.{firstParents};
 ghost use Rattle.tree_build.specs.Built.{builtInto};
 ghost use Rattle.tree_build.specs.helpers.Put.{LeavesFit, ParentsFit, laterLeaves, laterParents};
 
-// The leaves of a tree from group `first` on, one group after the other, each at its place in the buffer.
+// The leaves of a tree after those of `done` groups, one group after the other, each where it belongs in the buffer.
 fn put_leaves_from(
     tree: &mut [u8],
     message: &mut [u8],
     domain: &[u8],
     count: usize,
     width: usize,
-    first: usize,
+    done: usize,
     values: &[u64],
 )
-    requires { ⌜ LeavesFit (length (now domain)) count width (length (now values)) (length (now tree)) first (length (now message)) ⌝ }
-    ensures { λ _. ⌜ now (tree .exit) ≡ laterLeaves (now (tree .entry)) (now (domain .entry)) count width first (now (values .entry)) ⌝ }
+    requires { ⌜ LeavesFit (length (now domain)) count width (length (now values)) (length (now tree)) done (length (now message)) ⌝ }
+    ensures { λ _. ⌜ now (tree .exit) ≡ laterLeaves (now (tree .entry)) (now (domain .entry)) count width done (now (values .entry)) ⌝ }
 {
     let groups = count / width;
     let prefix = tree_message::leaf_prefix(message, domain, count, width);
-    let mut from: usize = 2 * (width * first);
-    let mut to: usize = 32 * first;
-    let mut g: usize = first;
+    let mut from: usize = 2 * (width * done);
+    let mut to: usize = 32 * done;
+    let mut g: usize = done;
     while g < groups {
         let end = from + 2 * width;
-        let d = hash_group(message, prefix, width, Group(g), &values[from..end]);
+        let group = Group::numbered(g);
+        let d = hash_group(message, prefix, width, group, &values[from..end]);
         to = bytes_numbers::put(tree, to, &d);
         from = end;
         g += 1;
@@ -53,7 +54,7 @@ fn put_leaves(tree: &mut [u8], domain: &[u8], count: usize, width: usize, values
     put_leaves_from(tree, &mut message, domain, count, width, done, values);
 }
 
-// The parents of a level's 2 × half digests, which start at byte from, written right after them: from parent `first` on, one by one.
+// The parents of a level's 2 × half digests, which start at byte from, written right after them: those after `done` parents, one by one.
 fn put_parents_from(
     tree: &mut [u8],
     message: &mut [u8],
@@ -61,15 +62,15 @@ fn put_parents_from(
     level: usize,
     from: usize,
     half: usize,
-    first: usize,
+    done: usize,
 )
-    requires { ⌜ ParentsFit (length (now domain)) (length (now tree)) from half first (length (now message)) ⌝ }
-    ensures { λ _. ⌜ now (tree .exit) ≡ laterParents (now (tree .entry)) (now (domain .entry)) level from half first ⌝ }
+    requires { ⌜ ParentsFit (length (now domain)) (length (now tree)) from half done (length (now message)) ⌝ }
+    ensures { λ _. ⌜ now (tree .exit) ≡ laterParents (now (tree .entry)) (now (domain .entry)) level from half done ⌝ }
 {
     let prefix = tree_message::node_prefix(message, domain, level);
-    let mut src = from + 64 * first;
-    let mut dst = from + 64 * half + 32 * first;
-    let mut j: usize = first;
+    let mut src = from + 64 * done;
+    let mut dst = from + 64 * half + 32 * done;
+    let mut j: usize = done;
     while j < half {
         let l = load(tree, src);
         let r = load(tree, src + 32);

@@ -50,7 +50,8 @@ pub fn put_leaves(
     let mut g: usize = 0;
     while g < all {
         let end = from + 8 * width;
-        put_leaf_rests(messages, prefix, width, Group(g), &values[from..end]);
+        let first = Group::numbered(g);
+        put_leaf_rests(messages, prefix, width, first, &values[from..end]);
         to = put_digests(tree, to, h, blocks, messages, size);
         from = end;
         g += 4;

@@ -39,13 +39,17 @@ prefix-is o n a o1 k p fits = message-is o 0 n a o1 k p (omega arith)
 pub prefix-hashed : (o : List ℕ) (n : ℕ) (a o1 : List ℕ) (k : ℕ) (b o2 d : List ℕ) → Put o 0 n a o1 k → n ≤ length o → Hashed o1 k b o2 d → d ≡ hash (a ++ b)
 prefix-hashed o n a o1 k b o2 d p fits h = h .digest ∙ ap (λ (l : List ℕ). hash (l ++ b)) (prefix-is o n a o1 k p fits)
 
-pub leaf-hashed : (o : List ℕ) (domain : List ℕ) (count width group : ℕ) (values o1 : List ℕ) (k : ℕ) (o2 d : List ℕ) → Put o 0 (73 + length domain) (leafPrefix domain count width) o1 k
+pub leaf-hashed : (o : List ℕ) (domain : List ℕ) (count width group : ℕ) (values o1 : List ℕ) (k : ℕ) (o2 d : List ℕ)
+    → Put o 0 (73 + length domain) (leafPrefix domain count width) o1 k
     → 73 + length domain ≤ length o → Hashed o1 k (leafRest width group values) o2 d → d ≡ leafDigest hash domain count width group values
 unfolding leafDigest leafMessage
-leaf-hashed o domain count width group values o1 k o2 d p fits h = prefix-hashed o (73 + length domain) (leafPrefix domain count width) o1 k (leafRest width group values) o2 d p fits h
+leaf-hashed o domain count width group values o1 k o2 d p fits h =
+    prefix-hashed o (73 + length domain) (leafPrefix domain count width) o1 k (leafRest width group values) o2 d p fits h
 
-pub node-hashed : (o : List ℕ) (domain : List ℕ) (level : ℕ) (l r o1 : List ℕ) (k : ℕ) (o2 d : List ℕ) → Put o 0 (56 + length domain) (nodePrefix domain level) o1 k
+pub node-hashed : (o : List ℕ) (domain : List ℕ) (level : ℕ) (l r o1 : List ℕ) (k : ℕ) (o2 d : List ℕ)
+    → Put o 0 (56 + length domain) (nodePrefix domain level) o1 k
     → 56 + length domain ≤ length o → Hashed o1 k (prefixed l ++ prefixed r) o2 d → d ≡ nodeDigest hash domain level l r
 unfolding nodeDigest
 node-hashed o domain level l r o1 k o2 d p fits h =
-    prefix-hashed o (56 + length domain) (nodePrefix domain level) o1 k (prefixed l ++ prefixed r) o2 d p fits h ∙ ap hash (sym (nodeMessage-is domain level l r))
+    prefix-hashed o (56 + length domain) (nodePrefix domain level) o1 k (prefixed l ++ prefixed r) o2 d p fits h
+    ∙ ap hash (sym (nodeMessage-is domain level l r))

@@ -15,6 +15,7 @@ ghost use Rattle.theory_field.specs.Words.{words};
 ghost use Rattle.theory_merkle.specs.Message.{prefixed, leafRest};
 ghost use Rattle.theory_merkle.specs.Tree.{leafDigest, nodeDigest};
 ghost use Rattle.theory_blake3.specs.Digest.{hash};
+ghost use Rattle.tree_place.specs.Place.{index, number};
 ghost use Rattle.tree_digest.specs.Answers.{leafAnswer, nodeAnswer};
 ghost use Rattle.tree_digest.specs.helpers.Hashed.{Hashed};
 
@@ -36,9 +37,9 @@ pub fn hash_group(
     values: &[u64],
 ) -> [u8; 32]
     requires { ⌜ (length (now values) ≡ 2 * width) × (prefix + 24 + 16 * width ≤ length (now message)) × (length (now message) ≤ 2 ^ 24) ⌝ }
-    ensures { λ r. ⌜ Hashed (now (message .entry)) prefix (leafRest width (group .0) (words (now (values .entry)))) (now (message .exit)) r ⌝ }
+    ensures { λ r. ⌜ Hashed (now (message .entry)) prefix (leafRest width (number group) (words (now (values .entry)))) (now (message .exit)) r ⌝ }
 {
-    let n = tree_message::leaf_rest(message, prefix, width, group.0, values);
+    let n = tree_message::leaf_rest(message, prefix, width, group, values);
     digest(&message[..n])
 }
 
@@ -54,7 +55,7 @@ pub fn hash_node(message: &mut [u8], prefix: usize, left: [u8; 32], right: [u8; 
 // The digest of a group, by its number.
 pub fn leaf_of(domain: &[u8], count: usize, width: usize, group: Group, values: &[u64]) -> [u8; 32]
     requires { ⌜ (length (now domain) ≤ 255) × (width ≤ 512) × (length (now values) ≡ 2 * width) ⌝ }
-    ensures { λ r. ⌜ r ≡ leafDigest hash (now (domain .entry)) count width (group .0) (words (now (values .entry))) ⌝ }
+    ensures { λ r. ⌜ r ≡ leafDigest hash (now (domain .entry)) count width (number group) (words (now (values .entry))) ⌝ }
 {
     let mut message = [0u8; tree_message::LEAF_MESSAGE];
     let prefix = tree_message::leaf_prefix(&mut message, domain, count, width);
@@ -79,7 +80,7 @@ pub fn leaf_digest(
     place: Place,
     values: &[u64],
 ) -> Digested
-    ensures { λ r. ⌜ r ≡ leafAnswer (now (domain .entry)) count width (place .0) (now (values .entry)) ⌝ }
+    ensures { λ r. ⌜ r ≡ leafAnswer (now (domain .entry)) count width (index place) (now (values .entry)) ⌝ }
 {
     let q = tree_place::leaf_number(domain.len(), count, width, place, values.len());
     if q != 0 {

@@ -77,11 +77,11 @@ prefixes-end m₀ prefix k m le ge f j h =
 -- ---- what is put after the prefix
 
 -- the rest of the leaf message of group k of those that are lent
-pub leaf-rest-put : {from : ℕ} (width g k : ℕ) (values : List ℕ) {m m′ : List ℕ} {at n next : ℕ} → from ≡ 2 * (width * k)
-    → Put m at n (leafRest width g (words (take (from + 2 * width - from) (drop from values)))) m′ next
+pub leaf-rest-put : {from : ℕ} (width g h k : ℕ) (values : List ℕ) {m m′ : List ℕ} {at n next : ℕ} → from ≡ 2 * (width * k) → h ≡ g
+    → Put m at n (leafRest width h (words (take (from + 2 * width - from) (drop from values)))) m′ next
     → Put m at n (leafRest width g (part width (width * k) (words values))) m′ next
 unfolding part
-leaf-rest-put {from} width g k values e p = rw (group-words values from (2 * width) width (width * k) e refl) at p
+leaf-rest-put {from} width g h k values e eh p = rw (group-words values from (2 * width) width (width * k) e refl, eh) at p
 
 -- the rest of a node message, of two children that stand one after the other
 pub node-rest-put : (m : List ℕ) (at n from i : ℕ) (tree l r m′ : List ℕ) {next : ℕ} → from ≡ i → l ≡ part 32 from tree → r ≡ part 32 (from + 32) tree

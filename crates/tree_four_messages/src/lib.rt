@@ -16,6 +16,7 @@ ghost use Rattle.theory_blake3.specs.Compression as C;
 ghost use Rattle.theory_blake3.specs.Digest.{bytesOfWords32, hash};
 ghost use Rattle.hash_four_lanes.specs.helpers.Lane.{lane};
 ghost use Rattle.bytes_numbers.specs.helpers.Put.{Put};
+ghost use Rattle.tree_place.specs.Place.{number};
 ghost use Rattle.tree_four_messages.specs.helpers.Strides.{stride, firstBlocks, four, Each, Common, LeafRoom, LeafRests, NodeRoom, NodeRests};
 
 // How many bytes a stride has: those of a chunk.
@@ -118,16 +119,16 @@ pub fn put_leaf_rests(
     group: Group,
     values: &[u64],
 )
-    requires { ⌜ LeafRoom prefix width (group .0) (length (now values)) (length (now messages)) ⌝ }
-    ensures { λ _. ⌜ LeafRests prefix (now (messages .entry)) width (group .0) (now (values .entry)) (now (messages .exit)) ⌝ }
+    requires { ⌜ LeafRoom prefix width (number group) (length (now values)) (length (now messages)) ⌝ }
+    ensures { λ _. ⌜ LeafRests prefix (now (messages .entry)) width (number group) (now (values .entry)) (now (messages .exit)) ⌝ }
 {
-    let first = group.0;
     let mut from: usize = 0;
     let mut at: usize = prefix;
     let mut k: usize = 0;
     while k < 4 {
         let end = from + 2 * width;
-        tree_message::leaf_rest(messages, at, width, first + k, &values[from..end]);
+        let g = group.after(k);
+        tree_message::leaf_rest(messages, at, width, g, &values[from..end]);
         from = end;
         at += STRIDE;
         k += 1;

@@ -1,6 +1,7 @@
 // The leaf and node messages of a tree, written into a lent buffer. These are helpers for the crates above: each requires that its bytes fit.
 use bytes_numbers::put_number;
 use hash_serialize_parts::part::put_part;
+use tree_place::Group;
 ghost use Prim.Native.Nat.{_+_, _*_, _≤_};
 ghost use mathlib.Core.Path.{_≡_};
 ghost use mathlib.Core.List.{_++_, map};
@@ -9,6 +10,7 @@ ghost use Rattle.theory_laws.specs.Lists.{flat, leBytes};
 ghost use Rattle.theory_field.specs.Words.{words};
 ghost use Rattle.theory_merkle.specs.Message.{prefixed, leafPrefix, leafRest, nodePrefix};
 ghost use Rattle.bytes_numbers.specs.helpers.Put.{Put};
+ghost use Rattle.tree_place.specs.Place.{number};
 
 // How many bytes the longest leaf message has: a domain of 255 bytes, 512 values of 16 bytes, and 97 beside.
 pub const LEAF_MESSAGE: usize = 8544;
@@ -63,12 +65,13 @@ fn put_halves(out: &mut [u8], from: usize, values: &[u64]) -> usize
 }
 
 // What a group's leaf message has after the prefix, bare.
-pub fn leaf_rest(out: &mut [u8], from: usize, width: usize, group: usize, values: &[u64]) -> usize
+pub fn leaf_rest(out: &mut [u8], from: usize, width: usize, group: Group, values: &[u64]) -> usize
     requires { ⌜ (length (now values) ≡ 2 * width) × (from + 24 + 16 * width ≤ length (now out)) ⌝ }
-    ensures { λ r. ⌜ Put (now (out .entry)) from (24 + 16 * width) (leafRest width group (words (now (values .entry)))) (now (out .exit)) r ⌝ }
+    ensures { λ r. ⌜ Put (now (out .entry)) from (24 + 16 * width) (leafRest width (number group) (words (now (values .entry)))) (now (out .exit)) r ⌝ }
 {
+    let g = group.number();
     let a = put_number(out, from, width as u64, 8);
-    let b = put_number(out, a, group as u64, 8);
+    let b = put_number(out, a, g as u64, 8);
     let c = put_number(out, b, (16 * width) as u64, 8);
     put_halves(out, c, values)
 }

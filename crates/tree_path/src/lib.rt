@@ -9,12 +9,13 @@ use tree_walk::put_path;
 ghost use mathlib.Core.Path.{_≡_};
 ghost use lib.ListN.{length};
 ghost use Rattle.theory_merkle.specs.Numbers.{openNumber};
+ghost use Rattle.tree_place.specs.Place.{index};
 ghost use Rattle.tree_path.specs.Answers.{openedInto, rootAnswer};
 
 // The path of the group of a place, read off a lent tree, into a buffer of log2(count / width) digests.
 pub fn open(count: usize, width: usize, place: Place, tree: &[u8], path: &mut [u8]) -> u32
-    ensures { λ r. ⌜ r ≡ openNumber count width (place .0) (length (now (tree .entry))) (length (now (path .entry))) ⌝ }
-    ensures { λ _. ⌜ now (path .exit) ≡ openedInto count width (place .0) (now (tree .entry)) (now (path .entry)) ⌝ }
+    ensures { λ r. ⌜ r ≡ openNumber count width (index place) (length (now (tree .entry))) (length (now (path .entry))) ⌝ }
+    ensures { λ _. ⌜ now (path .exit) ≡ openedInto count width (index place) (now (tree .entry)) (now (path .entry)) ⌝ }
 {
     let q = tree_place::open_number(count, width, place, tree.len(), path.len());
     if q != 0 {
@@ -22,7 +23,7 @@ pub fn open(count: usize, width: usize, place: Place, tree: &[u8], path: &mut [u
     }
     let depth = tree_place::depth_of(count, width);
     let g = group_of(place, width);
-    put_path(path, 0, tree, 0, depth, count / width, g.0);
+    put_path(path, 0, tree, 0, depth, count / width, g);
     0
 }
 
@@ -35,7 +36,7 @@ pub fn root_of_path(
     values: &[u64],
     path: &[u8],
 ) -> Digested
-    ensures { λ r. ⌜ r ≡ rootAnswer (now (domain .entry)) count width (place .0) (now (values .entry)) (now (path .entry)) ⌝ }
+    ensures { λ r. ⌜ r ≡ rootAnswer (now (domain .entry)) count width (index place) (now (values .entry)) (now (path .entry)) ⌝ }
 {
     let q = tree_place::root_number(domain.len(), count, width, place, values.len(), path.len());
     if q != 0 {
@@ -47,7 +48,7 @@ pub fn root_of_path(
     let depth = tree_place::depth_of(count, width);
     let g = group_of(place, width);
     let leaf = leaf_of(domain, count, width, g, values);
-    let d = climb_path(domain, g.0, leaf, path, 0, depth);
+    let d = climb_path(domain, g, leaf, path, 0, depth);
     Digested {
         number: 0,
         bytes: d,

@@ -2,10 +2,10 @@
 use Prim.Native.Nat.{ℕ, _*_, _<_}
 use mathlib.Core.Path.{_≡_, sym, _∙_}
 use mathlib.Core.Bool.{Bool, false, not}
-use mathlib.Core.List.{[], _∷_}
+use mathlib.Core.List.{List, [], _∷_}
 use borrow.Author.Tests.{not-false, eq-eqb, ne-eqb}
 use lib.Dec.{ltb, eqb}
-use Rattle.theory_laws.specs.Questions.{pick, _asks_, firstNo}
+use Rattle.theory_laws.specs.Questions.{pick, Question, _asks_, firstNo}
 use Rattle.theory_laws.proofs.Questions.{all-yes, firstNo-append}
 use Rattle.theory_merkle.specs.Tree.{depthOf, treeSize}
 use Rattle.theory_merkle.specs.Shape.{Bounded}
@@ -27,31 +27,42 @@ pub tree-bounded : (q domain count width : ℕ) → q ≡ treeNumber domain coun
 unfolding treeNumber
 tree-bounded q domain count width e z = bounded count width (all-yes (domainFits domain ∷ shape count width) tt (sym e ∙ z) .1)
 
--- the shape's questions first, then the rest
-module _ (r domain count width place values : ℕ) where
-  pub leaf-asked : r ≡ pick (eqb (treeNumber domain count width) 0) (firstNo ((11 asks ltb place count) ∷ (5 asks eqb values (2 * width)) ∷ [])) (treeNumber domain count width)
-      → r ≡ leafNumber domain count width place values
-  unfolding treeNumber leafNumber
-  leaf-asked e = e ∙ sym (firstNo-append (domainFits domain ∷ shape count width) ((11 asks ltb place count) ∷ (5 asks eqb values (2 * width)) ∷ []) tt)
+-- the shape's questions first, whose number is q, then the rest
+abbrev then-asked : ℕ → List Question → ℕ
+then-asked q rest = pick (eqb q 0) (firstNo rest) q
 
-  pub root-asked : (path : ℕ)
-      → r ≡ pick (eqb (treeNumber domain count width) 0) (firstNo ((11 asks ltb place count) ∷ (12 asks eqb path (32 * depthOf count width)) ∷ (5 asks eqb values (2 * width)) ∷ [])) (treeNumber domain count width)
+abbrev leaf-rest : ℕ → ℕ → ℕ → ℕ → List Question
+leaf-rest count width place values = (11 asks ltb place count) ∷ (5 asks eqb values (2 * width)) ∷ []
+
+abbrev root-rest : ℕ → ℕ → ℕ → ℕ → ℕ → List Question
+root-rest count width place values path = (11 asks ltb place count) ∷ (12 asks eqb path (32 * depthOf count width)) ∷ (5 asks eqb values (2 * width)) ∷ []
+
+abbrev build-rest : ℕ → ℕ → ℕ → ℕ → List Question
+build-rest count width values tree = (5 asks eqb values (2 * count)) ∷ (5 asks eqb tree (32 * treeSize count width)) ∷ []
+
+abbrev open-rest : ℕ → ℕ → ℕ → ℕ → ℕ → List Question
+open-rest count width place tree path =
+    (11 asks ltb place count) ∷ (5 asks eqb tree (32 * treeSize count width)) ∷ (5 asks eqb path (32 * depthOf count width)) ∷ []
+
+module _ (r domain count width place values : ℕ) where
+  pub leaf-asked : r ≡ then-asked (treeNumber domain count width) (leaf-rest count width place values) → r ≡ leafNumber domain count width place values
+  unfolding treeNumber leafNumber
+  leaf-asked e = e ∙ sym (firstNo-append (domainFits domain ∷ shape count width) (leaf-rest count width place values) tt)
+
+  pub root-asked : (path : ℕ) → r ≡ then-asked (treeNumber domain count width) (root-rest count width place values path)
       → r ≡ rootNumber domain count width place values path
   unfolding treeNumber rootNumber
-  root-asked path e = e ∙ sym (firstNo-append (domainFits domain ∷ shape count width) ((11 asks ltb place count) ∷ (12 asks eqb path (32 * depthOf count width)) ∷ (5 asks eqb values (2 * width)) ∷ []) tt)
+  root-asked path e = e ∙ sym (firstNo-append (domainFits domain ∷ shape count width) (root-rest count width place values path) tt)
 
-pub build-asked : (r domain count width values tree : ℕ)
-    → r ≡ pick (eqb (treeNumber domain count width) 0) (firstNo ((5 asks eqb values (2 * count)) ∷ (5 asks eqb tree (32 * treeSize count width)) ∷ [])) (treeNumber domain count width)
+pub build-asked : (r domain count width values tree : ℕ) → r ≡ then-asked (treeNumber domain count width) (build-rest count width values tree)
     → r ≡ buildNumber domain count width values tree
 unfolding treeNumber buildNumber
-build-asked r domain count width values tree e = e ∙ sym (firstNo-append (domainFits domain ∷ shape count width) ((5 asks eqb values (2 * count)) ∷ (5 asks eqb tree (32 * treeSize count width)) ∷ []) tt)
+build-asked r domain count width values tree e = e ∙ sym (firstNo-append (domainFits domain ∷ shape count width) (build-rest count width values tree) tt)
 
-pub open-asked : (r count width place tree path : ℕ)
-    → r ≡ pick (eqb (shapeNumber count width) 0) (firstNo ((11 asks ltb place count) ∷ (5 asks eqb tree (32 * treeSize count width)) ∷ (5 asks eqb path (32 * depthOf count width)) ∷ [])) (shapeNumber count width)
+pub open-asked : (r count width place tree path : ℕ) → r ≡ then-asked (shapeNumber count width) (open-rest count width place tree path)
     → r ≡ openNumber count width place tree path
 unfolding shapeNumber openNumber
-open-asked r count width place tree path e =
-    e ∙ sym (firstNo-append (shape count width) ((11 asks ltb place count) ∷ (5 asks eqb tree (32 * treeSize count width)) ∷ (5 asks eqb path (32 * depthOf count width)) ∷ []) tt)
+open-asked r count width place tree path e = e ∙ sym (firstNo-append (shape count width) (open-rest count width place tree path) tt)
 
 -- a question on a number that a function worked out, by what it ensures of it
 module _ {A : Type 0} (r x y : A) where

@@ -47,7 +47,8 @@ open-yes q count width place tree path e z =
       path-is = eqb-true _ _ (y .1 .1 .1 .1 .1 .0);
     }
 
-pub root-yes : (q domain count width place values path : ℕ) → q ≡ rootNumber domain count width place values path → q ≡ 0 → RootYes domain count width place values path
+pub root-yes : (q domain count width place values path : ℕ) → q ≡ rootNumber domain count width place values path → q ≡ 0
+    → RootYes domain count width place values path
 unfolding rootNumber
 root-yes q domain count width place values path e z =
     let y = all-yes (rootQuestions domain count width place values path) tt (sym e ∙ z) in

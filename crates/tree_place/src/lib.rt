@@ -1,23 +1,139 @@
 // Places and groups of a tree, its sizes, and the numbers that its entries answer. Helpers for the crates above: some require.
 ghost use mathlib.Core.Path.{_≡_};
-ghost use Prim.Native.Nat.{_*_, _^_, _<_};
-ghost use Rattle.theory_merkle.specs.Tree.{groupOf, log2, depthOf, treeSize};
+ghost use Prim.Native.Nat.{_+_, _*_, _/_, _%_, _^_, _<_};
+ghost use lib.Dec.{eqb};
+ghost use Rattle.theory_merkle.specs.Tree.{groupOf, sibling, log2, depthOf, treeSize};
 ghost use Rattle.theory_merkle.specs.Shape.{Bounded};
 ghost use Rattle.theory_merkle.specs.Questions.{isPow};
 ghost use Rattle.theory_merkle.specs.Numbers.{shapeNumber, treeNumber, leafNumber, nodeNumber, buildNumber, openNumber, rootNumber};
+ghost use Rattle.tree_place.specs.Place.{index, number};
 
-// The place of a value in a list of values.
-pub struct Place(pub usize);
+// The place of a value in a list of values. Its number is private to this crate: no place goes where a group is wanted.
+pub struct Place(usize);
 
-// The number of a group of values.
-pub struct Group(pub usize);
+// The number of a group of values, and of the node above it at each level of their tree. It is private to this crate too.
+pub struct Group(usize);
+
+impl Place {
+    // The place of the value with this index.
+    pub fn at(i: usize) -> Place
+        ensures { λ r. ⌜ index r ≡ i ⌝ }
+    {
+        Place(i)
+    }
+
+    // The index of the value at a place.
+    pub fn index(self) -> usize
+        ensures { λ r. ⌜ r ≡ index self ⌝ }
+    {
+        self.0
+    }
+
+    // The place that a place goes to in as many folds: each takes a pair to one value.
+    pub fn folded(self, folds: usize) -> Place
+        requires { ⌜ folds < 64 ⌝ }
+        ensures { λ r. ⌜ index r ≡ index self / 2 ^ folds ⌝ }
+    {
+        Place(self.0 >> folds)
+    }
+
+    // The first of the pair that folds to a place.
+    pub fn first_of_pair(self) -> Place
+        requires { ⌜ index self < 2 ^ 62 ⌝ }
+        ensures { λ r. ⌜ index r ≡ 2 * index self ⌝ }
+    {
+        Place(2 * self.0)
+    }
+
+    // The second of the pair that folds to a place.
+    pub fn second_of_pair(self) -> Place
+        requires { ⌜ index self < 2 ^ 62 ⌝ }
+        ensures { λ r. ⌜ index r ≡ 2 * index self + 1 ⌝ }
+    {
+        Place(2 * self.0 + 1)
+    }
+}
+
+impl Group {
+    // The group with this number.
+    pub fn numbered(g: usize) -> Group
+        ensures { λ r. ⌜ number r ≡ g ⌝ }
+    {
+        Group(g)
+    }
+
+    // The number of a group, as a message and a buffer have it.
+    pub fn number(self) -> usize
+        ensures { λ r. ⌜ r ≡ number self ⌝ }
+    {
+        self.0
+    }
+
+    // The group as many further on.
+    pub fn after(self, k: usize) -> Group
+        requires { ⌜ number self + k < 2 ^ 64 ⌝ }
+        ensures { λ r. ⌜ number r ≡ number self + k ⌝ }
+    {
+        Group(self.0 + k)
+    }
+
+    // The place of a group's first value.
+    pub fn first_place(self, width: usize) -> Place
+        requires { ⌜ number self * width < 2 ^ 64 ⌝ }
+        ensures { λ r. ⌜ index r ≡ number self * width ⌝ }
+    {
+        Place(self.0 * width)
+    }
+
+    // Is it the left child of its parent?
+    pub fn is_left(self) -> bool
+        ensures { λ r. ⌜ r ≡ eqb (number self % 2) 0 ⌝ }
+    {
+        self.0 % 2 == 0
+    }
+
+    // The other child of the same parent.
+    pub fn sibling(self) -> Group
+        requires { ⌜ number self < 2 ^ 60 ⌝ }
+        ensures { λ r. ⌜ number r ≡ sibling (number self) ⌝ }
+    {
+        let g = self.0;
+        if g % 2 == 0 {
+            return Group(g + 1);
+        }
+        Group(g - 1)
+    }
+
+    // The parent, on the next level of the tree.
+    pub fn parent(self) -> Group
+        ensures { λ r. ⌜ number r ≡ number self / 2 ⌝ }
+    {
+        Group(self.0 / 2)
+    }
+}
 
 // The group that holds the value at a place. Division by the width is the only way from a place to a group.
 pub fn group_of(place: Place, width: usize) -> Group
     requires { ⌜ 0 < width ⌝ }
-    ensures { λ r. ⌜ r .0 ≡ groupOf (place .0) width ⌝ }
+    ensures { λ r. ⌜ number r ≡ groupOf (index place) width ⌝ }
 {
     Group(place.0 / width)
+}
+
+// Where in its group the value at a place is.
+pub fn in_group(place: Place, width: usize) -> usize
+    requires { ⌜ 0 < width ⌝ }
+    ensures { λ r. ⌜ (r ≡ index place % width) × (r < width) ⌝ }
+{
+    place.0 % width
+}
+
+// Are the values at two places in one group?
+pub fn same_group(a: Place, b: Place, width: usize) -> bool
+    requires { ⌜ 0 < width ⌝ }
+    ensures { λ r. ⌜ r ≡ eqb (groupOf (index a) width) (groupOf (index b) width) ⌝ }
+{
+    a.0 / width == b.0 / width
 }
 
 // Is x a power of two up to top, which is 2^m?
@@ -105,7 +221,7 @@ fn path_bytes(count: usize, width: usize) -> usize
 
 // The leaf digest of the group of a place: 7, 8, 9, 10, 11, 5.
 pub fn leaf_number(domain: usize, count: usize, width: usize, place: Place, values: usize) -> u32
-    ensures { λ r. ⌜ r ≡ leafNumber domain count width (place .0) values ⌝ }
+    ensures { λ r. ⌜ r ≡ leafNumber domain count width (index place) values ⌝ }
 {
     let q = tree_number(domain, count, width);
     if q != 0 {
@@ -155,7 +271,7 @@ pub fn build_number(domain: usize, count: usize, width: usize, values: usize, tr
 
 // Open a place: 8, 9, 10, 11, 5.
 pub fn open_number(count: usize, width: usize, place: Place, tree: usize, path: usize) -> u32
-    ensures { λ r. ⌜ r ≡ openNumber count width (place .0) tree path ⌝ }
+    ensures { λ r. ⌜ r ≡ openNumber count width (index place) tree path ⌝ }
 {
     let q = shape_number(count, width);
     if q != 0 {
@@ -182,7 +298,7 @@ pub fn root_number(
     values: usize,
     path: usize,
 ) -> u32
-    ensures { λ r. ⌜ r ≡ rootNumber domain count width (place .0) values path ⌝ }
+    ensures { λ r. ⌜ r ≡ rootNumber domain count width (index place) values path ⌝ }
 {
     let q = tree_number(domain, count, width);
     if q != 0 {

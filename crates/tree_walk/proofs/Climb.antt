@@ -14,19 +14,21 @@ use Rattle.theory_merkle.specs.Tree.{groupOf, left, right, leafDigest, nodeDige
 unfoldable pub climbFrom : List ℕ → List ℕ → ℕ → ℕ → ℕ → ℕ → List ℕ → List ℕ
 climbFrom domain s from depth l g d = climb hash domain l g d (runs 32 (depth - l) (drop (from + 32 * l) s))
 
-pub climb-begin : (domain s : List ℕ) (from depth g : ℕ) (d : List ℕ) → climbFrom domain s from depth 0 g d ≡ climb hash domain 0 g d (runs 32 depth (drop from s))
+pub climb-begin : (domain s : List ℕ) (from depth g : ℕ) (d : List ℕ)
+    → climbFrom domain s from depth 0 g d ≡ climb hash domain 0 g d (runs 32 depth (drop from s))
 unfolding climbFrom
 climb-begin domain s from depth g d =
     ap₂ (λ (c i : ℕ). climb hash domain 0 g d (runs 32 c (drop i s))) {x = depth - 0} {y = depth} {u = from + 32 * 0} {v = from} (omega arith) (omega arith)
 
-pub climb-step : (domain s : List ℕ) (from depth l g : ℕ) (d e p r : List ℕ) → climbFrom domain s from depth l g d ≡ r → p ≡ nodeDigest hash domain l (left g d e) (right g d e) → e ≡ part 32 (from + 32 * l) s → l < depth
-    → climbFrom domain s from depth (l + 1) (g / 2) p ≡ r
+pub climb-step : (domain s : List ℕ) (from depth l g h : ℕ) (d e p r : List ℕ) → climbFrom domain s from depth l g d ≡ r
+    → p ≡ nodeDigest hash domain l (left g d e) (right g d e) → e ≡ part 32 (from + 32 * l) s → l < depth → h ≡ g / 2
+    → climbFrom domain s from depth (l + 1) h p ≡ r
 unfolding climbFrom climb runs part
-climb-step domain s from depth l g d e p r f ep ee h =
+climb-step domain s from depth l g h d e p r f ep ee lt eh =
     let z : depth - l ≡ suc (depth - suc l) = omega arith in
     let y : from + 32 * l + 32 ≡ from + 32 * suc l = omega arith in
     let x : drop 32 (drop (from + 32 * l) s) ≡ drop (from + 32 * suc l) s = drop-drop 32 (from + 32 * l) s ∙ ap (λ (i : ℕ). drop i s) y in
-    rw (add-one, ep) (rw (z, x, ← ee) at f)
+    rw (add-one, ep, eh) (rw (z, x, ← ee) at f)
 
 pub climb-end : (domain s : List ℕ) (from depth l g : ℕ) (d r : List ℕ) → climbFrom domain s from depth l g d ≡ r → depth ≤ l → d ≡ r
 unfolding climbFrom climb runs
@@ -35,7 +37,8 @@ climb-end domain s from depth l g d r f h =
     rw z at f
 
 -- from the group of a place
-pub root-by-path : (domain : List ℕ) (count width place g : ℕ) (values leaf : List ℕ) (ss : List (List ℕ)) (r : List ℕ) → g ≡ groupOf place width → leaf ≡ leafDigest hash domain count width g values
+pub root-by-path : (domain : List ℕ) (count width place g : ℕ) (values leaf : List ℕ) (ss : List (List ℕ)) (r : List ℕ)
+    → g ≡ groupOf place width → leaf ≡ leafDigest hash domain count width g values
     → r ≡ climb hash domain 0 g leaf ss → r ≡ rootOfPath hash domain count width place values ss
 unfolding rootOfPath leafOf
 root-by-path domain count width place g values leaf ss r e f h =

@@ -4,25 +4,16 @@ use bytes_numbers::load;
 use bytes_numbers::put;
 use bytes_reader::digest_at;
 use tree_digest::node_of;
+use tree_place::Group;
 ghost use mathlib.Core.Path.{_≡_};
 ghost use Prim.Native.Nat.{_+_, _*_, _^_, _≤_, _<_};
 ghost use lib.ListN.{length, drop};
 ghost use Rattle.theory_laws.specs.Lists.{runs, flat};
 ghost use Rattle.theory_blake3.specs.Digest.{hash};
-ghost use Rattle.theory_merkle.specs.Tree.{sibling, left, right, nodeDigest, climb};
+ghost use Rattle.theory_merkle.specs.Tree.{left, right, nodeDigest, climb};
 ghost use Rattle.bytes_numbers.specs.helpers.Put.{Put};
+ghost use Rattle.tree_place.specs.Place.{number};
 ghost use Rattle.tree_walk.specs.helpers.Paths.{pathFrom};
-
-// The number of the other child of the same parent.
-pub fn sibling_of(g: usize) -> usize
-    requires { ⌜ g < 2 ^ 60 ⌝ }
-    ensures { λ r. ⌜ r ≡ sibling g ⌝ }
-{
-    if g % 2 == 0 {
-        return g + 1;
-    }
-    g - 1
-}
 
 // The digests of two children of one parent.
 pub struct Siblings {
@@ -30,11 +21,11 @@ pub struct Siblings {
     pub right: [u8; 32],
 }
 
-// A digest, number g of its level, and its sibling, by the side on which each stands.
-pub fn children(g: usize, d: [u8; 32], other: [u8; 32]) -> Siblings
-    ensures { λ r. ⌜ (r .left ≡ left g d other) × (r .right ≡ right g d other) ⌝ }
+// A digest, by its number on its level, and its sibling, by the side on which each stands.
+pub fn children(g: Group, d: [u8; 32], other: [u8; 32]) -> Siblings
+    ensures { λ r. ⌜ (r .left ≡ left (number g) d other) × (r .right ≡ right (number g) d other) ⌝ }
 {
-    if g % 2 == 0 {
+    if g.is_left() {
         return Siblings {
             left: d,
             right: other,
@@ -46,10 +37,10 @@ pub fn children(g: usize, d: [u8; 32], other: [u8; 32]) -> Siblings
     }
 }
 
-// The parent of a digest, number g of its level, and its sibling.
-pub fn parent_of(domain: &[u8], level: usize, g: usize, d: [u8; 32], other: [u8; 32]) -> [u8; 32]
+// The parent of a digest, by its number on its level, and its sibling.
+pub fn parent_of(domain: &[u8], level: usize, g: Group, d: [u8; 32], other: [u8; 32]) -> [u8; 32]
     requires { ⌜ length (now domain) ≤ 255 ⌝ }
-    ensures { λ r. ⌜ r ≡ nodeDigest hash (now (domain .entry)) level (left g d other) (right g d other) ⌝ }
+    ensures { λ r. ⌜ r ≡ nodeDigest hash (now (domain .entry)) level (left (number g) d other) (right (number g) d other) ⌝ }
 {
     let c = children(g, d, other);
     let l = c.left;
@@ -57,17 +48,17 @@ pub fn parent_of(domain: &[u8], level: usize, g: usize, d: [u8; 32], other: [u8;
     node_of(domain, level, l, r)
 }
 
-// Where a leaf digest, by its number, and the digests that stand from a place on lead to.
+// Where a leaf digest, by its group, and the digests that stand from a byte on lead to.
 pub fn climb_path(
     domain: &[u8],
-    group: usize,
+    group: Group,
     leaf: [u8; 32],
     s: &[u8],
     from: usize,
     depth: usize,
 ) -> [u8; 32]
     requires { ⌜ (length (now domain) ≤ 255) × (from + 32 * depth ≤ length (now s)) ⌝ }
-    ensures { λ r. ⌜ r ≡ climb hash (now (domain .entry)) 0 group leaf (runs 32 depth (drop from (now (s .entry)))) ⌝ }
+    ensures { λ r. ⌜ r ≡ climb hash (now (domain .entry)) 0 (number group) leaf (runs 32 depth (drop from (now (s .entry)))) ⌝ }
 {
     let mut d = leaf;
     let mut g = group;
@@ -76,14 +67,13 @@ pub fn climb_path(
         let e = digest_at(s, from + 32 * l);
         let p = parent_of(domain, l, g, d, e);
         d = p;
-        g = g / 2;
+        g = g.parent();
         l += 1;
     }
     d
 }
 
-// The path of a group of 2^depth, put from a place on and read off their tree, which starts at this byte of the lent trees; the place after
-// it.
+// The path of a group of 2^depth, put from a byte on and read off their tree, which starts at this byte of the lent trees; where it ends.
 pub fn put_path(
     out: &mut [u8],
     to: usize,
@@ -91,10 +81,10 @@ pub fn put_path(
     from: usize,
     depth: usize,
     groups: usize,
-    group: usize,
+    group: Group,
 ) -> usize
-    requires { ⌜ (groups ≡ 2 ^ depth) × (group < groups) × (from + 64 * groups ≤ length (now trees) + 32) × (to + 32 * depth ≤ length (now out)) ⌝ }
-    ensures { λ r. ⌜ Put (now (out .entry)) to (32 * depth) (flat (pathFrom depth (now (trees .entry)) from groups group)) (now (out .exit)) r ⌝ }
+    requires { ⌜ (groups ≡ 2 ^ depth) × (number group < groups) × (from + 64 * groups ≤ length (now trees) + 32) × (to + 32 * depth ≤ length (now out)) ⌝ }
+    ensures { λ r. ⌜ Put (now (out .entry)) to (32 * depth) (flat (pathFrom depth (now (trees .entry)) from groups (number group))) (now (out .exit)) r ⌝ }
 {
     let mut tree = from;
     let mut m = groups;
@@ -102,11 +92,12 @@ pub fn put_path(
     let mut at = to;
     let mut level: usize = 0;
     while level < depth {
-        let d = load(trees, tree + 32 * sibling_of(g));
+        let other = g.sibling();
+        let d = load(trees, tree + 32 * other.number());
         at = put(out, at, &d);
         tree += 32 * m;
         m = m / 2;
-        g = g / 2;
+        g = g.parent();
         level += 1;
     }
     at

@@ -1,3 +1,4 @@
+-- `bytes_reader::digest_at` meets its contract: the digest is what a window of 32 bytes holds.
 use Rattle.bytes_reader.proofs.Windows.{digest-read}
 use borrow.Author.Needs.{needs}
 use Rattle.bytes_reader.proofs.digest_at.Statement.{statement}

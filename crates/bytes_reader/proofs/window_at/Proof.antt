@@ -1,3 +1,4 @@
+-- `bytes_reader::window_at` meets its contract: a whole window is loaded; of a shorter one the bytes are read one by one.
 use Rattle.bytes_reader.specs.helpers.Windows.{byteAt}
 use borrow.Author.Needs.{needs}
 use Rattle.bytes_reader.proofs.Windows.{byte-step, window-whole, window-filled}
@@ -39,7 +40,12 @@ loop-less : tie.Need-loop-less Inv-loop μ-loop
 loop-less c = search needs
 
 loop-again : tie.Need-loop-again Inv-loop μ-loop
-loop-again c = (search needs, search needs, byte-step _ (c .before .before .loop .bytes) _ (c .before .before .loop .j) _ (c .before .before .loop .inv .2) (c .byte-or-zero .ensures) (c .before .before .loop .inv .1) (c .before .loop-test .taken))
+loop-again c =
+    let l = c .before .before .loop in (
+      search needs,
+      search needs,
+      byte-step _ (l .bytes) _ (l .j) _ (l .inv .2) (c .byte-or-zero .ensures) (l .inv .1) (c .before .loop-test .taken),
+    )
 
 returns-2 : tie.Need-returns-2 Inv-loop μ-loop
 returns-2 c = search window-filled

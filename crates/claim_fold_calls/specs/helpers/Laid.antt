@@ -1,5 +1,5 @@
--- The levels of a run, end to end in one buffer: what a done fold of level l lays, and what a list of calls leaves.
-use Prim.Native.Nat.{ℕ, suc, _+_, _-_, _*_, _^_, _≤_, _<_}
+-- What a list of fold calls leaves: levels end to end in one buffer, and the challenges of the done calls in another.
+use Prim.Native.Nat.{ℕ, suc, _+_, _-_, _*_, _/_, _≤_, _<_}
 use mathlib.Core.Path.{_≡_}
 use mathlib.Core.List.{List, _++_, map}
 use lib.ListN.{length, take, drop, set}
@@ -8,17 +8,13 @@ use denote.Triple.Both.{Both}
 use Rattle.theory_laws.specs.Questions.{onDone}
 use Rattle.theory_laws.specs.Table.{tab}
 use Rattle.theory_field.specs.Words.{words}
-use Rattle.theory_multilinear.specs.Fold.{foldList}
 use Rattle.theory_multilinear.specs.Folds.{Fold}
-use Rattle.theory_code.specs.Questions.{foldNumber}
+use Rattle.field_gf128.specs.Word.{word}
 use Rattle.theory_record.specs.Build.{levelStart, levelsLength, levelValues}
-use Rattle.theory_claim.specs.Calls.{Call, doneFolds, afterFolds}
-use Rattle.claim_fold_calls.specs.Lent.{codewordHalves, foldedHalves}
+use Rattle.theory_claim.specs.Calls.{Call, callNumber, callFold, doneFolds, afterFolds}
+use Rattle.code_levels.specs.helpers.Levels.{laid, LevelLent}
+use Rattle.claim_fold_calls.specs.declared.FoldCall.{FoldCall}
 use Rattle.claim_fold_calls.specs.declared.Progress.{Progress}
-
--- the words ws of all levels, with the words vs laid as level l
-unfoldable pub laid : ℕ → ℕ → ℕ → List ℕ → List ℕ → List ℕ
-laid n k l vs ws = take (levelStart n k l) ws ++ (vs ++ drop (levelStart n k (suc l)) ws)
 
 -- m halves, all 0
 abbrev pub zeros : ℕ → List ℕ
@@ -28,16 +24,14 @@ zeros m = tab m (λ v. 0)
 abbrev pub challengesOf : List Fold → List ℕ
 challengesOf fs = map (λ f. f .by) fs
 
--- the number of a call at a variable, on level l
-abbrev pub callsNumber : ℕ → ℕ → ℕ → ℕ → ℕ
-callsNumber n k l var = foldNumber (n - l) k var (codewordHalves (n - l) k) (foldedHalves (n - l) k)
+-- a call as it is read
+abbrev pub asked : FoldCall → Call
+asked x = record { n = x .n; k = x .k; var = x .var; room = x .room; by = word (x .by) }
 
--- level l folded at a variable by r, and the words in the front of `half`, as many as such a fold has
-abbrev pub levelFolded : ℕ → ℕ → ℕ → ℕ → ℕ → List ℕ → List ℕ
-levelFolded n k l var r levels = foldList var r (levelValues n k (words levels) l)
-
-abbrev pub front : ℕ → ℕ → ℕ → List ℕ → List ℕ
-front n k l half = words (take (foldedHalves (n - l) k) half)
+-- lengths of lent calls and challenges: four numbers and two halves a call
+pub record CallsLent (calls challenges : ℕ) : Type 0 where
+  pub calls-long : calls ≡ 4 * (calls / 4)
+  pub challenges-long : challenges ≡ 2 * (calls / 4)
 
 -- where a list of calls on the codeword c stands, of which the calls `rest` are to come: l are done, the codeword is level l and starts at
 -- the half `from`, the levels up to l are laid, the challenges of the done calls are kept, and behind both stands what was there, the words
@@ -53,44 +47,38 @@ pub record Reached (n k : ℕ) (c old oldKept : List ℕ) (calls rest : List Cal
   pub left : (j : ℕ) → afterFolds c calls (l + j) ≡ afterFolds (levelValues n k (words levels) l) rest j
   pub by : challengesOf (doneFolds c calls) ≡ take l (words kept) ++ challengesOf (doneFolds (levelValues n k (words levels) l) rest)
 
--- what is lent to a call: n and k within their ranges, all levels, and room for a fold, in halves
-pub record Room (n k levels half : ℕ) : Type 0 where
-  pub n-most : n ≤ 20
-  pub k-most : k ≤ 4
-  pub levels-long : levels ≡ 2 * levelsLength n k
-  pub half-long : half ≡ 2 ^ (n + k)
-
--- and level l, which starts at the half `from`, is one of the levels
-pub record LevelLent (n k l from levels half : ℕ) : Type 0 where
-  pub room : Room n k levels half
-  pub within : l ≤ n
-  pub from= : from ≡ 2 * levelStart n k l
-
--- a list of calls stands at such a level, with room for a challenge of each level
+-- a list of calls stands at one of the levels before the last, with room for a challenge of each
 pub record CallLent (n k : ℕ) (at : Progress) (levels half kept : ℕ) : Type 0 where
   pub level : LevelLent n k (at .done) (at .from) levels half
+  pub below : at .done < n
   pub kept-long : kept ≡ 2 * n
 
--- what a call at a variable by r leaves, on level l, which starts at the half `from`: refused, all as it was; done, the fold laid as the next level,
--- and the challenge kept
-pub record Called (n k l from var by : ℕ) (levels kept levels′ kept′ : List ℕ) (l′ from′ : ℕ) : Type 0 where
-  pub count : l′ ≡ onDone (callsNumber n k l var) (suc l) l
-  pub start : from′ ≡ onDone (callsNumber n k l var) (2 * levelStart n k (suc l)) from
-  pub level : words levels′ ≡ onDone (callsNumber n k l var) (laid n k (suc l) (levelFolded n k l var by levels) (words levels)) (words levels)
-  pub challenge : words kept′ ≡ onDone (callsNumber n k l var) (set (words kept) l by) (words kept)
+-- the number of a call on level l, and the codeword that it leaves there where it is done
+abbrev pub numberOn : ℕ → ℕ → ℕ → List ℕ → Call → ℕ
+numberOn n k l levels x = callNumber (levelValues n k (words levels) l) x
+
+abbrev pub foldOn : ℕ → ℕ → ℕ → List ℕ → Call → List ℕ
+foldOn n k l levels x = callFold (levelValues n k (words levels) l) x
+
+-- what a call leaves on level l, which starts at the half `from`: refused, all as it was; done, the fold laid as the next level, and the challenge
+-- kept
+pub record Called (n k l from : ℕ) (x : Call) (levels kept levels′ kept′ : List ℕ) (l′ from′ : ℕ) : Type 0 where
+  pub count : l′ ≡ onDone (numberOn n k l levels x) (suc l) l
+  pub start : from′ ≡ onDone (numberOn n k l levels x) (2 * levelStart n k (suc l)) from
+  pub level : words levels′ ≡ onDone (numberOn n k l levels x) (laid n k (suc l) (foldOn n k l levels x) (words levels)) (words levels)
+  pub challenge : words kept′ ≡ onDone (numberOn n k l levels x) (set (words kept) l (x .by)) (words kept)
 
 -- the same, from where a list of calls stood to where it stands
-abbrev pub Moved : ℕ → ℕ → Progress → ℕ → ℕ → List ℕ → List ℕ → List ℕ → List ℕ → Progress → Type 0
-Moved n k at var by levels kept levels′ kept′ at′ = Called n k (at .done) (at .from) var by levels kept levels′ kept′ (at′ .done) (at′ .from)
+abbrev pub Moved : ℕ → ℕ → Progress → Call → List ℕ → List ℕ → List ℕ → List ℕ → Progress → Type 0
+Moved n k at x levels kept levels′ kept′ at′ = Called n k (at .done) (at .from) x levels kept levels′ kept′ (at′ .done) (at′ .from)
 
--- what a list of calls on the codeword c leaves, lent the words `old` of all levels and `oldKept`: how many are done, the levels up to that one
--- and what was behind them, the challenges of the done calls and what was behind them
+-- what a list of calls on the codeword c leaves, lent the words `old` of all levels and `oldKept`: how many are done, of the first n; the levels up
+-- to that one and what was behind them; the challenges of the done calls and what was behind them
 pub record Left (n k : ℕ) (c old oldKept : List ℕ) (calls : List Call) (done : ℕ) (levels kept : List ℕ) : Type 0 where
-  pub count : done ≡ length (doneFolds c calls)
-  pub most : done ≤ n
+  pub count : done ≡ length (take n (doneFolds c calls))
   pub each : (l : ℕ) → l ≤ done → levelValues n k (words levels) l ≡ afterFolds c calls l
   pub behind : drop (levelStart n k (suc done)) (words levels) ≡ drop (levelStart n k (suc done)) old
-  pub kept-are : words kept ≡ challengesOf (doneFolds c calls) ++ drop done oldKept
+  pub kept-are : words kept ≡ challengesOf (take n (doneFolds c calls)) ++ drop done oldKept
 
 -- the same of calls on the codeword that stands as level 0, in two buffers at a function's entry and its exit
 abbrev pub CallsLeft : ℕ → ℕ → List Call → Both (RefT (List ℕ)) (RefT (List ℕ)) → Both (RefT (List ℕ)) (RefT (List ℕ)) → ℕ → Type 0

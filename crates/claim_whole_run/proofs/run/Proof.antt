@@ -1,23 +1,38 @@
--- `whole_run::run` meets its contract.
-use Rattle.claim_whole_run.proofs.Deposits.{room-same}
-use Rattle.claim_whole_run.proofs.Claims.{last-room, claimed-by}
+-- `claim_whole_run::run` meets its contract.
+use mathlib.Core.Path.{refl, sym, _∙_}
+use Rattle.claim_whole_run.proofs.Numbers.{rooms}
 use borrow.Author.Needs.{needs}
 use Rattle.claim_whole_run.proofs.run.Statement.{statement}
 use Rattle.claim_whole_run.proofs.run.Tie as tie
 use Rattle.claim_whole_run.proofs.run.Reads as reads
 use Rattle.claim_whole_run.proofs.run.Lts as lts
-use Rattle.claim_whole_run.proofs.deposit.Reads as deposit-reads
-use Rattle.claim_whole_run.proofs.query_record.Reads as query-record-reads
-use Rattle.claim_whole_run.proofs.tail_record.Reads as tail-record-reads
+use Rattle.claim_whole_run.proofs.made.Reads as made-reads
+use Rattle.claim_whole_run.proofs.questions.run_number.Reads as run-number-reads
 
-deposit-requires : tie.Need-deposit-requires
-deposit-requires c κs = search needs
+-- the places of the code that the answer needs
 
-query-record-requires : tie.Need-query-record-requires
-query-record-requires c κs = search needs
+abbrev at-number : tie.After-slice-known20 → tie.After-run-number
+at-number c = search
 
-tail-record-requires : tie.Need-tail-record-requires
-tail-record-requires c κs = last-room _ _ _ _ _ _ _ _ _ _ _ _ (room-same _ _ _ _ _ _ _ _ _ _ _ _ _ _ _ _ (c .before .before .before .before .before .before .before .before .before .before .before .before .before .before .before .before .before .before .before .before .before .before .before .before .before .before .before .before .before .before .before .before .before .before .before .before .before .before .before .before .before .before .before .pre .0) (c .before .before .before .before .before .before .before .before .before .before .before .before .before .before .before .before .before .before .before .before .before .before .before .before .deposit .kept .1 .1 .1 .1 .1 .1 .1 .0) (c .before .before .before .before .before .before .before .before .before .before .before .before .before .before .before .before .before .before .before .before .before .before .before .before .deposit .kept .1 .1 .1 .1 .1 .1 .1 .1 .1 .0) (c .before .before .before .before .before .before .before .before .before .before .before .before .before .before .before .before .before .before .before .before .before .before .before .before .deposit .kept .1 .1 .1 .1 .1 .1 .1 .1 .1 .1 .0) (c .before .before .before .before .before .before .before .before .before .before .before .before .before .before .before .before .before .before .before .before .before .before .before .before .deposit .kept .1 .1 .1 .1 .1 .1 .1 .1 .1 .1 .1 .0))
+abbrev at-passed : tie.After-slice-known20 → tie.Else1
+at-passed c = search
+
+abbrev at-made : tie.After-slice-known20 → tie.After-made
+at-made c = search
+
+run-number-requires : tie.Need-run-number-requires
+run-number-requires c κs = search needs
+
+returns : tie.Need-returns
+returns c =
+    let numbered : tie.After-run-number = search in
+    record { number-is = numbered .run-number .ensures; refused = λ z. (refl, refl); done = λ z. absurd (c .if1 .taken z) }
+
+made-requires : tie.Need-made-requires
+made-requires c κs =
+    let numbered : tie.After-run-number = search in
+    let passed : tie.Else1 = search in
+    rooms _ _ _ _ _ _ _ _ _ _ _ _ _ _ _ _ _ (numbered .run-number .ensures) (passed .if1 .left)
 
 same-length : tie.Need-same-length
 same-length c = search needs
@@ -43,29 +58,29 @@ same-length-7 c = search needs
 same-length-8 : tie.Need-same-length-8
 same-length-8 c = search needs
 
-returns : tie.Need-returns
-returns c =
-    let d = c .before .before .before .before .before .before .before .before .before .before .before .before .before .before .before .before .before .before .before .before .before .before .before .before .before .before .before .deposit .ensures .0 in
-    let q = c .before .before .before .before .before .before .before .before .before .query-record .ensures in
-    let t = c .before .before .tail-record .ensures in (
-      record {
-        deposited = d;
-        query-is = q .0;
-        tail-is = t .0;
-        answer-is = q .1;
-        number-is = t .1;
-        claimed = λ r long e. claimed-by _ _ _ _ _ _ _ _ _ _ _ _ _ _ _ (room-same _ _ _ _ _ _ _ _ _ _ _ _ _ _ _ _ (c .before .before .before .before .before .before .before .before .before .before .before .before .before .before .before .before .before .before .before .before .before .before .before .before .before .before .before .before .before .before .before .before .before .before .before .before .before .before .before .before .before .before .before .before .before .before .pre .0) (c .before .before .before .before .before .before .before .before .before .before .before .before .before .before .before .before .before .before .before .before .before .before .before .before .before .before .before .deposit .kept .1 .1 .1 .1 .1 .1 .1 .0) (c .before .before .before .before .before .before .before .before .before .before .before .before .before .before .before .before .before .before .before .before .before .before .before .before .before .before .before .deposit .kept .1 .1 .1 .1 .1 .1 .1 .1 .1 .0) (c .before .before .before .before .before .before .before .before .before .before .before .before .before .before .before .before .before .before .before .before .before .before .before .before .before .before .before .deposit .kept .1 .1 .1 .1 .1 .1 .1 .1 .1 .1 .0) (c .before .before .before .before .before .before .before .before .before .before .before .before .before .before .before .before .before .before .before .before .before .before .before .before .before .before .before .deposit .kept .1 .1 .1 .1 .1 .1 .1 .1 .1 .1 .1 .0)) _ d r long e _ _ _ (c .before .before .before .before .before .before .before .before .before .before .before .before .before .before .before .before .before .before .before .before .before .before .before .before .before .before .before .before .before .before .before .before .before .before .before .before .before .before .before .before .before .before .before .before .before .before .pre .1) _ _ _ _ _ (q .0) (q .1) (t .0) (t .1);
-      },
-      c .before .before .before .before .before .before .before .before .before .before .before .before .before .before .before .before .before .before .before .before .before .before .before .before .before .before .before .deposit .ensures .1,
-    )
+same-length-9 : tie.Need-same-length-9
+same-length-9 c = search needs
+
+same-length-10 : tie.Need-same-length-10
+same-length-10 c = search needs
+
+returns-2 : tie.Need-returns-2
+returns-2 c =
+    let numbered = at-number c in
+    let m = at-made c .made .ensures in
+    record {
+      number-is = m .0 ∙ sym (at-passed c .if1 .left) ∙ numbered .run-number .ensures;
+      refused = λ z. absurd (z (m .0));
+      done = λ z. m .1;
+    }
 
 pub run-spec : {M : Type 1} → statement M
 run-spec =
     tie.close
     (tie.spec
-    deposit-requires
-    query-record-requires
-    tail-record-requires
+    run-number-requires
+    returns
+    made-requires
     same-length
     same-length-2
     same-length-3
@@ -74,4 +89,6 @@ run-spec =
     same-length-6
     same-length-7
     same-length-8
-    returns)
+    same-length-9
+    same-length-10
+    returns-2)

@@ -1,4 +1,4 @@
--- `whole_run::tail_record` meets its contract.
+-- `claim_whole_run::tail_record` meets its contract.
 use Rattle.field_gf128.specs.Word.{word}
 use Rattle.claim_whole_run.proofs.Deposits.{tail-built, tail-checked}
 use borrow.Author.Needs.{needs}
@@ -70,8 +70,15 @@ same-length c = search needs
 
 returns : tie.Need-returns
 returns c =
-    let a = c .before .before .before .before .before .before .before .before .before .before .before .before .before .before .before .before .args in
-    (tail-built _ _ _ _ (a .levels .now) (a .trees .now) (a .out .now) _ (c .before .before .before .before .before .before .before .before .before .before .level-length .ensures) (c .before .before .before .before .before .before .before .before .before .tree-bytes .ensures) (c .before .before .before .before .before .build-tail .ensures .1), tail-checked (a .base .now) _ _ (word (a .claim)) _ (a .roots .now) _ (c .check-tail .ensures))
+    let built : tie.After-build-tail = search in
+    let treed : tie.After-tree-bytes = search in
+    let sized : tie.After-level-length = search in
+    let start : tie.Start = search in
+    let a = start .args in (
+      tail-built _ _ _ _ (a .levels .now) (a .trees .now) (a .out .now) _ (sized .level-length .ensures) (treed .tree-bytes .ensures)
+          (built .build-tail .ensures .1),
+      tail-checked (a .base .now) _ _ (word (a .claim)) _ (a .roots .now) _ (c .check-tail .ensures),
+    )
 
 pub tail-record-spec : {M : Type 1} → statement M
 tail-record-spec =

@@ -1,6 +1,5 @@
 -- `code_codeword::fold` meets its contract.
 use borrow.Author.Needs.{needs}
-use mathlib.Core.Path.{refl}
 use native.Mathlib.Omega.{arith}
 use Rattle.theory_laws.proofs.Questions.{asks}
 use Rattle.code_codeword.proofs.Lengths.{fold-sizes, refused-same}
@@ -13,17 +12,15 @@ fold-number-requires c κs = search needs
 returns : tie.Need-returns
 returns c = search (asks, refused-same, needs)
 
-slice-aggregate-fold : tie.Need-slice-aggregate-fold
-slice-aggregate-fold c = search needs
+fold-into-requires : tie.Need-fold-into-requires
+fold-into-requires c κs =
+    let else1 : tie.Else1 = search in
+    let after-fold-number = else1 .before in
+    let z = fold-sizes _ _ _ _ _ _ (after-fold-number .fold-number .ensures) (else1 .if1 .left) in
+    (z .paired, z .halved)
 
-fold-requires : tie.Need-fold-requires
-fold-requires c κs =
-    let d = c .before .before .before .fold-number in
-    let z = fold-sizes _ _ _ _ _ _ (d .ensures) (c .before .before .if1 .left) in
-    (z .paired, z .halved, refl)
-
-sub-t9 : tie.Need-sub-t9
-sub-t9 c =
+sub-t8 : tie.Need-sub-t8
+sub-t8 c =
     let else1 : tie.Else1 = search in
     let after-fold-number = else1 .before in
     let d = after-fold-number .fold-number in
@@ -42,8 +39,7 @@ fold-spec =
     (tie.spec
     fold-number-requires
     returns
-    slice-aggregate-fold
-    fold-requires
-    sub-t9
+    fold-into-requires
+    sub-t8
     same-length
     returns-2)

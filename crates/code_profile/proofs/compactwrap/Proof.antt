@@ -1,9 +1,8 @@
+-- `code_profile::compactwrap` meets its contract: the fields are those of the definition, computed.
 use mathlib.Core.Path.{refl}
 use Rattle.theory_record.specs.Profiles.{parametersOf, fieldsOf}
 use Rattle.code_profile.proofs.compactwrap.Statement.{statement}
 use Rattle.code_profile.proofs.compactwrap.Tie as tie
-use Rattle.code_profile.proofs.compactwrap.Reads as reads
-use Rattle.code_profile.proofs.compactwrap.Lts as lts
 
 returns : tie.Need-returns
 unfolding parametersOf fieldsOf

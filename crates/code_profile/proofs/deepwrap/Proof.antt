@@ -1,9 +1,8 @@
+-- `code_profile::deepwrap` meets its contract: the fields are those of the definition, computed.
 use mathlib.Core.Path.{refl}
 use Rattle.theory_record.specs.Profiles.{parametersOf, fieldsOf}
 use Rattle.code_profile.proofs.deepwrap.Statement.{statement}
 use Rattle.code_profile.proofs.deepwrap.Tie as tie
-use Rattle.code_profile.proofs.deepwrap.Reads as reads
-use Rattle.code_profile.proofs.deepwrap.Lts as lts
 
 returns : tie.Need-returns
 unfolding parametersOf fieldsOf

@@ -1,9 +1,8 @@
+-- `code_profile::default_parameters` meets its contract: the fields are those of the definition, computed.
 use mathlib.Core.Path.{refl}
 use Rattle.theory_record.specs.Profiles.{defaultParameters, fieldsOf}
 use Rattle.code_profile.proofs.default_parameters.Statement.{statement}
 use Rattle.code_profile.proofs.default_parameters.Tie as tie
-use Rattle.code_profile.proofs.default_parameters.Reads as reads
-use Rattle.code_profile.proofs.default_parameters.Lts as lts
 
 returns : tie.Need-returns
 unfolding defaultParameters fieldsOf

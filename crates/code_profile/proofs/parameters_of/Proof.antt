@@ -1,16 +1,15 @@
-use mathlib.Core.Path.{sym, ap, _∙_}
-use Rattle.theory_record.specs.Profiles.{parametersOf, fieldsOf}
+-- `code_profile::parameters_of` meets its contract: each arm has its profile's parameters.
+use mathlib.Core.Path.{_≡_, sym, ap, _∙_}
+use Rattle.theory_record.specs.Profiles.{Fields, parametersOf, fieldsOf}
 use Rattle.code_profile.specs.Meaning.{profile}
 use Rattle.code_profile.specs.declared.Profile.{Profile}
 use borrow.Author.Needs.{needs}
 use Rattle.code_profile.proofs.parameters_of.Statement.{statement}
 use Rattle.code_profile.proofs.parameters_of.Tie as tie
-use Rattle.code_profile.proofs.parameters_of.Reads as reads
-use Rattle.code_profile.proofs.parameters_of.Lts as lts
-use Rattle.code_profile.proofs.balanced.Reads as balanced-reads
-use Rattle.code_profile.proofs.compactwrap.Reads as compactwrap-reads
-use Rattle.code_profile.proofs.deepwrap.Reads as deepwrap-reads
-use Rattle.code_profile.proofs.fastchunk.Reads as fastchunk-reads
+
+-- what the function of the profile q ensures is so of p, which is q
+told : {f : Fields} {p q : Profile} → f ≡ fieldsOf (parametersOf (profile q)) → p ≡ q → f ≡ fieldsOf (parametersOf (profile p))
+told e h = e ∙ sym (ap (λ (p : Profile). fieldsOf (parametersOf (profile p))) h)
 
 enum-told : tie.Need-enum-told
 enum-told c = search needs
@@ -37,16 +36,16 @@ deepwrap-requires : tie.Need-deepwrap-requires
 deepwrap-requires c κs = search needs
 
 returns : tie.Need-returns
-returns c = c .fastchunk .ensures ∙ sym (ap (λ (p : Profile). fieldsOf (parametersOf (profile p))) (c .before .enum-told .given .1))
+returns c = told (c .fastchunk .ensures) (c .before .enum-told .given .1)
 
 returns-2 : tie.Need-returns-2
-returns-2 c = c .balanced .ensures ∙ sym (ap (λ (p : Profile). fieldsOf (parametersOf (profile p))) (c .before .enum-told2 .given .1))
+returns-2 c = told (c .balanced .ensures) (c .before .enum-told2 .given .1)
 
 returns-3 : tie.Need-returns-3
-returns-3 c = c .compactwrap .ensures ∙ sym (ap (λ (p : Profile). fieldsOf (parametersOf (profile p))) (c .before .enum-told3 .given .1))
+returns-3 c = told (c .compactwrap .ensures) (c .before .enum-told3 .given .1)
 
 returns-4 : tie.Need-returns-4
-returns-4 c = c .deepwrap .ensures ∙ sym (ap (λ (p : Profile). fieldsOf (parametersOf (profile p))) (c .before .enum-told4 .given .1))
+returns-4 c = told (c .deepwrap .ensures) (c .before .enum-told4 .given .1)
 
 pub parameters-of-spec : {M : Type 1} → statement M
 parameters-of-spec =

@@ -1,12 +1,8 @@
+-- `put_chain` meets its contract: the leaf message, and the node messages after it.
 use Rattle.compare_chain.proofs.Nodes.{chain-stored}
 use borrow.Author.Needs.{needs}
 use Rattle.compare_chain.proofs.put_chain.Statement.{statement}
 use Rattle.compare_chain.proofs.put_chain.Tie as tie
-use Rattle.compare_chain.proofs.put_chain.Reads as reads
-use Rattle.compare_chain.proofs.put_chain.Lts as lts
-use Rattle.compare_chain.proofs.put_leaf.Reads as put-leaf-reads
-use Rattle.compare_chain.proofs.put_nodes.Reads as put-nodes-reads
-use Rattle.tree_place.proofs.group_of.Reads as group-of-reads
 
 group-of-requires : tie.Need-group-of-requires
 group-of-requires c κs = search needs
@@ -30,7 +26,10 @@ same-length : tie.Need-same-length
 same-length c = search needs
 
 returns : tie.Need-returns
-returns c = chain-stored _ _ _ _ _ _ _ _ _ _ _ _ (c .before .before .before .before .before .before .before .before .group-of .ensures) (c .before .before .before .before .before .before .put-leaf .ensures) (c .before .before .put-nodes .ensures)
+returns c =
+    let group : tie.After-group-of = search in
+    let leaf : tie.After-put-leaf = search in
+    chain-stored _ _ _ _ _ _ _ _ _ _ _ _ (group .group-of .ensures) (leaf .put-leaf .ensures) (c .before .before .put-nodes .ensures)
 
 pub put-chain-spec : {M : Type 1} → statement M
 put-chain-spec =

@@ -1,15 +1,10 @@
+-- `put_leaf` meets its contract: the prefix and the rest in the buffer, and hashed.
 use native.Mathlib.Omega.{arith}
 use Rattle.record_opening.proofs.Values.{halves-long, halves-back}
 use Rattle.compare_chain.proofs.Noted.{both-long, leaf-noted}
 use borrow.Author.Needs.{needs}
 use Rattle.compare_chain.proofs.put_leaf.Statement.{statement}
 use Rattle.compare_chain.proofs.put_leaf.Tie as tie
-use Rattle.compare_chain.proofs.put_leaf.Reads as reads
-use Rattle.compare_chain.proofs.put_leaf.Lts as lts
-use Rattle.tree_digest.proofs.digest.Reads as digest-reads
-use Rattle.tree_message.proofs.leaf_prefix.Reads as leaf-prefix-reads
-use Rattle.tree_message.proofs.leaf_rest.Reads as leaf-rest-reads
-use Rattle.record_opening.proofs.group_values.Reads as group-values-reads
 
 group-values-requires : tie.Need-group-values-requires
 group-values-requires c κs = search needs
@@ -33,16 +28,29 @@ slice-reshare-prefix-digest : tie.Need-slice-reshare-prefix-digest
 slice-reshare-prefix-digest c = search needs
 
 slice-aggregate-digest : tie.Need-slice-aggregate-digest
-slice-aggregate-digest c = both-long _ _ _ _ _ _ _ _ _ (c .before .before .before .before .before .before .before .before .leaf-prefix .ensures) (c .before .before .before .leaf-rest .ensures) (omega arith)
+slice-aggregate-digest c =
+    let prefix : tie.After-leaf-prefix = search in
+    let rest = c .before .before .before in
+    both-long _ _ _ _ _ _ _ _ _ (prefix .leaf-prefix .ensures) (rest .leaf-rest .ensures) (omega arith)
 
 digest-requires : tie.Need-digest-requires
-digest-requires c κs = omega (arith, both-long _ _ _ _ _ _ _ _ _ (c .before .before .before .before .before .before .before .before .leaf-prefix .ensures) (c .before .before .before .leaf-rest .ensures) (omega arith), c .before .before .before .leaf-rest .ensures .end, c .before .before .before .before .before .before .before .before .leaf-prefix .ensures .end)
+digest-requires c κs =
+    let prefix : tie.After-leaf-prefix = search in
+    let rest = c .before .before .before in
+    let p = prefix .leaf-prefix .ensures in
+    let q = rest .leaf-rest .ensures in
+    omega (arith, both-long _ _ _ _ _ _ _ _ _ p q (omega arith), q .end, p .end)
 
 same-length : tie.Need-same-length
 same-length c = search needs
 
 returns : tie.Need-returns
-returns c = leaf-noted _ _ _ _ _ _ _ _ _ _ _ _ (c .before .before .before .before .before .before .before .before .before .leaf-prefix .ensures) (c .before .before .before .before .leaf-rest .ensures) (omega arith) (c .before .before .before .before .before .before .before .before .before .before .before .group-values .ensures) (c .digest .ensures)
+returns c =
+    let values : tie.After-group-values = search in
+    let prefix : tie.After-leaf-prefix = search in
+    let rest = c .before .before .before .before in
+    leaf-noted _ _ _ _ _ _ _ _ _ _ _ _ (prefix .leaf-prefix .ensures) (rest .leaf-rest .ensures) (omega arith) (values .group-values .ensures)
+    (c .digest .ensures)
 
 pub put-leaf-spec : {M : Type 1} → statement M
 put-leaf-spec =

@@ -1,5 +1,6 @@
 -- `put_node` meets its contract: the message in a buffer of its own, copied and hashed.
 use native.Mathlib.Omega.{arith}
+use Rattle.tree_place.specs.Place.{number}
 use Rattle.compare_chain.proofs.Noted.{both-long, children-noted}
 use borrow.Author.Needs.{needs}
 use Rattle.compare_chain.proofs.put_node.Statement.{statement}
@@ -72,7 +73,8 @@ returns c =
     let both = prefix .before .before .before .before in
     let start = both .before .before .before in
     let a = start .args in
-    children-noted _ _ _ (a .g) (a .d) (a .sibling) _ _ _ _ _ _ _ _ _ _ _ (both .children .ensures) (prefix .node-prefix .ensures) (rest .node-rest .ensures) (omega (arith, start .pre .0)) (put .put .ensures) (c .digest .ensures)
+    children-noted _ _ _ (number (a .g)) (a .d) (a .sibling) _ _ _ _ _ _ _ _ _ _ _ (both .children .ensures) (prefix .node-prefix .ensures)
+    (rest .node-rest .ensures) (omega (arith, start .pre .0)) (put .put .ensures) (c .digest .ensures)
 
 pub put-node-spec : {M : Type 1} → statement M
 put-node-spec =

@@ -4,9 +4,6 @@ use Rattle.compare_levels.specs.helpers.Levels.{placesFound}
 use borrow.Author.Needs.{needs}
 use Rattle.compare_levels.proofs.pick_level.Statement.{statement}
 use Rattle.compare_levels.proofs.pick_level.Tie as tie
-use Rattle.compare_levels.proofs.pick_level.Reads as reads
-use Rattle.compare_levels.proofs.pick_level.Lts as lts
-use Rattle.compare_levels.proofs.pick_path.Reads as pick-path-reads
 
 pick-path-requires : tie.Need-pick-path-requires
 pick-path-requires c κs =

@@ -4,23 +4,19 @@ use mathlib.Core.Path.{_≡_, refl}
 use native.Mathlib.Omega.{arith}
 use lib.ListN.{length}
 use Rattle.theory_compare.specs.Compare.{recordsFound}
+use Rattle.tree_place.specs.Place.{index}
 use Rattle.compare_levels.proofs.Level.{Rest, rest-begin, rest-next, level-sized, pair-low}
 use Rattle.compare_levels.proofs.Levels.{found-begin, NoneBelow, level-picked, level-stop, level-next, levels-end}
 use borrow.Author.Needs.{needs}
 use Rattle.compare_levels.proofs.pick_levels.Statement.{statement}
 use Rattle.compare_levels.proofs.pick_levels.Tie as tie
-use Rattle.compare_levels.proofs.pick_levels.Reads as reads
-use Rattle.compare_levels.proofs.pick_levels.Lts as lts
-use Rattle.compare_levels.proofs.pick_level.Reads as pick-level-reads
-use Rattle.record_query_check.proofs.pair_of.Reads as pair-of-reads
-use Rattle.record_reader.proofs.level_at.Reads as level-at-reads
 use Rattle.theory_record.specs.Scheme.{scheme}
 
 abbrev Inv-loop : tie.InvT-loop
 Inv-loop base n k position s t first₀ second₀ l₀ i₀ j₀ first second l i j =
     let S = scheme base n k in
-    (l ≤ n) × (Rest S position l s i) × (Rest S position l t j) × (length first ≡ length first₀) × (length second ≡ length second₀)
-    × (NoneBelow S position l s i t j (recordsFound S position s t) first₀ second₀ first second)
+    (l ≤ n) × (Rest S (index position) l s i) × (Rest S (index position) l t j) × (length first ≡ length first₀) × (length second ≡ length second₀)
+    × (NoneBelow S (index position) l s i t j (recordsFound S (index position) s t) first₀ second₀ first second)
 
 abbrev μ-loop : tie.MeasureT-loop
 μ-loop base n k position s t first₀ second₀ l₀ i₀ j₀ first second l i j = n - l

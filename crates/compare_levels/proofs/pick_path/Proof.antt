@@ -3,18 +3,13 @@ use Rattle.compare_levels.proofs.Level.{path-c, path-a}
 use borrow.Author.Needs.{needs}
 use Rattle.compare_levels.proofs.pick_path.Statement.{statement}
 use Rattle.compare_levels.proofs.pick_path.Tie as tie
-use Rattle.compare_levels.proofs.pick_path.Reads as reads
-use Rattle.compare_levels.proofs.pick_path.Lts as lts
-use Rattle.compare_opening.proofs.pick_opening.Reads as pick-opening-reads
 
 add-pick-opening : tie.Need-add-pick-opening
 add-pick-opening c = search needs
 
 pick-opening-requires : tie.Need-pick-opening-requires
 pick-opening-requires c κs =
-    let branch = c .before .before .before in
-    let lent = branch .before .before in
-    let start = lent .before .before .before in
+    let start : tie.Start = search in
     let z = start .pre in
     record {
       first-sized = z .first-sized .c-sized;
@@ -35,14 +30,12 @@ returns c =
     let branch = picked .before .before .before in
     path-c _ _ _ _ _ _ _ (branch .if1 .taken) (picked .pick-opening .ensures)
 
-mul-pick-opening : tie.Need-mul-pick-opening
-mul-pick-opening c = search needs
+first-of-pair-requires : tie.Need-first-of-pair-requires
+first-of-pair-requires c κs = search needs
 
 pick-opening-requires-2 : tie.Need-pick-opening-requires-2
 pick-opening-requires-2 c κs =
-    let branch = c .before .before .before in
-    let lent = branch .before .before in
-    let start = lent .before .before .before in
+    let start : tie.Start = search in
     let z = start .pre in
     record {
       first-sized = z .first-sized .a-sized;
@@ -59,9 +52,9 @@ same-length-4 c = search needs
 
 returns-2 : tie.Need-returns-2
 returns-2 c =
-    let picked = c .before .before .before .before in
-    let branch = picked .before .before .before in
-    path-a _ _ _ _ _ _ _ (branch .if1 .left) (picked .pick-opening2 .ensures)
+    let branch : tie.Else1 = search in
+    let first : tie.After-first-of-pair = search in
+    path-a _ _ _ _ _ _ _ (first .first-of-pair .ensures) (branch .if1 .left) (c .before .before .before .before .pick-opening2 .ensures)
 
 pub pick-path-spec : {M : Type 1} → statement M
 pick-path-spec =
@@ -72,7 +65,7 @@ pick-path-spec =
     same-length
     same-length-2
     returns
-    mul-pick-opening
+    first-of-pair-requires
     pick-opening-requires-2
     same-length-3
     same-length-4

@@ -18,8 +18,8 @@ use Rattle.theory_compare.specs.Compare.{messageBuffer}
 unfoldable pub pathFound : Scheme → ℕ → ℕ → Bool → List ℕ → Level → List ℕ → Level → Found
 pathFound S l q next s x t y =
     pick next
-    (foundAt S (l + 1) q s (x .«c_group») (x .«c_path») t (y .«c_group») (y .«c_path»))
-    (foundAt S l (2 * q) s (x .«a_group») (x .«a_path») t (y .«a_group») (y .«a_path»))
+    (foundAt S (l + 1) q s (x .«c_group_at») (x .«c_path_at») t (y .«c_group_at») (y .«c_path_at»))
+    (foundAt S l (2 * q) s (x .«a_group_at») (x .«a_path_at») t (y .«a_group_at») (y .«a_path_at»))
 
 -- path a before path c
 unfoldable pub placesFound : Scheme → ℕ → ℕ → List ℕ → Level → List ℕ → Level → Found
@@ -27,8 +27,8 @@ placesFound S l q s x t y = orElse (pathFound S l q false s x t y) (pathFound S 
 
 -- the groups and paths of level l at their places in s
 pub record LevelSized (S : Scheme) (l : ℕ) (s : List ℕ) (v : Level) : Type 0 where
-  pub a-sized : Sized S l s (v .«a_group») (v .«a_path»)
-  pub c-sized : Sized S (l + 1) s (v .«c_group») (v .«c_path»)
+  pub a-sized : Sized S l s (v .«a_group_at») (v .«a_path_at»)
+  pub c-sized : Sized S (l + 1) s (v .«c_group_at») (v .«c_path_at»)
 
 -- the same in s and in t, of a pair that there is, and room for a message of each
 pub record LevelsSized (S : Scheme) (l q : ℕ) (s : List ℕ) (x : Level) (t : List ℕ) (y : Level) (first second : List ℕ) : Type 0 where

@@ -6,13 +6,6 @@ use Rattle.compare_opening.proofs.Opening.{domain-there, room, chain-fi
 use borrow.Author.Needs.{needs}
 use Rattle.compare_opening.proofs.level_chain.Statement.{statement}
 use Rattle.compare_opening.proofs.level_chain.Tie as tie
-use Rattle.compare_opening.proofs.level_chain.Reads as reads
-use Rattle.compare_opening.proofs.level_chain.Lts as lts
-use Rattle.compare_chain.proofs.put_chain.Reads as put-chain-reads
-use Rattle.code_level.proofs.level_depth.Reads as level-depth-reads
-use Rattle.code_level.proofs.level_domain.Reads as level-domain-reads
-use Rattle.code_level.proofs.level_length.Reads as level-length-reads
-use Rattle.code_level.proofs.level_width.Reads as level-width-reads
 
 slice-aggregate-level-domain : tie.Need-slice-aggregate-level-domain
 slice-aggregate-level-domain c = search needs
@@ -31,50 +24,35 @@ level-depth-requires c κs = search needs
 
 array-share-prefix-domain : tie.Need-array-share-prefix-domain
 array-share-prefix-domain c =
-    let h =
-    (let width = c .before .before in
-    let domain = width .before .before .before in
-    let lent = domain .before .before in
-    let start = lent .before .before .before in
-    room (start .pre .0)) in
+    let start : tie.Start = search in
+    let h = room (start .pre .0) in
     omega arith
 
 slice-aggregate-put-chain : tie.Need-slice-aggregate-put-chain
 slice-aggregate-put-chain c =
-    let width = c .before .before .before in
-    let domain = width .before .before .before in
-    let lent = domain .before .before in
-    let start = lent .before .before .before in
+    let start : tie.Start = search in
+    let domain : tie.After-level-domain = search in
     let h = room (start .pre .0) in
     message-length _ _ _ _ _ _ (domain .level-domain .ensures) (omega arith)
 
 add-put-chain : tie.Need-add-put-chain
 add-put-chain c =
-    let h =
-    (let width = c .before .before .before in
-    let domain = width .before .before .before in
-    let lent = domain .before .before in
-    let start = lent .before .before .before in
-    room (start .pre .0)) in
+    let start : tie.Start = search in
+    let h = room (start .pre .0) in
     search needs
 
 add-put-chain-2 : tie.Need-add-put-chain-2
 add-put-chain-2 c =
-    let h =
-    (let width = c .before .before .before in
-    let domain = width .before .before .before in
-    let lent = domain .before .before in
-    let start = lent .before .before .before in
-    room (start .pre .0)) in
+    let start : tie.Start = search in
+    let h = room (start .pre .0) in
     search needs
 
 put-chain-requires : tie.Need-put-chain-requires
 put-chain-requires c κs =
+    let start : tie.Start = search in
+    let domain : tie.After-level-domain = search in
     let depth = c .before .before in
     let width = depth .before in
-    let domain = width .before .before .before in
-    let lent = domain .before .before in
-    let start = lent .before .before .before in
     let h = room (start .pre .0) in
     let put = domain .level-domain .ensures in (
       domain-room _ _ _ _ _ put (omega arith) (h .domain-short),
@@ -93,17 +71,15 @@ same-length c = search needs
 
 returns : tie.Need-returns
 returns c =
+    let start : tie.Start = search in
+    let domain : tie.After-level-domain = search in
     let put = c .before .before in
     let depth = put .before .before .before in
     let width = depth .before in
-    let count = width .before in
-    let domain = count .before .before in
-    let lent = domain .before .before in
-    let start = lent .before .before .before in
     let h = room (start .pre .0) in
     let at = domain .level-domain .ensures in (
       omega (arith, at .end),
-      chain-written (start .pre .0) _ _ _ _ _ _ _ (put .put-chain .ensures) (prefix-is _ _ _ _ _ at (omega arith)) (count .level-length .ensures)
+      chain-written (start .pre .0) _ _ _ _ _ _ _ (put .put-chain .ensures) (prefix-is _ _ _ _ _ at (omega arith)) (width .before .level-length .ensures)
           (width .level-width .ensures) (depth .level-depth .ensures),
     )
 

@@ -1,14 +1,11 @@
 -- `compare_opening::pick_opening` meets its contract.
+use Prim.Native.Nat.{_+_, _*_, _≤_}
+use native.Mathlib.Omega.{arith}
+use Rattle.compare_opening.specs.helpers.Messages.{chainBuffer}
 use Rattle.compare_opening.proofs.Opening.{room, chains-there, picked-opening}
 use borrow.Author.Needs.{needs}
 use Rattle.compare_opening.proofs.pick_opening.Statement.{statement}
 use Rattle.compare_opening.proofs.pick_opening.Tie as tie
-use Rattle.compare_opening.proofs.pick_opening.Reads as reads
-use Rattle.compare_opening.proofs.pick_opening.Lts as lts
-use Rattle.compare_opening.proofs.level_chain.Reads as level-chain-reads
-use Rattle.compare_pick.proofs.pick_last.Reads as pick-last-reads
-use Rattle.code_level.proofs.level_depth.Reads as level-depth-reads
-use Rattle.code_level.proofs.level_width.Reads as level-width-reads
 
 slice-aggregate-level-chain : tie.Need-slice-aggregate-level-chain
 slice-aggregate-level-chain c = search needs
@@ -34,78 +31,34 @@ slice-aggregate-pick-last c = search needs
 slice-aggregate-pick-last-2 : tie.Need-slice-aggregate-pick-last-2
 slice-aggregate-pick-last-2 c = search needs
 
+-- the sizes of the chains, as code adds them up, are small
+small : (c : tie.After-level-depth)
+    → 97 + c .before .before .before .before .before .before .level-chain .result + 16 * c .before .level-width .result ≤ chainBuffer
+small c =
+    let start : tie.Start = search in
+    let first : tie.After-level-chain = search in
+    let h = room (start .pre .first-sized) in
+    omega (arith, first .level-chain .ensures .0, c .before .level-width .ensures)
+
 add-pick-last : tie.Need-add-pick-last
-add-pick-last c =
-    let h =
-    (let width = c .before .before .before in
-    let second = width .before .before in
-    let first = second .before .before .before in
-    let lent = first .before .before .before in
-    let start = lent .before .before .before .before in
-    room (start .pre .first-sized)) in
-    let e =
-    (let width = c .before .before .before in
-    let second = width .before .before in
-    let first = second .before .before .before in
-    first .level-chain .ensures .0) in
-    search needs
+add-pick-last c = let h = small (c .before .before) in search needs
 
 mul-pick-last : tie.Need-mul-pick-last
-mul-pick-last c =
-    let h =
-    (let width = c .before .before .before in
-    let second = width .before .before in
-    let first = second .before .before .before in
-    let lent = first .before .before .before in
-    let start = lent .before .before .before .before in
-    room (start .pre .first-sized)) in
-    let e =
-    (let width = c .before .before .before in
-    let second = width .before .before in
-    let first = second .before .before .before in
-    first .level-chain .ensures .0) in
-    search needs
+mul-pick-last c = let h = small (c .before .before) in search needs
 
 add-pick-last-2 : tie.Need-add-pick-last-2
-add-pick-last-2 c =
-    let h =
-    (let width = c .before .before .before in
-    let second = width .before .before in
-    let first = second .before .before .before in
-    let lent = first .before .before .before in
-    let start = lent .before .before .before .before in
-    room (start .pre .first-sized)) in
-    let e =
-    (let width = c .before .before .before in
-    let second = width .before .before in
-    let first = second .before .before .before in
-    first .level-chain .ensures .0) in
-    search needs
+add-pick-last-2 c = let h = small (c .before .before) in search needs
 
 add-pick-last-3 : tie.Need-add-pick-last-3
-add-pick-last-3 c =
-    let h =
-    (let width = c .before .before .before in
-    let second = width .before .before in
-    let first = second .before .before .before in
-    let lent = first .before .before .before in
-    let start = lent .before .before .before .before in
-    room (start .pre .first-sized)) in
-    let e =
-    (let width = c .before .before .before in
-    let second = width .before .before in
-    let first = second .before .before .before in
-    first .level-chain .ensures .0) in
-    search needs
+add-pick-last-3 c = let h = small (c .before .before) in search needs
 
 pick-last-requires : tie.Need-pick-last-requires
 pick-last-requires c κs =
+    let start : tie.Start = search in
     let depth = c .before .before .before .before in
     let width = depth .before in
     let second = width .before .before in
     let first = second .before .before .before in
-    let lent = first .before .before .before in
-    let start = lent .before .before .before .before in
     chains-there (start .pre)
     (record { domain-is = first .level-chain .ensures .0; width-is = width .level-width .ensures; depth-is = depth .level-depth .ensures })
     (record { chain-is = first .level-chain .ensures .1; buffer-long = search needs })
@@ -125,8 +78,7 @@ returns c =
     let width = depth .before in
     let second = width .before .before in
     let first = second .before .before .before in
-    let lent = first .before .before .before in
-    let start = lent .before .before .before .before in
+    let start = first .before .before .before .before .before .before .before in
     picked-opening (start .pre)
     (record { domain-is = first .level-chain .ensures .0; width-is = width .level-width .ensures; depth-is = depth .level-depth .ensures })
     (record { chain-is = first .level-chain .ensures .1; buffer-long = search needs })

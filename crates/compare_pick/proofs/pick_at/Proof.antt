@@ -1,10 +1,8 @@
+-- `compare_pick::pick_at` meets its contract.
 use Rattle.compare_pick.proofs.Picked.{picked-same, picked-differ}
 use borrow.Author.Needs.{needs}
 use Rattle.compare_pick.proofs.pick_at.Statement.{statement}
 use Rattle.compare_pick.proofs.pick_at.Tie as tie
-use Rattle.compare_pick.proofs.pick_at.Reads as reads
-use Rattle.compare_pick.proofs.pick_at.Lts as lts
-use Rattle.compare_pick.proofs.put_message.Reads as put-message-reads
 
 add-to : tie.Need-add-to
 add-to c = search needs
@@ -64,7 +62,14 @@ same-length-2 : tie.Need-same-length-2
 same-length-2 c = search needs
 
 returns-2 : tie.Need-returns-2
-returns-2 c = let p = c .before .before .before .before .before .before .before .before .before .before .before .before .before .before .before .before .before .before .pre in picked-differ _ _ _ _ _ _ _ _ _ (c .before .before .before .before .before .before .before .before .before .before .before .same-bytes .ensures) (c .before .before .before .before .before .before .before .before .before .before .if1 .left) (c .before .before .before .before .before .before .before .put-message .ensures) (c .before .before .put-message2 .ensures) (p .0) (p .2) (p .3)
+returns-2 c =
+    let start : tie.Start = search in
+    let differ : tie.Else1 = search in
+    let second = c .before .before in
+    let first = second .before .before .before .before .before in
+    let p = start .pre in
+    picked-differ _ _ _ _ _ _ _ _ _ (differ .before .same-bytes .ensures) (differ .if1 .left) (first .put-message .ensures)
+    (second .put-message2 .ensures) (p .0) (p .2) (p .3)
 
 pub pick-at-spec : {M : Type 1} → statement M
 pick-at-spec =

@@ -4,10 +4,6 @@ use Rattle.code_level.proofs.Sizes.{sizes-said}
 use borrow.Author.Needs.{needs}
 use Rattle.compare_records.proofs.lent_number.Statement.{statement}
 use Rattle.compare_records.proofs.lent_number.Tie as tie
-use Rattle.compare_records.proofs.lent_number.Reads as reads
-use Rattle.compare_records.proofs.lent_number.Lts as lts
-use Rattle.code_level.proofs.level_length.Reads as level-length-reads
-use Rattle.code_level.proofs.size_number.Reads as size-number-reads
 
 size-number-requires : tie.Need-size-number-requires
 size-number-requires c κs = search needs
@@ -39,11 +35,13 @@ returns-5 c = search wrong-second
 returns-6 : tie.Need-returns-6
 returns-6 c = search long-base
 
+index-requires : tie.Need-index-requires
+index-requires c κs = search needs
+
 level-length-requires : tie.Need-level-length-requires
 level-length-requires c κs =
-    let h =
-    (let tested = c .before .before .before in
-    sizes-said _ _ _ (tested .before .before .before .size-number .ensures) (tested .before .before .if1 .left)) in
+    let sized : tie.Else1 = search in
+    let h = sizes-said _ _ _ (sized .before .size-number .ensures) (sized .if1 .left) in
     search needs
 
 returns-7 : tie.Need-returns-7
@@ -66,6 +64,7 @@ lent-number-spec =
     returns-4
     returns-5
     returns-6
+    index-requires
     level-length-requires
     returns-7
     returns-8)

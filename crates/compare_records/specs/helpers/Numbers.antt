@@ -2,10 +2,12 @@
 use Prim.Native.Nat.{ℕ, _+_, _*_, _^_}
 use mathlib.Core.Bool.{not}
 use mathlib.Core.List.{List, [], _∷_, _++_}
+use denote.Ref.{now}
 use lib.Dec.{leb, ltb, eqb}
 use Rattle.theory_laws.specs.Questions.{Question, _asks_, firstNo}
 use Rattle.theory_laws.specs.Lists.{same}
 use Rattle.theory_record.specs.Query.{sizeQuestions}
+use Rattle.theory_compare.specs.Lent.{Slice}
 use Rattle.theory_compare.specs.Compare.{accepts, Comparison, messageBuffer}
 use Rattle.compare_records.specs.declared.Compared.{Compared}
 use Rattle.theory_record.specs.Scheme.{scheme}
@@ -35,6 +37,11 @@ recordQuestions base n k position challenges roots first second =
 
 unfoldable pub recordsNumber : List ℕ → ℕ → ℕ → ℕ → List ℕ → List ℕ → List ℕ → List ℕ → ℕ
 recordsNumber base n k position challenges roots first second = firstNo (recordQuestions base n k position challenges roots first second)
+
+-- the same, of what is lent
+abbrev pub recordsLent : Slice → ℕ → ℕ → ℕ → Slice → Slice → Slice → Slice → ℕ
+recordsLent base n k position challenges roots first second =
+    recordsNumber (now (base .entry)) n k position (now (challenges .entry)) (now (roots .entry)) (now (first .entry)) (now (second .entry))
 
 -- the answer, as comparing has it
 abbrev pub comparison : Compared → Comparison

@@ -1,5 +1,5 @@
 -- `text::with_bytes` is safe and ends.
-use Prim.Native.Nat.{ℕ, _+_, _-_, _*_, _/_, _≤_, _<_}
+use Prim.Native.Nat.{_-_, _≤_}
 use borrow.Author.Needs.{needs}
 use lib.ListN.{length}
 use Rattle.export_text.proofs.with_bytes.Statement.{statement}

@@ -14,7 +14,11 @@ same-length : tie.Need-same-length
 same-length c = search needs
 
 returns : tie.Need-returns
-returns c = word-put _ _ _ _ _ _ _ (c .before .before .before .before .before .before .put-number .ensures) (c .before .before .put-number2 .ensures) (search needs)
+returns c =
+    let start : tie.Start = search in
+    let first : tie.After-put-number = search in
+    let second : tie.After-put-number2 = search in
+    word-put _ _ _ _ _ _ (start .args .w) (first .put-number .ensures) (second .put-number2 .ensures) (search needs)
 
 pub put-word-spec : {M : Type 1} → statement M
 put-word-spec = tie.close (tie.spec put-number-requires put-number-requires-2 same-length returns)

@@ -38,12 +38,12 @@ loop-less c = omega arith
 
 loop-again : tie.Need-loop-again Inv-loop μ-loop
 loop-again c =
-    let here = c .before .before .before .before .before .before in
+    let here : tie.At-loop Inv-loop μ-loop = search in
+    let read : tie.After-word-at Inv-loop μ-loop = search in
     let put = c .before .before .put in (
       omega arith,
       put .kept .0 ∙ here .loop .inv .1,
-      filled-more _ _ _ _ _ (omega arith) (put .ensures)
-          (c .before .before .before .before .word-at .ensures) (here .loop .inv .2),
+      filled-more _ _ _ _ _ (omega arith) (put .ensures) (read .word-at .ensures) (here .loop .inv .2),
     )
 
 same-length : tie.Need-same-length Inv-loop μ-loop

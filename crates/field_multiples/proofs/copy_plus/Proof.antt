@@ -48,10 +48,12 @@ loop-less c = omega arith
 
 loop-again : tie.Need-loop-again Inv-loop μ-loop
 loop-again c =
+    let start : tie.Start Inv-loop μ-loop = search in
+    let here : tie.At-loop Inv-loop μ-loop = search in
     let p = c .before .before in
     let g = p .before .before .before in
-    let l = g .before .before .before .loop in
-    let a = g .before .before .before .before .before .args in (
+    let l = here .loop in
+    let a = start .args in (
       omega arith,
       omega (arith, p .put .kept .0),
       rw (p .put .ensures)

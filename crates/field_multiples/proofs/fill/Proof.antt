@@ -63,9 +63,10 @@ loop-less c = omega arith
 
 loop-again : tie.Need-loop-again Inv-loop μ-loop
 loop-again c =
+    let start : tie.Start Inv-loop μ-loop = search in
+    let here : tie.At-loop Inv-loop μ-loop = search in
     let p = c .before .before in
-    let l = p .before .before .before .loop in
-    let start = p .before .before .before .before .before in
+    let l = here .loop in
     let a = start .args in
     let fits = room (a .b) (l .j) (a .rows) (omega arith) .1 in
     let d : word (l .d) ≡ word (a .r) ⊗ 2 ^ (a .b * l .j) = l .inv .2 (omega (arith, fits)) in (

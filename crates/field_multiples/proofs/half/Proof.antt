@@ -55,8 +55,9 @@ loop-less c = search needs
 
 loop-again : tie.Need-loop-again Inv-loop μ-loop
 loop-again c =
+    let start : tie.Start Inv-loop μ-loop = search in
     let l = c .before .before .before .loop in
-    let a = c .before .before .before .before .before .args in (
+    let a = start .args in (
       omega arith,
       shifted-window (a .b) (l .i) (l .x) (a .h) (l .inv .1),
       λ r m.

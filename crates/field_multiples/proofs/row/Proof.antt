@@ -38,21 +38,25 @@ put-requires c κs = omega (arith, pow-pos (c .before .before .args .b))
 loop-holds : tie.Need-loop-holds Inv-loop μ-loop
 unfolding word
 loop-holds c =
-    let w = c .before .before .before .before .before .args .w in
+    let start : tie.Start Inv-loop μ-loop = search in
+    let w = start .args .w in
     (omega arith, refl, refl, sym (⊗-one (word w) (joined-lt (w .hi) (w .lo) (omega arith) (omega arith))), λ ws row. row)
 
 copy-plus-requires : tie.Need-copy-plus-requires Inv-loop μ-loop
 copy-plus-requires c κs =
-    let at-loop = c .before .before in
-    omega (arith, room (at-loop .loop .i) (at-loop .before .before .before .before .before .before .args .b) (c .before .loop-test .taken), at-loop .before .before .before .put .kept .0)
+    let start : tie.Start Inv-loop μ-loop = search in
+    let first : tie.After-put Inv-loop μ-loop = search in
+    let here : tie.At-loop Inv-loop μ-loop = search in
+    omega (arith, room (here .loop .i) (start .args .b) (c .before .loop-test .taken), first .put .kept .0)
 
 double-requires : tie.Need-double-requires Inv-loop μ-loop
 double-requires c κs = search needs
 
 add-n : tie.Need-add-n Inv-loop μ-loop
 add-n c =
-    let at-loop = c .before .before .before .before .before .before in
-    omega (arith, room (at-loop .loop .i) (at-loop .before .before .before .before .before .before .args .b) (omega arith))
+    let start : tie.Start Inv-loop μ-loop = search in
+    let here : tie.At-loop Inv-loop μ-loop = search in
+    omega (arith, room (here .loop .i) (start .args .b) (omega arith))
 
 add-i : tie.Need-add-i Inv-loop μ-loop
 add-i c = omega arith
@@ -62,9 +66,11 @@ loop-less c = omega arith
 
 loop-again : tie.Need-loop-again Inv-loop μ-loop
 loop-again c =
-    let p = c .before .before .before in
-    let l = p .before .before .before .loop in
-    let a = p .before .before .before .before .before .before .before .before .before .args in (
+    let start : tie.Start Inv-loop μ-loop = search in
+    let here : tie.At-loop Inv-loop μ-loop = search in
+    let p : tie.After-copy-plus Inv-loop μ-loop = search in
+    let l = here .loop in
+    let a = start .args in (
       omega arith,
       omega (arith, p .copy-plus .kept .0),
       omega (arith, pow-suc 2 (l .i), ap (λ e. 2 ^ e) (add-one (l .i))),
@@ -76,14 +82,17 @@ loop-again c =
     )
 
 same-length : tie.Need-same-length Inv-loop μ-loop
-same-length c = omega (arith, c .before .before .before .before .put .kept .0)
+same-length c =
+    let first : tie.After-put Inv-loop μ-loop = search in
+    omega (arith, first .put .kept .0)
 
 returns : tie.Need-returns Inv-loop μ-loop
 unfolding word
 returns c =
+    let start : tie.Start Inv-loop μ-loop = search in
+    let first : tie.After-put Inv-loop μ-loop = search in
     let l = c .before .loop in
-    let p = c .before .before .before .before .put in
-    let start = c .before .before .before .before .before .before .before in
+    let p = first .put in
     let a = start .args in
     let z : l .i ≡ a .b = omega arith in (
       l .inv .3 ∙ ap (λ i. word (a .w) ⊗ 2 ^ i) z,

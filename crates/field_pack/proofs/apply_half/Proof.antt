@@ -48,8 +48,10 @@ loop-less c = search needs
 
 loop-again : tie.Need-loop-again Inv-loop μ-loop
 loop-again c =
-    let l = c .before .before .before .before .loop in
-    let a = c .before .before .before .before .before .args in (
+    let start : tie.Start Inv-loop μ-loop = search in
+    let here : tie.At-loop Inv-loop μ-loop = search in
+    let a = start .args in
+    let l = here .loop in (
       search needs,
       sum-more _ _ _ _ _ (c .add .ensures)
           (c .before .entry .ensures ∙ ap (λ (n : ℕ). at (words (a .t .now)) ((a .from + l .i) * 16 + n)) (c .before .before .nibble .ensures))

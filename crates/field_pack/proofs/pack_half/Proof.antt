@@ -42,7 +42,7 @@ loop-less c = search needs
 loop-again : tie.Need-loop-again Inv-loop μ-loop
 loop-again c =
     let l = c .before .before .before .loop in
-    let s = c .before .before .before .before .before in
+    let s : tie.Start Inv-loop μ-loop = search in
     let e = c .wide .ensures .0 in
     let bit = is-bit (s .args .bytes .now) (s .pre .1) (s .args .from + l .b) in
     (omega arith, half-more (λ j. at (s .args .bytes .now) (s .args .from + j)) (l .b) (l .half) (c .wide .result) (omega arith) e (omega arith) (l .inv .1))

@@ -48,8 +48,9 @@ loop-less c = search needs
 
 loop-again : tie.Need-loop-again Inv-loop μ-loop
 loop-again c =
-    let l = c .before .before .before .before .before .loop in
-    let s = c .before .before .before .before .before .before in (
+    let s : tie.Start Inv-loop μ-loop = search in
+    let here : tie.At-loop Inv-loop μ-loop = search in
+    let l = here .loop in (
       search needs,
       search needs,
       sum-more _ _ _ _ _ (c .add .ensures)

@@ -66,8 +66,9 @@ loop2-less c = search needs
 
 loop2-again : tie.Need-loop2-again Inv-loop2 μ-loop2 Inv-loop μ-loop
 loop2-again c =
-    let l = c .before .before .before .before .loop2 in
-    let o = c .before .before .before .before .before .before in
+    let o : tie.At-loop Inv-loop2 μ-loop2 Inv-loop μ-loop = search in
+    let here : tie.At-loop2 Inv-loop2 μ-loop2 Inv-loop μ-loop = search in
+    let l = here .loop2 in
     let k = o .loop .k in
     let cs = o .before .args .t1 in (
       search needs,
@@ -90,8 +91,9 @@ loop-less c = search needs
 
 loop-again : tie.Need-loop-again Inv-loop2 μ-loop2 Inv-loop μ-loop
 loop-again c =
-    let l = c .before .before .before .before .loop2 in
-    let o = c .before .before .before .before .before .before in
+    let o : tie.At-loop Inv-loop2 μ-loop2 Inv-loop μ-loop = search in
+    let here : tie.At-loop2 Inv-loop2 μ-loop2 Inv-loop μ-loop = search in
+    let l = here .loop2 in
     let z : l .i ≡ 4 = omega arith in (
       search needs,
       search needs,

@@ -5,7 +5,6 @@ use Prim.Native.Nat.{ℕ, _-_}
 use borrow.Author.Needs.{needs}
 use Rattle.theory_laws.specs.Lists.{part}
 use Rattle.theory_blake3.specs.Chunk as B
-use Rattle.hash_four_lanes.specs.helpers.Lane as X
 use Rattle.hash_four_chunks.proofs.block_words.Statement.{statement}
 use Rattle.hash_four_chunks.proofs.block_words.Tie as tie
 

@@ -5,7 +5,6 @@ use Prim.Native.Nat.{ℕ, _-_}
 use borrow.Author.Needs.{needs}
 use Rattle.theory_laws.specs.Lists.{part}
 use Rattle.theory_blake3.specs.Chunk as B
-use Rattle.hash_four_lanes.specs.helpers.Lane as X
 use Rattle.hash_four_chunks.proofs.Laws.{four-lanes}
 use Rattle.hash_four_chunks.proofs.blocks_at.Statement.{statement}
 use Rattle.hash_four_chunks.proofs.blocks_at.Tie as tie
@@ -44,7 +43,7 @@ returns c =
     let after-store = after-block-words2 .before in
     let after-block-words = after-store .before .before in
     let a = start .args in
-    four-lanes (λ (s : List ℕ). B.block (part (a .n) (a .from) s)) (now (a .s0)) (now (a .s1)) (now (a .s2)) (now (a .s3)) _ _ _ _ _ _ _ _ _
+    four-lanes (λ (s : List ℕ). B.block (part (a .n) (a .from) s)) (now (a .s0)) (now (a .s1)) (now (a .s2)) (now (a .s3))
     (after-block-words .block-words .ensures) (after-store .store .ensures) (after-block-words2 .block-words2 .ensures)
     (after-store2 .store2 .ensures) (after-block-words3 .block-words3 .ensures) (after-store3 .store3 .ensures)
     (c .before .before .block-words4 .ensures) (c .store4 .ensures)

@@ -2,7 +2,7 @@
 use denote.Ref.{now}
 use mathlib.Core.Path.{_≡_, refl, sym, ap, _∙_}
 use mathlib.Core.List.{List}
-use Prim.Native.Nat.{ℕ, _≤_, _<_, _-_, _*_, _+_, _/_}
+use Prim.Native.Nat.{ℕ, _≤_, _<_, _-_, _*_, _+_}
 use native.Mathlib.Omega.{arith}
 use lib.ListN.{length, drop}
 use borrow.Author.Needs.{needs}
@@ -11,8 +11,8 @@ use Rattle.theory_blake3.specs.Compression as C
 use Rattle.theory_blake3.specs.Flags.{startFlag}
 use Rattle.theory_blake3.specs.Chunk as B
 use Rattle.hash_four_lanes.specs.helpers.Lane as X
-use Rattle.hash_four_chunks.specs.helpers.FourChunks.{which, Four}
-use Rattle.hash_four_chunks.proofs.Laws.{which-length, walk-turn, walk-end}
+use Rattle.hash_four_chunks.specs.helpers.FourChunks.{which}
+use Rattle.hash_four_chunks.proofs.Laws.{which-length, block-within, walk-turn, walk-end}
 use Rattle.hash_four_chunks.proofs.chunks.Statement.{statement}
 use Rattle.hash_four_chunks.proofs.chunks.Tie as tie
 
@@ -40,14 +40,7 @@ sub-loop c = omega arith
 blocks-at-requires : tie.Need-blocks-at-requires Inv-loop μ-loop
 blocks-at-requires c κs =
     let start : tie.Start Inv-loop μ-loop = search in
-    let f = start .pre in
-    record {
-      block = omega arith;
-      first = omega arith;
-      second = omega (arith, f .second);
-      third = omega (arith, f .third);
-      fourth = omega (arith, f .fourth);
-    }
+    block-within (start .pre) (omega arith) (omega arith)
 
 start-flag-requires : tie.Need-start-flag-requires Inv-loop μ-loop
 start-flag-requires c κs = search needs
@@ -68,18 +61,19 @@ loop-again : tie.Need-loop-again Inv-loop μ-loop
 loop-again c =
     let start : tie.Start Inv-loop μ-loop = search in
     let at-loop : tie.At-loop Inv-loop μ-loop = search in
+    let blocks : tie.After-blocks-at Inv-loop μ-loop = search in
+    let flag : tie.After-start-flag Inv-loop μ-loop = search in
     let l = at-loop .loop in
     let a = start .args in
-    let f = start .pre in (
+    let f = start .pre in
+    let message = which (now (a .s0)) (now (a .s1)) (now (a .s2)) (now (a .s3)) in (
       omega arith,
       omega arith,
       omega (arith, f .fits),
       λ k b y.
-          let n = which-length (a .blocks) (now (a .s0)) (now (a .s1)) (now (a .s2)) (now (a .s3)) k f in
-          walk-turn (a .flags) (l .i) (at (now (a .counters)) k) (l .from) (X.lane 8 (l .v) k) _ _
-          (which (now (a .s0)) (now (a .s1)) (now (a .s2)) (now (a .s3)) k) _ y _ (omega (arith, f .fits)) (omega (arith, n))
-          (c .before .before .before .before .blocks-at .ensures k b) (c .before .before .before .start-flag .ensures) (c .compress .ensures k b)
-          (l .inv .3 k b y),
+          walk-turn (a .flags) (l .i) (at (now (a .counters)) k) (l .from) (X.lane 8 (l .v) k) _ _ (message k) _ y _
+          (omega (arith, f .fits)) (omega (arith, which-length _ _ _ _ _ k f)) (blocks .blocks-at .ensures k b) (flag .start-flag .ensures)
+          (c .compress .ensures k b) (l .inv .3 k b y),
     )
 
 sub-n : tie.Need-sub-n Inv-loop μ-loop
@@ -88,14 +82,7 @@ sub-n c = omega arith
 blocks-at-requires-2 : tie.Need-blocks-at-requires-2 Inv-loop μ-loop
 blocks-at-requires-2 c κs =
     let start : tie.Start Inv-loop μ-loop = search in
-    let f = start .pre in
-    record {
-      block = omega arith;
-      first = omega arith;
-      second = omega (arith, f .second);
-      third = omega (arith, f .third);
-      fourth = omega (arith, f .fourth);
-    }
+    block-within (start .pre) (omega arith) (omega arith)
 
 start-flag-requires-2 : tie.Need-start-flag-requires-2 Inv-loop μ-loop
 start-flag-requires-2 c κs = search needs
@@ -110,18 +97,20 @@ returns : tie.Need-returns Inv-loop μ-loop
 returns c =
     let start : tie.Start Inv-loop μ-loop = search in
     let at-loop : tie.At-loop Inv-loop μ-loop = search in
+    let blocks : tie.After-blocks-at2 Inv-loop μ-loop = search in
+    let flag : tie.After-start-flag2 Inv-loop μ-loop = search in
     let after-spread = at-loop .before in
     let l = at-loop .loop in
     let a = start .args in
-    let f = start .pre in
+    let message = which (now (a .s0)) (now (a .s1)) (now (a .s2)) (now (a .s3)) in
+    let whole : List ℕ → ℕ → List ℕ = λ h k.
+    C.cv (B.chunkFrom (a .flags) (15 - a .blocks) h (startFlag (a .blocks)) (at (now (a .counters)) k) (message k) (a .x)) in
     λ k b.
-    let n = which-length (a .blocks) (now (a .s0)) (now (a .s1)) (now (a .s2)) (now (a .s3)) k f in
-    walk-end (a .flags) (l .i) (at (now (a .counters)) k) (l .from) (length (now (a .s0)) - l .from) (X.lane 8 (l .v) k) _ _
-    (which (now (a .s0)) (now (a .s1)) (now (a .s2)) (now (a .s3)) k) _ (a .x) _ (ap (λ (z : ℕ). z - l .from) (sym n)) (omega arith)
-    (c .before .before .before .before .blocks-at2 .ensures k b) (c .before .before .before .start-flag2 .ensures) (c .compress2 .ensures k b)
-    (l .inv .3 k b (a .x))
-    ∙ ap (λ (z : List ℕ). C.cv (B.chunkFrom (a .flags) (15 - a .blocks) z (startFlag (a .blocks)) (at (now (a .counters)) k)
-    (which (now (a .s0)) (now (a .s1)) (now (a .s2)) (now (a .s3)) k) (a .x))) (after-spread .spread .ensures k b)
+    let n = which-length _ _ _ _ _ k (start .pre) in
+    walk-end (a .flags) (l .i) (at (now (a .counters)) k) (l .from) _ (X.lane 8 (l .v) k) _ _ (message k) _ (a .x) _
+    (ap (λ (z : ℕ). z - l .from) (sym n)) (omega arith) (blocks .blocks-at2 .ensures k b) (flag .start-flag2 .ensures)
+    (c .compress2 .ensures k b) (l .inv .3 k b (a .x))
+    ∙ ap (λ (h : List ℕ). whole h k) (after-spread .spread .ensures k b)
 
 pub chunks-spec : {M : Type 1} → statement M
 chunks-spec =

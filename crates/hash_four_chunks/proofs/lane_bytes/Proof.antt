@@ -1,14 +1,8 @@
 -- `hash_four_chunks::lane_bytes` meets its contract.
-use denote.Ref.{now}
-use mathlib.Core.Path.{_≡_, refl, sym, ap, _∙_}
-use mathlib.Core.List.{List}
-use Prim.Native.Nat.{ℕ, _≤_, _<_, _-_, _*_, _+_, _/_}
-use native.Mathlib.Omega.{arith}
-use lib.ListN.{length, length-set, drop}
+use mathlib.Core.Path.{ap, _∙_}
+use Prim.Native.Nat.{_-_}
 use borrow.Author.Needs.{needs}
-use Rattle.theory_blake3.specs.Chunk as B
 use Rattle.theory_blake3.specs.Digest.{bytesOfWords32}
-use Rattle.hash_four_lanes.specs.helpers.Lane as X
 use Rattle.hash_four_chunks.proofs.lane_bytes.Statement.{statement}
 use Rattle.hash_four_chunks.proofs.lane_bytes.Tie as tie
 

@@ -1,14 +1,10 @@
 -- `hash_four_chunks::spread`: place by place.
-use denote.Ref.{now}
-use mathlib.Core.Path.{_≡_, refl, sym, ap, _∙_}
-use mathlib.Core.List.{List}
-use Prim.Native.Nat.{ℕ, _≤_, _<_, _-_, _*_, _+_, _/_}
+use mathlib.Core.Path.{_≡_, refl}
+use Prim.Native.Nat.{ℕ, _≤_, _<_, _-_, _/_}
 use native.Mathlib.Omega.{arith}
 use lib.ListN.{length, length-set}
 use Rattle.theory_laws.specs.Table.{at}
 use Rattle.theory_laws.proofs.Updates.{fill-step}
-use Rattle.theory_blake3.specs.Chunk as B
-use Rattle.hash_four_lanes.specs.helpers.Lane as X
 use Rattle.hash_four_chunks.proofs.Laws.{spread-law}
 use Rattle.hash_four_chunks.proofs.spread.Statement.{statement}
 use Rattle.hash_four_chunks.proofs.spread.Tie as tie

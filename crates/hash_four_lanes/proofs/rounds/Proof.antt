@@ -1,12 +1,10 @@
 -- `hash_four_lanes::rounds`: in each lane, what the orders that are left would do to the state is what all of them do to the first.
-use denote.Ref.{now}
-use mathlib.Core.Path.{_≡_, refl, sym, ap, ap₂, _∙_}
+use mathlib.Core.Path.{_≡_, refl, ap, _∙_}
 use mathlib.Core.List.{List, []}
-use Prim.Native.Nat.{ℕ, _≤_, _<_, _-_, _*_, _+_}
+use Prim.Native.Nat.{ℕ, _≤_, _<_, _-_}
 use native.Mathlib.Omega.{arith}
 use lib.ListN.{length, drop, getD}
-use Rattle.theory_laws.specs.Table.{tab, at}
-use Rattle.theory_blake3.specs.Compression as C
+use Rattle.theory_laws.specs.Table.{tab}
 use Rattle.theory_blake3.specs.Orders as O
 use Rattle.hash_four_lanes.specs.helpers.Lane as X
 use Rattle.theory_blake3.proofs.Compression.{rounds-step}

@@ -1,11 +1,10 @@
 -- `hash_four_lanes::store`: the words go to the places of lane l, and no other place is written.
 use denote.Ref.{now}
-use mathlib.Core.Path.{_≡_, refl, sym, ap, _∙_}
+use mathlib.Core.Path.{_≡_, refl, sym}
 use Prim.Native.Nat.{ℕ, _≤_, _<_, _-_, _*_, _+_}
 use native.Mathlib.Omega.{arith}
 use lib.ListN.{length, length-set}
-use Rattle.theory_laws.specs.Table.{tab, at}
-use Rattle.theory_laws.proofs.Updates.{fill-step}
+use Rattle.theory_laws.specs.Table.{at}
 use Rattle.hash_four_lanes.proofs.Laws.{lane-ext, lane-all, store-at, store-other}
 use Rattle.hash_four_lanes.proofs.store.Statement.{statement}
 use Rattle.hash_four_lanes.proofs.store.Tie as tie

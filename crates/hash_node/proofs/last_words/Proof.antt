@@ -9,10 +9,6 @@ use Rattle.hash_node.proofs.Laws.{padded-words}
 use borrow.Author.Needs.{needs}
 use Rattle.hash_node.proofs.last_words.Statement.{statement}
 use Rattle.hash_node.proofs.last_words.Tie as tie
-use Rattle.hash_node.proofs.last_words.Reads as reads
-use Rattle.hash_node.proofs.last_words.Lts as lts
-use Rattle.hash_node.proofs.filled.Reads as filled-reads
-use Rattle.hash_node.proofs.words_at.Reads as words-at-reads
 
 -- src/lib.rt:79:13
 filled-requires : tie.Need-filled-requires

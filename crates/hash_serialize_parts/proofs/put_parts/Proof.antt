@@ -14,13 +14,15 @@ abbrev μ-loop : tie.MeasureT-loop
 μ-loop bytes lengths out₀ to₀ from₀ i₀ out to from i = length lengths - i
 
 put-number-requires : tie.Need-put-number-requires Inv-loop μ-loop
-put-number-requires c κs = let start = c .before .before .before .before in omega (arith, start .pre .size)
+put-number-requires c κs =
+    let start : tie.Start Inv-loop μ-loop = search in
+    omega (arith, start .pre .size)
 
 loop-holds : tie.Need-loop-holds Inv-loop μ-loop
 loop-holds c =
-    let put = c .before .before in
-    let start = put .before .before .before .before .before in
-    (refl, left-begin _ _ _ _ _ (start .pre) (put .put-number .ensures))
+    let start : tie.Start Inv-loop μ-loop = search in
+    let put : tie.After-put-number Inv-loop μ-loop = search in
+    (refl, left-begin (start .pre) (put .put-number .ensures))
 
 mul-end : tie.Need-mul-end Inv-loop μ-loop
 mul-end c = omega arith
@@ -31,28 +33,28 @@ shared-slice-read-end c = omega arith
 add-end : tie.Need-add-end Inv-loop μ-loop
 add-end c =
     let turn = c .before in
-    omega (arith, left-room _ _ _ _ _ _ (turn .loop-test .taken) (turn .before .loop .inv .1))
+    omega (arith, left-room (turn .loop-test .taken) (turn .before .loop .inv .1))
 
 sub-put-part : tie.Need-sub-put-part Inv-loop μ-loop
 sub-put-part c =
     let turn = c .before .before in
-    omega (arith, left-room _ _ _ _ _ _ (turn .loop-test .taken) (turn .before .loop .inv .1))
+    omega (arith, left-room (turn .loop-test .taken) (turn .before .loop .inv .1))
 
 part-put-part-start : tie.Need-part-put-part-start Inv-loop μ-loop
 part-put-part-start c =
     let turn = c .before .before in
-    omega (arith, left-room _ _ _ _ _ _ (turn .loop-test .taken) (turn .before .loop .inv .1))
+    omega (arith, left-room (turn .loop-test .taken) (turn .before .loop .inv .1))
 
 part-put-part-end : tie.Need-part-put-part-end Inv-loop μ-loop
 part-put-part-end c =
     let turn = c .before .before in
-    omega (arith, left-room _ _ _ _ _ _ (turn .loop-test .taken) (turn .before .loop .inv .1))
+    omega (arith, left-room (turn .loop-test .taken) (turn .before .loop .inv .1))
 
 put-part-requires : tie.Need-put-part-requires Inv-loop μ-loop
 put-part-requires c κs =
     let turn = c .before .before .before in
-    let room = left-room _ _ _ _ _ _ (turn .loop-test .taken) (turn .before .loop .inv .1) in
-    omega (arith, part-length _ _ _ _ _ _ room)
+    let room = left-room (turn .loop-test .taken) (turn .before .loop .inv .1) in
+    omega (arith, part-length room)
 
 add-i : tie.Need-add-i Inv-loop μ-loop
 add-i c = omega arith
@@ -65,13 +67,13 @@ loop-again c =
     let put = c .before .before in
     let turn = put .before .before .before .before in
     let here = turn .before .loop in
-    (put .put-part .kept .0 ∙ here .inv .0, left-turn _ _ _ _ _ _ _ _ _ (turn .loop-test .taken) (here .inv .1) refl (put .put-part .ensures))
+    (put .put-part .kept .0 ∙ here .inv .0, left-turn (turn .loop-test .taken) (here .inv .1) refl (put .put-part .ensures))
 
 same-length : tie.Need-same-length Inv-loop μ-loop
 same-length c = omega (arith, c .before .loop .inv .0)
 
 returns : tie.Need-returns Inv-loop μ-loop
-returns c = left-end _ _ _ _ _ _ (c .loop-test .left) (c .before .loop .inv .1)
+returns c = left-end (c .loop-test .left) (c .before .loop .inv .1)
 
 pub put-parts-spec : {M : Type 1} → statement M
 put-parts-spec =

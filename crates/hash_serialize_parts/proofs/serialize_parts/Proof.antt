@@ -18,7 +18,12 @@ same-length : tie.Need-same-length
 same-length c = search needs
 
 returns-2 : tie.Need-returns-2
-returns-2 c = (sym (c .before .before .before .before .if1 .left) ∙ c .before .before .before .before .before .number .ensures, out-done _ _ _ _ (c .before .before .before .before .before .number .ensures) (c .before .before .before .before .if1 .left) (c .before .before .put-parts .ensures))
+returns-2 c =
+    let asked : tie.After-number = search in
+    let taken : tie.Else1 = search in
+    let put : tie.After-put-parts = search in
+    let yes = taken .if1 .left in
+    (sym yes ∙ asked .number .ensures, out-done _ _ _ _ (asked .number .ensures) yes (put .put-parts .ensures))
 
 pub serialize-parts-spec : {M : Type 1} → statement M
 serialize-parts-spec =

@@ -9,7 +9,8 @@ use Rattle.hash_stack.proofs.joined.Statement.{statement}
 use Rattle.hash_stack.proofs.joined.Tie as tie
 
 abbrev Inv-loop : tie.InvT-loop
-Inv-loop key flags stack depth count u₀ top₀ left₀ u top left = (left ≤ top) × (top ≤ depth) × (S.joined key flags left stack top u ≡ S.joined key flags count stack depth u₀)
+Inv-loop key flags stack depth count u₀ top₀ left₀ u top left =
+    (left ≤ top) × (top ≤ depth) × (S.joined key flags left stack top u ≡ S.joined key flags count stack depth u₀)
 
 abbrev μ-loop : tie.MeasureT-loop
 μ-loop key flags stack depth count u₀ top₀ left₀ u top left = left
@@ -40,8 +41,12 @@ loop-less c = omega arith
 
 loop-again : tie.Need-loop-again Inv-loop μ-loop
 loop-again c =
-    let l = c .before .before .before .before .loop in
-    (omega arith, omega arith, joined-turn _ _ (l .left) (l .top) _ _ _ _ _ _ (omega arith) (c .before .before .entry .ensures) (c .before .parent .ensures 0) (c .value .ensures) (l .inv .2))
+    let l = c .before .before .before .before .loop in (
+      omega arith,
+      omega arith,
+      joined-turn _ _ (l .left) (l .top) _ _ _ _ _ _ (omega arith)
+          (c .before .before .entry .ensures) (c .before .parent .ensures 0) (c .value .ensures) (l .inv .2),
+    )
 
 returns : tie.Need-returns Inv-loop μ-loop
 returns c =

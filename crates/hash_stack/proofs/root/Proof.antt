@@ -10,7 +10,9 @@ use Rattle.hash_stack.proofs.root.Statement.{statement}
 use Rattle.hash_stack.proofs.root.Tie as tie
 
 abbrev Inv-loop : tie.InvT-loop
-Inv-loop key flags stack depth r₀ top₀ r top = (top ≤ depth) × ((x : ℕ) → B.fold key flags (B.entries stack top) (outOf r) x ≡ B.fold key flags (B.entries stack depth) (outOf r₀) x)
+Inv-loop key flags stack depth r₀ top₀ r top =
+    (top ≤ depth)
+    × ((x : ℕ) → B.fold key flags (B.entries stack top) (outOf r) x ≡ B.fold key flags (B.entries stack depth) (outOf r₀) x)
 
 abbrev μ-loop : tie.MeasureT-loop
 μ-loop key flags stack depth r₀ top₀ r top = top
@@ -41,7 +43,8 @@ loop-again c =
     let l = c .before .before .before .before .loop in (
       omega arith,
       λ x.
-          fold-turn _ _ _ (l .top) _ _ (outOf (l .r)) (outOf (c .parent .result)) x (omega arith) (c .before .before .entry .ensures) (c .before .value .ensures) (c .parent .ensures) ∙ l .inv .1 x,
+          fold-turn _ _ _ (l .top) _ _ (outOf (l .r)) (outOf (c .parent .result)) x (omega arith)
+          (c .before .before .entry .ensures) (c .before .value .ensures) (c .parent .ensures) ∙ l .inv .1 x,
     )
 
 returns : tie.Need-returns Inv-loop μ-loop

@@ -1,3 +1,4 @@
+-- `record_opening::leads_to` meets its contract.
 use Rattle.theory_record.proofs.Widths.{present-powers}
 use native.Mathlib.Omega.{arith}
 use Rattle.tree_digest.proofs.Messages.{message-length, prefix-is}
@@ -5,13 +6,6 @@ use Rattle.record_opening.proofs.Levels.{width-most, sized-room, domain
 use borrow.Author.Needs.{needs}
 use Rattle.record_opening.proofs.leads_to.Statement.{statement}
 use Rattle.record_opening.proofs.leads_to.Tie as tie
-use Rattle.record_opening.proofs.leads_to.Reads as reads
-use Rattle.record_opening.proofs.leads_to.Lts as lts
-use Rattle.code_level.proofs.level_depth.Reads as level-depth-reads
-use Rattle.code_level.proofs.level_domain.Reads as level-domain-reads
-use Rattle.code_level.proofs.level_length.Reads as level-length-reads
-use Rattle.code_level.proofs.level_width.Reads as level-width-reads
-use Rattle.record_opening.proofs.root_from.Reads as root-from-reads
 
 slice-aggregate-level-domain : tie.Need-slice-aggregate-level-domain
 slice-aggregate-level-domain c = search needs
@@ -29,22 +23,48 @@ level-depth-requires : tie.Need-level-depth-requires
 level-depth-requires c κs = search needs
 
 array-share-prefix-domain : tie.Need-array-share-prefix-domain
-array-share-prefix-domain c = let h = sized-room _ present-powers (width-most _ _) _ _ _ _ (c .before .before .before .before .before .before .before .before .pre) in search needs
+array-share-prefix-domain c =
+    let start : tie.Start = search in
+    let h = sized-room _ present-powers (width-most _ _) _ _ _ _ (start .pre) in
+    search needs
 
 slice-aggregate-root-from : tie.Need-slice-aggregate-root-from
-slice-aggregate-root-from c = let h = sized-room _ present-powers (width-most _ _) _ _ _ _ (c .before .before .before .before .before .before .before .before .before .pre) in message-length _ _ _ _ _ _ (c .before .before .before .before .before .level-domain .ensures) (omega arith)
+slice-aggregate-root-from c =
+    let start : tie.Start = search in
+    let domain : tie.After-level-domain = search in
+    let h = sized-room _ present-powers (width-most _ _) _ _ _ _ (start .pre) in
+    message-length _ _ _ _ _ _ (domain .level-domain .ensures) (omega arith)
 
 add-root-from : tie.Need-add-root-from
-add-root-from c = let h = sized-room _ present-powers (width-most _ _) _ _ _ _ (c .before .before .before .before .before .before .before .before .before .pre) in search needs
+add-root-from c =
+    let start : tie.Start = search in
+    let h = sized-room _ present-powers (width-most _ _) _ _ _ _ (start .pre) in
+    search needs
 
 add-root-from-2 : tie.Need-add-root-from-2
-add-root-from-2 c = let h = sized-room _ present-powers (width-most _ _) _ _ _ _ (c .before .before .before .before .before .before .before .before .before .pre) in search needs
+add-root-from-2 c =
+    let start : tie.Start = search in
+    let h = sized-room _ present-powers (width-most _ _) _ _ _ _ (start .pre) in
+    search needs
 
 root-from-requires : tie.Need-root-from-requires
-root-from-requires c κs = let h = sized-room _ present-powers (width-most _ _) _ _ _ _ (c .before .before .before .before .before .before .before .before .before .pre) in (domain-room _ _ _ _ _ (c .before .before .before .before .before .level-domain .ensures) (omega arith) (h .domain-short), omega arith, omega arith, omega arith, omega arith)
+root-from-requires c κs =
+    let start : tie.Start = search in
+    let domain : tie.After-level-domain = search in
+    let h = sized-room _ present-powers (width-most _ _) _ _ _ _ (start .pre) in
+    (domain-room _ _ _ _ _ (domain .level-domain .ensures) (omega arith) (h .domain-short), omega arith, omega arith, omega arith, omega arith)
 
 returns : tie.Need-returns
-returns c = let p = c .before .before .before .before .before .before .before .before .before .before .pre in let h = sized-room _ present-powers (width-most _ _) _ _ _ _ p in leads-is _ _ _ _ _ _ _ _ _ _ _ p (c .root-from .ensures) (prefix-is _ _ _ _ _ (c .before .before .before .before .before .before .level-domain .ensures) (omega arith)) (c .before .before .before .before .level-length .ensures) (c .before .before .before .level-width .ensures) (c .before .before .level-depth .ensures)
+returns c =
+    let start : tie.Start = search in
+    let domain : tie.After-level-domain = search in
+    let count : tie.After-level-length = search in
+    let width : tie.After-level-width = search in
+    let depth : tie.After-level-depth = search in
+    let p = start .pre in
+    let h = sized-room _ present-powers (width-most _ _) _ _ _ _ p in
+    leads-is _ _ _ _ _ _ _ _ _ _ _ p (c .root-from .ensures) (prefix-is _ _ _ _ _ (domain .level-domain .ensures) (omega arith))
+    (count .level-length .ensures) (width .level-width .ensures) (depth .level-depth .ensures)
 
 pub leads-to-spec : {M : Type 1} → statement M
 leads-to-spec =

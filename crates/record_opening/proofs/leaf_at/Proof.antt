@@ -1,15 +1,10 @@
+-- `record_opening::leaf_at` meets its contract.
 use native.Mathlib.Omega.{arith}
-use mathlib.Core.Path.{sym}
 use Rattle.tree_digest.proofs.Messages.{leaf-hashed}
 use Rattle.record_opening.proofs.Values.{halves-long, halves-back, leaf-of-values}
 use borrow.Author.Needs.{needs}
 use Rattle.record_opening.proofs.leaf_at.Statement.{statement}
 use Rattle.record_opening.proofs.leaf_at.Tie as tie
-use Rattle.record_opening.proofs.leaf_at.Reads as reads
-use Rattle.record_opening.proofs.leaf_at.Lts as lts
-use Rattle.tree_digest.proofs.hash_group.Reads as hash-group-reads
-use Rattle.tree_message.proofs.leaf_prefix.Reads as leaf-prefix-reads
-use Rattle.record_opening.proofs.group_values.Reads as group-values-reads
 
 group-values-requires : tie.Need-group-values-requires
 group-values-requires c κs = search needs
@@ -36,7 +31,11 @@ hash-group-requires : tie.Need-hash-group-requires
 hash-group-requires c κs = (search halves-back, search needs, search needs)
 
 returns : tie.Need-returns
-returns c = leaf-of-values _ _ _ _ _ _ _ (leaf-hashed _ _ _ _ _ _ _ _ _ _ (c .before .before .before .before .before .leaf-prefix .ensures) (omega arith) (c .before .hash-group .ensures)) (c .before .before .before .before .before .before .before .group-values .ensures)
+returns c =
+    let read : tie.After-group-values = search in
+    let begun : tie.After-leaf-prefix = search in
+    leaf-of-values _ _ _ _ _ _ _ (leaf-hashed _ _ _ _ _ _ _ _ _ _ (begun .leaf-prefix .ensures) (omega arith) (c .before .hash-group .ensures))
+    (read .group-values .ensures)
 
 pub leaf-at-spec : {M : Type 1} → statement M
 leaf-at-spec =

@@ -1,14 +1,9 @@
+-- `record_opening::opening_again` meets its contract.
 use Rattle.theory_record.proofs.Widths.{present-powers}
 use Rattle.record_opening.proofs.Again.{sized-old, again-right, even-width}
 use borrow.Author.Needs.{needs}
 use Rattle.record_opening.proofs.opening_again.Statement.{statement}
 use Rattle.record_opening.proofs.opening_again.Tie as tie
-use Rattle.record_opening.proofs.opening_again.Reads as reads
-use Rattle.record_opening.proofs.opening_again.Lts as lts
-use Rattle.code_level.proofs.level_depth.Reads as level-depth-reads
-use Rattle.code_level.proofs.level_width.Reads as level-width-reads
-use Rattle.record_opening.proofs.opening_number.Reads as opening-number-reads
-use Rattle.record_opening.proofs.same_opening.Reads as same-opening-reads
 
 level-width-requires : tie.Need-level-width-requires
 level-width-requires c κs = search needs
@@ -17,10 +12,21 @@ level-depth-requires : tie.Need-level-depth-requires
 level-depth-requires c κs = search needs
 
 same-opening-requires : tie.Need-same-opening-requires
-same-opening-requires c κs = let p = c .before .before .before .before .pre in let ew = c .before .level-width .ensures in (p .0 .group-fits, p .0 .path-fits, even-width _ present-powers _ _ _ _ (p .1) ew, λ e. sized-old _ _ _ _ _ _ (p .3 e) _ _ ew (c .level-depth .ensures))
+same-opening-requires c κs =
+    let start : tie.Start = search in
+    let p = start .pre in
+    let ew = c .before .level-width .ensures in (
+      p .0 .group-fits,
+      p .0 .path-fits,
+      even-width _ present-powers _ _ _ _ (p .1) ew,
+      λ e. sized-old _ _ _ _ _ _ (p .3 e) _ _ ew (c .level-depth .ensures),
+    )
 
 returns : tie.Need-returns
-returns c = let e = c .before .same-opening .ensures (c .if1 .taken) in again-right _ _ _ _ _ _ (c .before .before .before .before .before .before .pre .3 (e .known)) _ _ _ e
+returns c =
+    let start : tie.Start = search in
+    let e = c .before .same-opening .ensures (c .if1 .taken) in
+    again-right _ _ _ _ _ _ (start .pre .3 (e .known)) _ _ _ e
 
 opening-number-requires : tie.Need-opening-number-requires
 opening-number-requires c κs = search needs

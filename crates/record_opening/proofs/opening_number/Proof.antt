@@ -1,14 +1,8 @@
+-- `record_opening::opening_number` meets its contract.
 use Rattle.record_opening.proofs.Numbers.{wrong-width, wrong-depth, wrong-root, all-right, now-sized}
 use borrow.Author.Needs.{needs}
 use Rattle.record_opening.proofs.opening_number.Statement.{statement}
 use Rattle.record_opening.proofs.opening_number.Tie as tie
-use Rattle.record_opening.proofs.opening_number.Reads as reads
-use Rattle.record_opening.proofs.opening_number.Lts as lts
-use Rattle.code_level.proofs.level_depth.Reads as level-depth-reads
-use Rattle.code_level.proofs.level_width.Reads as level-width-reads
-use Rattle.record_opening.proofs.leads_to.Reads as leads-to-reads
-use Rattle.record_opening.proofs.same_digest.Reads as same-digest-reads
-use Rattle.record_reader.proofs.count_at.Reads as count-at-reads
 
 count-at-requires : tie.Need-count-at-requires
 count-at-requires c κs = search needs
@@ -29,10 +23,17 @@ add-result : tie.Need-add-result
 add-result c = search needs
 
 returns-2 : tie.Need-returns-2
-returns-2 c = wrong-depth _ _ _ _ _ _ _ _ _ _ _ _ (c .before .before .before .before .before .count-at .ensures .0) (c .before .before .before .before .level-width .ensures) (c .before .before .before .if1 .left) (c .before .before .count-at2 .ensures .0) (c .before .level-depth .ensures) (c .if2 .taken)
+returns-2 c =
+    let wide : tie.Else1 = search in
+    wrong-depth _ _ _ _ _ _ _ _ _ _ _ _ (wide .before .before .count-at .ensures .0) (wide .before .level-width .ensures) (wide .if1 .left)
+    (c .before .before .count-at2 .ensures .0) (c .before .level-depth .ensures) (c .if2 .taken)
 
 leads-to-requires : tie.Need-leads-to-requires
-leads-to-requires c κs = now-sized _ _ _ _ _ _ _ _ _ (c .before .before .before .before .before .before .before .before .pre .0) (c .before .before .before .before .before .count-at .ensures .0) (c .before .before .before .before .level-width .ensures) (c .before .before .before .if1 .left) (c .before .before .count-at2 .ensures .0) (c .before .level-depth .ensures) (c .if2 .left)
+leads-to-requires c κs =
+    let start : tie.Start = search in
+    let wide : tie.Else1 = search in
+    now-sized _ _ _ _ _ _ _ _ _ (start .pre .0) (wide .before .before .count-at .ensures .0) (wide .before .level-width .ensures) (wide .if1 .left)
+    (c .before .before .count-at2 .ensures .0) (c .before .level-depth .ensures) (c .if2 .left)
 
 same-digest-requires : tie.Need-same-digest-requires
 same-digest-requires c κs = search needs
@@ -41,10 +42,20 @@ add-result-2 : tie.Need-add-result-2
 add-result-2 c = search needs
 
 returns-3 : tie.Need-returns-3
-returns-3 c = wrong-root _ _ _ _ _ _ _ _ _ _ _ _ (c .before .before .before .before .before .before .before .before .count-at .ensures .0) (c .before .before .before .before .before .before .before .level-width .ensures) (c .before .before .before .before .before .before .if1 .left) (c .before .before .before .before .before .count-at2 .ensures .0) (c .before .before .before .before .level-depth .ensures) (c .before .before .before .if2 .left) _ _ (c .before .before .leads-to .ensures) (c .before .same-digest .ensures) (c .if3 .taken)
+returns-3 c =
+    let wide : tie.Else1 = search in
+    let deep : tie.Else2 = search in
+    wrong-root _ _ _ _ _ _ _ _ _ _ _ _ (wide .before .before .count-at .ensures .0) (wide .before .level-width .ensures) (wide .if1 .left)
+    (deep .before .before .count-at2 .ensures .0) (deep .before .level-depth .ensures) (deep .if2 .left) _ _ (c .before .before .leads-to .ensures)
+    (c .before .same-digest .ensures) (c .if3 .taken)
 
 returns-4 : tie.Need-returns-4
-returns-4 c = all-right _ _ _ _ _ _ _ _ _ _ _ _ (c .before .before .before .before .before .before .before .before .count-at .ensures .0) (c .before .before .before .before .before .before .before .level-width .ensures) (c .before .before .before .before .before .before .if1 .left) (c .before .before .before .before .before .count-at2 .ensures .0) (c .before .before .before .before .level-depth .ensures) (c .before .before .before .if2 .left) _ _ (c .before .before .leads-to .ensures) (c .before .same-digest .ensures) (c .if3 .left)
+returns-4 c =
+    let wide : tie.Else1 = search in
+    let deep : tie.Else2 = search in
+    all-right _ _ _ _ _ _ _ _ _ _ _ _ (wide .before .before .count-at .ensures .0) (wide .before .level-width .ensures) (wide .if1 .left)
+    (deep .before .before .count-at2 .ensures .0) (deep .before .level-depth .ensures) (deep .if2 .left) _ _ (c .before .before .leads-to .ensures)
+    (c .before .same-digest .ensures) (c .if3 .left)
 
 pub opening-number-spec : {M : Type 1} → statement M
 opening-number-spec =

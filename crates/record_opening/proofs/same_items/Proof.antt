@@ -1,3 +1,4 @@
+-- `record_opening::same_items` meets its contract. The loop's invariant: the items so far are the same.
 use Rattle.record_opening.proofs.Again.{no-claim, items-begin, items-step, items-end}
 use Prim.Native.Nat.{_-_, _*_, _≤_}
 use mathlib.Core.Path.{_≡_}
@@ -5,9 +6,6 @@ use Rattle.theory_laws.specs.Lists.{part}
 use borrow.Author.Needs.{needs}
 use Rattle.record_opening.proofs.same_items.Statement.{statement}
 use Rattle.record_opening.proofs.same_items.Tie as tie
-use Rattle.record_opening.proofs.same_items.Reads as reads
-use Rattle.record_opening.proofs.same_items.Lts as lts
-use Rattle.record_opening.proofs.same_digest.Reads as same-digest-reads
 
 abbrev Inv-loop : tie.InvT-loop
 Inv-loop s i j count t₀ t = (t ≤ count) × (part (32 * t) i s ≡ part (32 * t) j s)
@@ -49,7 +47,12 @@ loop-less : tie.Need-loop-less Inv-loop μ-loop
 loop-less c = search needs
 
 loop-again : tie.Need-loop-again Inv-loop μ-loop
-loop-again c = (search needs, items-step _ _ _ _ (c .before .before .before .before .before .loop .inv .1) _ _ _ (c .before .before .before .digest-at .ensures) (c .before .before .digest-at2 .ensures) (c .before .same-digest .ensures) (c .if1 .left))
+loop-again c =
+    let asked = c .before in
+    let second = asked .before in
+    let first = second .before in
+    let q = first .before .before .loop .inv in
+    (search needs, items-step _ _ _ _ (q .1) _ _ _ (first .digest-at .ensures) (second .digest-at2 .ensures) (asked .same-digest .ensures) (c .if1 .left))
 
 returns-2 : tie.Need-returns-2 Inv-loop μ-loop
 returns-2 c = λ e. items-end _ _ _ _ (c .before .loop .inv .1) _ (c .before .loop .inv .0) (c .loop-test .left)

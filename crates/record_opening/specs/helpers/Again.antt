@@ -10,18 +10,18 @@ use Rattle.record_opening.specs.helpers.Opening.{valuesAt, digestsAt}
 
 -- the known group and path are all there, of this width and depth
 pub record SizedOld (s : List ℕ) (old : Opened) (width depth : ℕ) : Type 0 where
-  pub group-fits : runFits 16 (drop (old .group) s) ≡ true
-  pub path-fits : runFits 32 (drop (old .path) s) ≡ true
-  pub width-is : runCount (drop (old .group) s) ≡ width
-  pub depth-is : runCount (drop (old .path) s) ≡ depth
+  pub group-fits : runFits 16 (drop (old .«group_at») s) ≡ true
+  pub path-fits : runFits 32 (drop (old .«path_at») s) ≡ true
+  pub width-is : runCount (drop (old .«group_at») s) ≡ width
+  pub depth-is : runCount (drop (old .«path_at») s) ≡ depth
 
--- a group and a path at two places of s are all there, the width is even, and so is what is known
+-- a group and a path at two bytes of s are all there, the width is even, and so is what is known
 abbrev pub OldThere : List ℕ → ℕ → ℕ → Opened → ℕ → ℕ → Type 0
 OldThere s group path old width depth =
     (runFits 16 (drop group s) ≡ true) × (runFits 32 (drop path s) ≡ true) × (width ≡ 2 * (width / 2)) × (old .known ≡ true → SizedOld s old width depth)
 
--- the opening is known, and its values and digests are those at two places of s
+-- the opening is known, and its values and digests are those at two bytes of s
 pub record Same (s : List ℕ) (group path : ℕ) (old : Opened) : Type 0 where
   pub known : old .known ≡ true
-  pub values-same : valuesAt s group ≡ valuesAt s (old .group)
-  pub digests-same : digestsAt s path ≡ digestsAt s (old .path)
+  pub values-same : valuesAt s group ≡ valuesAt s (old .«group_at»)
+  pub digests-same : digestsAt s path ≡ digestsAt s (old .«path_at»)

@@ -1,4 +1,4 @@
--- A group and a path of a record by the places at which they stand, and the three questions put to both (SPECIFICATION 8.2, 16 to 18, 22 to
+-- A group and a path of a record by the bytes at which they begin, and the three questions put to both (SPECIFICATION 8.2, 16 to 18, 22 to
 -- 24, 28 to 30). Rests on the format of records and on the levels' widths and trees.
 use Prim.Native.Nat.{ℕ, _+_, _*_, _≤_, _<_}
 use mathlib.Core.Path.{_≡_}
@@ -15,18 +15,18 @@ use Rattle.theory_record.specs.Format.{runCount, runFits, runItems}
 use Rattle.record_opening.specs.declared.Opened.{Opened}
 use Rattle.theory_record.specs.Scheme.{Scheme, widthAt, depthAt}
 
--- c values from a place of s on
+-- c values from a byte of s on
 unfoldable pub valuesFrom : List ℕ → ℕ → ℕ → List ℕ
 valuesFrom s i c = map leValue (runs 16 c (drop i s))
 
--- the values and the digests of the counted runs at a place of s
+-- the values and the digests of the counted runs at a byte of s
 unfoldable pub valuesAt : List ℕ → ℕ → List ℕ
 valuesAt s i = map leValue (runItems 16 (drop i s))
 
 unfoldable pub digestsAt : List ℕ → ℕ → List (List ℕ)
 digestsAt s i = runItems 32 (drop i s)
 
--- the root that the group of a place, whose values stand from one place of s on, and the digests from another lead to
+-- the root that the group of a place, whose values stand from one byte of s on, and the digests from another lead to
 abbrev pub rootFrom : List ℕ → ℕ → ℕ → ℕ → List ℕ → ℕ → ℕ → ℕ → List ℕ
 rootFrom domain count width place s from path depth = rootOfPath hash domain count width place (valuesFrom s from width) (runs 32 depth (drop path s))
 
@@ -34,7 +34,7 @@ rootFrom domain count width place s from path depth = rootOfPath hash domain cou
 abbrev pub WayThere : ℕ → ℕ → ℕ → ℕ → ℕ → ℕ → Type 0
 WayThere domain width s from path depth = (domain ≤ 255) × (0 < width) × (width ≤ 8) × (from + 16 * width ≤ s) × (path + 32 * depth ≤ s)
 
--- the group and the path at two places of s are all there, and n, k, the level and the base domain are in their ranges
+-- the group and the path at two bytes of s are all there, and n, k, the level and the base domain are in their ranges
 pub record Readable (S : Scheme) (l : ℕ) (s : List ℕ) (group path : ℕ) : Type 0 where
   pub n-most : S .n ≤ 20
   pub k-most : S .k ≤ 4
@@ -60,11 +60,15 @@ openingQuestions S l place values path root first =
 unfoldable pub openingNumber : Scheme → ℕ → ℕ → List ℕ → List (List ℕ) → List ℕ → ℕ → ℕ
 openingNumber S l place values path root first = firstNo (openingQuestions S l place values path root first)
 
--- put to the group and the path at two places of s
+-- the root that the group and the path at two bytes of s lead to
+abbrev pub leadsAt : Scheme → ℕ → ℕ → List ℕ → ℕ → ℕ → List ℕ
+leadsAt S l place s group path = leadsTo S l place (valuesAt s group) (digestsAt s path)
+
+-- the questions put to both
 abbrev pub numberAt : Scheme → ℕ → ℕ → List ℕ → ℕ → ℕ → List ℕ → ℕ → ℕ
 numberAt S l place s group path root first = openingNumber S l place (valuesAt s group) (digestsAt s path) root first
 
--- the group and the path at two places of s are all there, and every one of these questions has its yes
+-- the group and the path at two bytes of s are all there, and every one of these questions has its yes
 pub record Leads (S : Scheme) (l place : ℕ) (s : List ℕ) (group path : ℕ) (root : List ℕ) : Type 0 where
   pub group-fits : runFits 16 (drop group s) ≡ true
   pub path-fits : runFits 32 (drop path s) ≡ true
@@ -74,7 +78,7 @@ pub record Leads (S : Scheme) (l place : ℕ) (s : List ℕ) (group path : ℕ) 
 
 -- where an opening is known, that is so of it
 abbrev pub Known : Scheme → ℕ → ℕ → List ℕ → Opened → List ℕ → Type 0
-Known S l place s old root = old .known ≡ true → Leads S l place s (old .group) (old .path) root
+Known S l place s old root = old .known ≡ true → Leads S l place s (old .«group_at») (old .«path_at») root
 
 -- what `opening_again` is lent: a group and a path that are all there, of a level that is queried, and what is known of an earlier opening
 abbrev pub AgainThere : Scheme → ℕ → ℕ → ℕ → List ℕ → ℕ → ℕ → Opened → List ℕ → ℕ → Type 0

@@ -1,42 +1,37 @@
 -- `record_query_build::put_levels` meets its contract: what is left to store from level l on gives the record.
 use borrow.Author.Needs.{needs}
 use Rattle.record_query_build.proofs.Sizes.{no-levels}
-use Rattle.record_query_build.proofs.Puts.{levelsLeft, first-level, first-pair, next-pair, next-from, levels-end, levels-step, count-room, first-levels}
+use Rattle.record_query_build.proofs.Puts.{levelsLeft, first-level, pair-is, next-from, levels-end, levels-step, count-room, first-levels}
 use Rattle.record_query_build.proofs.Levels.{level-room}
 use Prim.Native.Nat.{_+_, _-_, _≤_}
-use mathlib.Core.Path.{_≡_}
+use mathlib.Core.Path.{_≡_, _∙_}
+use native.Mathlib.Omega.{arith}
 use lib.ListN.{length}
 use Rattle.theory_field.specs.Words.{words}
 use Rattle.theory_record.specs.Widths.{present, total}
 use Rattle.theory_record.specs.Sizes.{levelSize}
-use Rattle.theory_record.specs.Query.{pairOf}
 use Rattle.theory_record.specs.Build.{queryBytes}
+use Rattle.tree_place.specs.Place.{index}
 use Rattle.record_query_build.specs.helpers.Levels.{lentLevel}
 use Rattle.record_query_build.proofs.put_levels.Statement.{statement}
 use Rattle.record_query_build.proofs.put_levels.Tie as tie
-use Rattle.record_query_build.proofs.put_levels.Reads as reads
-use Rattle.record_query_build.proofs.put_levels.Lts as lts
-use Rattle.record_query_build.proofs.lent_level.Reads as lent-level-reads
-use Rattle.record_query_build.proofs.next_level.Reads as next-level-reads
-use Rattle.record_query_build.proofs.put_level.Reads as put-level-reads
 
 abbrev Inv-loop : tie.InvT-loop
-Inv-loop out₀ levels trees n k position at₀ x₀ q₀ l₀ out at x q l =
-    (l ≤ n) × (length out ≡ length out₀) × (x ≡ lentLevel n k l) × (q ≡ pairOf position l) × (at ≡ 4 + total l (levelSize present n k))
-    × (levelsLeft out at n k (words levels) trees position l ≡ queryBytes present n k (words levels) trees position)
+Inv-loop out₀ levels trees n k position at₀ x₀ l₀ out at x l =
+    (l ≤ n) × (length out ≡ length out₀) × (x ≡ lentLevel n k l) × (at ≡ 4 + total l (levelSize present n k))
+    × (levelsLeft out at n k (words levels) trees (index position) l ≡ queryBytes present n k (words levels) trees (index position))
 
 abbrev μ-loop : tie.MeasureT-loop
-μ-loop out₀ levels trees n k position at₀ x₀ q₀ l₀ out at x q l = n - l
+μ-loop out₀ levels trees n k position at₀ x₀ l₀ out at x l = n - l
 
 put-number-requires : tie.Need-put-number-requires Inv-loop μ-loop
 put-number-requires c κs =
-    let start = c .before .before .before .before in
+    let start : tie.Start Inv-loop μ-loop = search in
     count-room (start .pre)
 
 lent-level-requires : tie.Need-lent-level-requires Inv-loop μ-loop
 lent-level-requires c κs =
-    let passed = c .before .before .before in
-    let start = passed .before .before .before .before in
+    let start : tie.Start Inv-loop μ-loop = search in
     first-level _ _ (start .pre .sizes)
 
 loop-holds : tie.Need-loop-holds Inv-loop μ-loop
@@ -47,52 +42,55 @@ loop-holds c =
       search needs,
       search needs,
       c .lent-level .ensures,
-      first-pair _,
       no-levels _ _ _ (counted .put-number .ensures .end),
       first-levels (start .pre) (counted .put-number .ensures) (λ j. lent .before .shared-slice-known .given j .fits),
     )
 
 next-level-requires : tie.Need-next-level-requires Inv-loop μ-loop
 next-level-requires c κs =
-    let loop = c .before in
-    let counted = loop .before .before .before .before in
-    let lent = counted .before .before in
-    let start = lent .before .before .before in
-    (start .pre .sizes, c .loop-test .taken, loop .loop .inv .2)
+    let start : tie.Start Inv-loop μ-loop = search in
+    (start .pre .sizes, c .loop-test .taken, c .before .loop .inv .2)
+
+add-folded : tie.Need-add-folded Inv-loop μ-loop
+add-folded c = search needs
+
+folded-requires : tie.Need-folded-requires Inv-loop μ-loop
+folded-requires c κs = search needs
 
 put-level-requires : tie.Need-put-level-requires Inv-loop μ-loop
 put-level-requires c κs =
-    let next = c .before in
+    let start : tie.Start Inv-loop μ-loop = search in
+    let folded : tie.After-folded Inv-loop μ-loop = search in
+    let next = folded .before in
     let loop = next .before .before in
     let counted = loop .before .before .before .before in
-    let lent = counted .before .before in
-    let start = lent .before .before .before in
     let i = loop .loop .inv in
-    level-room (start .pre) _ (next .before .loop-test .taken) (i .2) (next .next-level .ensures) (i .3) (i .4) (search needs)
+    level-room (start .pre) _ (next .before .loop-test .taken) (i .2) (next .next-level .ensures) (pair-is _ _ _ (folded .folded .ensures)) (i .3)
+    (i .1 ∙ counted .put-number .kept .0)
 
 add-l : tie.Need-add-l Inv-loop μ-loop
-add-l c = search needs
+add-l c =
+    let start : tie.Start Inv-loop μ-loop = search in
+    let turn : tie.In-loop Inv-loop μ-loop = search in
+    omega (arith, turn .loop-test .taken, start .pre .sizes .n-most)
 
 loop-less : tie.Need-loop-less Inv-loop μ-loop
 loop-less c = search needs
 
 loop-again : tie.Need-loop-again Inv-loop μ-loop
 loop-again c =
-    let put = c .before .before in
-    let next = put .before .before in
-    let loop = next .before .before in
-    let counted = loop .before .before .before .before in
-    let lent = counted .before .before in
-    let start = lent .before .before .before in
-    let i = loop .loop .inv in
+    let start : tie.Start Inv-loop μ-loop = search in
+    let folded : tie.After-folded Inv-loop μ-loop = search in
+    let put : tie.After-put-level Inv-loop μ-loop = search in
+    let next = folded .before in
+    let i = next .before .before .loop .inv in
     let y = next .next-level .ensures in
     let p = put .put-level .ensures in (
       search needs,
       search needs,
       y,
-      next-pair _ _ _ (i .3),
-      next-from _ _ _ _ _ _ _ (i .2) y (i .4) (p .end),
-      levels-step (start .pre) _ (i .5) p (i .2) y (i .3) (next .before .loop-test .taken),
+      next-from _ _ _ _ _ _ _ (i .2) y (i .3) (p .end),
+      levels-step (start .pre) _ (i .4) p (i .2) y (pair-is _ _ _ (folded .folded .ensures)) (next .before .loop-test .taken),
     )
 
 same-length : tie.Need-same-length Inv-loop μ-loop
@@ -111,6 +109,8 @@ put-levels-spec =
     lent-level-requires
     loop-holds
     next-level-requires
+    add-folded
+    folded-requires
     put-level-requires
     add-l
     loop-less

@@ -1,6 +1,6 @@
 -- `record_query_build::query_number` meets its contract.
 use Rattle.record_query_build.proofs.Numbers.{wrong-size, wrong-levels, wrong-trees, wrong-out, wrong-position, none-says-no}
-use Rattle.record_query_build.proofs.Sizes.{levels-fit}
+use Rattle.code_level.proofs.Totals.{levels-fit}
 use Rattle.code_level.proofs.Sizes.{sizes-said}
 use Rattle.theory_record.proofs.Ranges.{sizes-small}
 use borrow.Author.Needs.{needs}
@@ -10,9 +10,9 @@ use Rattle.record_query_build.proofs.query_number.Reads as reads
 use Rattle.record_query_build.proofs.query_number.Lts as lts
 use Rattle.code_level.proofs.level_length.Reads as level-length-reads
 use Rattle.code_level.proofs.size_number.Reads as size-number-reads
-use Rattle.record_query_build.proofs.levels_length.Reads as levels-length-reads
+use Rattle.code_level.proofs.levels_length.Reads as levels-length-reads
 use Rattle.record_query_build.proofs.query_size.Reads as query-size-reads
-use Rattle.record_query_build.proofs.trees_size.Reads as trees-size-reads
+use Rattle.code_level.proofs.trees_size.Reads as trees-size-reads
 
 size-number-requires : tie.Need-size-number-requires
 size-number-requires c κs = search needs
@@ -44,11 +44,13 @@ query-size-requires c κs =
 returns-4 : tie.Need-returns-4
 returns-4 c = search wrong-out
 
+index-requires : tie.Need-index-requires
+index-requires c κs = search needs
+
 level-length-requires : tie.Need-level-length-requires
 level-length-requires c κs =
-    let trees = c .before .before .before in
-    let sized = trees .before .before .before .before in
-    let h = sizes-said _ _ _ (sized .size-number .ensures) (trees .before .before .before .if1 .left) in
+    let sized : tie.Else1 = search in
+    let h = sizes-said _ _ _ (sized .before .size-number .ensures) (sized .if1 .left) in
     (sizes-small _ _ h, search needs)
 
 returns-5 : tie.Need-returns-5
@@ -70,6 +72,7 @@ query-number-spec =
     returns-3
     query-size-requires
     returns-4
+    index-requires
     level-length-requires
     returns-5
     returns-6)

@@ -1,6 +1,6 @@
 -- `record_query_build::query_size` meets its contract.
 use borrow.Author.Needs.{needs}
-use Rattle.record_query_build.proofs.Sizes.{starts-small, no-levels, size-step, size-is}
+use Rattle.record_query_build.proofs.Sizes.{levels-size-le, no-levels, size-step, size-is}
 use Prim.Native.Nat.{_+_, _-_, _≤_}
 use mathlib.Core.Path.{_≡_, refl}
 use Rattle.theory_record.specs.Widths.{present, total}
@@ -38,7 +38,7 @@ add-size-2 c = search needs
 
 add-size-3 : tie.Need-add-size-3 Inv-loop μ-loop
 add-size-3 c =
-    let h = starts-small _ _ (c .before .before .before .loop .l) (sizes-small _ _ (c .before .before .before .before .pre)) in
+    let h = levels-size-le _ _ (c .before .before .before .loop .l) (sizes-small _ _ (c .before .before .before .before .pre)) in
     search needs
 
 add-l : tie.Need-add-l Inv-loop μ-loop

@@ -8,7 +8,8 @@ use Rattle.record_reader.proofs.Places.{level-places}
 use Rattle.theory_record.proofs.Reading.{checkFrom}
 use Rattle.theory_record.specs.Format.{levelForm, wholeItems}
 use Rattle.theory_record.specs.Query.{pairOf, rootAt}
-use Rattle.record_query_check.specs.helpers.Level.{levelsAnswer}
+use Rattle.tree_place.specs.Place.{index}
+use Rattle.record_query_check.specs.helpers.Level.{allAsked}
 use Prim.Native.Nat.{_-_, _*_, _<_, _≤_}
 use mathlib.Core.Path.{_≡_}
 use mathlib.Core.Bool.{true}
@@ -25,8 +26,8 @@ use Rattle.theory_record.specs.Scheme.{scheme}
 abbrev Inv-loop : tie.InvT-loop
 Inv-loop base n k position challenges roots s l₀ at₀ old₀ l at old =
     (l ≤ n) × (at ≤ length s) × (wholeItems levelForm (n - l) (drop at s) ≡ true)
-    × (checkFrom (scheme base n k) position challenges roots s at l ≡ levelsAnswer (scheme base n k) position challenges roots s)
-    × (l < n → Known (scheme base n k) l (2 * pairOf position l) s old (rootAt roots l))
+    × (checkFrom (scheme base n k) (index position) challenges roots s at l ≡ allAsked (scheme base n k) (index position) challenges roots s)
+    × (l < n → Known (scheme base n k) l (2 * pairOf (index position) l) s old (rootAt roots l))
 
 abbrev μ-loop : tie.MeasureT-loop
 μ-loop base n k position challenges roots s l₀ at₀ old₀ l at old = n - l

@@ -6,12 +6,12 @@ use Rattle.record_query_check.proofs.holds.Statement.{statement}
 use Rattle.record_query_check.proofs.holds.Tie as tie
 use Rattle.record_query_check.proofs.holds.Reads as reads
 use Rattle.record_query_check.proofs.holds.Lts as lts
-use Rattle.record_query_check.proofs.place_in.Reads as place-in-reads
+use Rattle.tree_place.proofs.in_group.Reads as in-group-reads
 use Rattle.record_opening.proofs.same_word.Reads as same-word-reads
 use Rattle.record_reader.proofs.word_at.Reads as word-at-reads
 
-place-in-requires : tie.Need-place-in-requires
-place-in-requires c κs = search needs
+in-group-requires : tie.Need-in-group-requires
+in-group-requires c κs = search needs
 
 add-word-at : tie.Need-add-word-at
 add-word-at c = let h = group-room _ _ _ (c .before .before .pre) in search needs
@@ -35,7 +35,7 @@ pub holds-spec : {M : Type 1} → statement M
 holds-spec =
     tie.close
     (tie.spec
-    place-in-requires
+    in-group-requires
     add-word-at
     mul-word-at
     add-word-at-2

@@ -35,9 +35,14 @@ returns-3 c = search wrong-roots
 returns-4 : tie.Need-returns-4
 returns-4 c = search long-base
 
+index-requires : tie.Need-index-requires
+index-requires c κs = search needs
+
 level-length-requires : tie.Need-level-length-requires
 level-length-requires c κs =
-    let h = sizes-said _ _ _ (c .before .before .before .before .size-number .ensures) (c .before .before .before .if1 .left) in
+    let sized : tie.After-size-number = search in
+    let asked : tie.Else1 = search in
+    let h = sizes-said _ _ _ (sized .size-number .ensures) (asked .if1 .left) in
     search needs
 
 returns-5 : tie.Need-returns-5
@@ -70,6 +75,7 @@ query-number-spec =
     mul-if3
     returns-3
     returns-4
+    index-requires
     level-length-requires
     returns-5
     query-whole-requires

@@ -36,7 +36,7 @@ held w q values c = (25 asks eqb (valueAt w q values) c) ∷ []
 unfoldable pub cNumber : Scheme → ℕ → ℕ → List ℕ → List (List ℕ) → List ℕ → ℕ → ℕ
 cNumber S l q values path root c = firstNo (openingQuestions S l q values path root 22 ++ held (widthAt S l) q values c)
 
--- ---- of a record's bytes s: the groups and the paths by the places at which they stand
+-- ---- of a record's bytes s: the groups and the paths by the bytes at which they begin
 
 -- 16 to 21
 abbrev pub aNumberAt : Scheme → ℕ → ℕ → List ℕ → ℕ → ℕ → List ℕ → ℕ → ℕ → ℕ
@@ -46,17 +46,17 @@ aNumberAt S l q s group path root a b = aNumber S l q (valuesAt s group) (digest
 abbrev pub cNumberAt : Scheme → ℕ → ℕ → List ℕ → ℕ → ℕ → List ℕ → ℕ → ℕ
 cNumberAt S l q s group path root c = cNumber S l q (valuesAt s group) (digestsAt s path) root c
 
--- 16 to 26, put to the level that stands at place i
-abbrev pub levelNumberAt : Scheme → ℕ → List ℕ → List ℕ → ℕ → List ℕ → ℕ → ℕ
-levelNumberAt S position challenges roots l s i = levelNumber S position challenges roots l (levelRead (drop i s))
+-- 16 to 26, put to the level that begins at byte i
+abbrev pub levelAsked : Scheme → ℕ → List ℕ → List ℕ → ℕ → List ℕ → ℕ → ℕ
+levelAsked S position challenges roots l s i = levelNumber S position challenges roots l (levelRead (drop i s))
 
 -- and to every level, in order
-abbrev pub levelsAnswer : Scheme → ℕ → List ℕ → List ℕ → List ℕ → Answer
-levelsAnswer S position challenges roots s = checkLevels S position challenges roots 0 (recordItems levelForm (S .n) s)
+abbrev pub allAsked : Scheme → ℕ → List ℕ → List ℕ → List ℕ → Answer
+allAsked S position challenges roots s = checkLevels S position challenges roots 0 (recordItems levelForm (S .n) s)
 
 -- ---- what code needs to put them
 
--- the group at a place of s is all there and has this width
+-- the group at a byte of s is all there and has this width
 pub record WideGroup (s : List ℕ) (group width : ℕ) : Type 0 where
   pub filled : 0 < width
   pub fits : runFits 16 (drop group s) ≡ true
@@ -84,7 +84,7 @@ pub record PairThere (S : Scheme) (l q : ℕ) (s : List ℕ) (group path : ℕ) 
   pub level-low : l < S .n
   pub known : Known S l (2 * q) s old root
 
--- for 16 to 26: v is the level that was read at place i, all of it is there, and what is known of the opening of a and b is so
+-- for 16 to 26: v is the level that was read at byte i, all of it is there, and what is known of the opening of a and b is so
 pub record LevelThere (S : Scheme) (position : ℕ) (challenges roots : List ℕ) (l : ℕ) (s : List ℕ) (i : ℕ) (v : Level) (old : Opened) : Type 0 where
   pub allowed : Allowed S position challenges roots
   pub level-low : l < S .n

@@ -1,13 +1,8 @@
+-- `record_reader::level_at` meets its contract.
 use Rattle.record_reader.proofs.Runs.{further-within, run-within, level-read}
 use borrow.Author.Needs.{needs}
 use Rattle.record_reader.proofs.level_at.Statement.{statement}
 use Rattle.record_reader.proofs.level_at.Tie as tie
-use Rattle.record_reader.proofs.level_at.Reads as reads
-use Rattle.record_reader.proofs.level_at.Lts as lts
-use Rattle.record_reader.proofs.and.Reads as and-reads
-use Rattle.record_reader.proofs.further.Reads as further-reads
-use Rattle.record_reader.proofs.has.Reads as has-reads
-use Rattle.record_reader.proofs.run_at.Reads as run-at-reads
 
 has-requires : tie.Need-has-requires
 has-requires c κs = search needs
@@ -41,11 +36,14 @@ and-requires-4 c κs = search needs
 
 returns : tie.Need-returns
 returns c =
+    let start : tie.Start = search in
+    let words : tie.After-has = search in
+    let from : tie.After-further = search in
+    let a : tie.After-run-at = search in
     let q = c .before .before .before .before in
-    let a = q .before .before .before in
-    let pre = a .before .before .before .before .pre in
-    level-read _ _ _ _ _ _ _ _ _ _ _ _ pre (a .before .before .has .ensures) (a .before .further .ensures) (a .run-at .ensures) (q .before .before .run-at2 .ensures) (q .before .run-at3 .ensures)
-    (q .run-at4 .ensures) (c .before .before .before .and .ensures) (c .before .before .and2 .ensures) (c .before .and3 .ensures) (c .and4 .ensures)
+    level-read _ _ _ _ _ _ _ _ _ _ _ _ (start .pre) (words .has .ensures) (from .further .ensures) (a .run-at .ensures)
+    (q .before .before .run-at2 .ensures) (q .before .run-at3 .ensures) (q .run-at4 .ensures) (c .before .before .before .and .ensures)
+    (c .before .before .and2 .ensures) (c .before .and3 .ensures) (c .and4 .ensures)
 
 pub level-at-spec : {M : Type 1} → statement M
 level-at-spec =

@@ -1,3 +1,4 @@
+-- `record_reader::query_whole` meets its contract. The loop's invariant: whether what is left reads whole decides.
 use borrow.Author.Needs.{needs}
 use Rattle.record_reader.proofs.Places.{level-places, level-more, level-less}
 use Rattle.theory_record.proofs.Reading.{whole-begin, whole-short, whole-end}
@@ -7,11 +8,6 @@ use mathlib.Core.Path.{_≡_, _∙_}
 use Prim.Native.Nat.{_-_, _≤_}
 use Rattle.record_reader.proofs.query_whole.Statement.{statement}
 use Rattle.record_reader.proofs.query_whole.Tie as tie
-use Rattle.record_reader.proofs.query_whole.Reads as reads
-use Rattle.record_reader.proofs.query_whole.Lts as lts
-use Rattle.record_reader.proofs.at_end.Reads as at-end-reads
-use Rattle.record_reader.proofs.count_at.Reads as count-at-reads
-use Rattle.record_reader.proofs.level_at.Reads as level-at-reads
 
 abbrev Inv-loop : tie.InvT-loop
 Inv-loop s n l₀ at₀ l at = (l ≤ n) × (at ≤ length s) × (wholeItems levelForm (n - l) (drop at s) ≡ recordWhole levelForm s)
@@ -32,7 +28,9 @@ level-at-requires : tie.Need-level-at-requires Inv-loop μ-loop
 level-at-requires c κs = search needs
 
 returns-2 : tie.Need-returns-2 Inv-loop μ-loop
-returns-2 c = level-less _ _ _ _ _ _ (c .before .before .level-at .ensures) (c .before .before .before .loop-test .taken) (c .before .before .before .before .loop .inv .2) (c .if2 .taken)
+returns-2 c =
+    let turn : tie.In-loop Inv-loop μ-loop = search in
+    level-less _ _ _ _ _ _ (c .before .before .level-at .ensures) (turn .loop-test .taken) (turn .before .loop .inv .2) (c .if2 .taken)
 
 add-l : tie.Need-add-l Inv-loop μ-loop
 add-l c = search needs
@@ -41,13 +39,19 @@ loop-less : tie.Need-loop-less Inv-loop μ-loop
 loop-less c = search needs
 
 loop-again : tie.Need-loop-again Inv-loop μ-loop
-loop-again c = let v = c .before .before .level-at .ensures in (search needs, level-places _ _ _ v .within, level-more _ _ _ _ _ _ v (c .before .before .before .loop-test .taken) (c .before .before .before .before .loop .inv .2) (c .if2 .left))
+loop-again c =
+    let turn : tie.In-loop Inv-loop μ-loop = search in
+    let v = c .before .before .level-at .ensures in
+    (search needs, level-places _ _ _ v .within, level-more _ _ _ _ _ _ v (turn .loop-test .taken) (turn .before .loop .inv .2) (c .if2 .left))
 
 at-end-requires : tie.Need-at-end-requires Inv-loop μ-loop
 at-end-requires c κs = search needs
 
 returns-3 : tie.Need-returns-3 Inv-loop μ-loop
-returns-3 c = c .at-end .ensures ∙ whole-end levelForm _ _ _ _ _ (c .before .loop-test .left) (c .before .before .loop .inv .1) (c .before .before .loop .inv .2)
+returns-3 c =
+    let left = c .before in
+    let q = left .before .loop .inv in
+    c .at-end .ensures ∙ whole-end levelForm _ _ _ _ _ (left .loop-test .left) (q .1) (q .2)
 
 pub query-whole-spec : {M : Type 1} → statement M
 query-whole-spec =

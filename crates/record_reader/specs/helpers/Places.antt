@@ -4,7 +4,8 @@ use mathlib.Core.List.{List}
 use lib.Dec.{leb}
 use lib.ListN.{length, drop}
 use Rattle.theory_laws.specs.Questions.{pick}
-use Rattle.theory_record.specs.Format.{runCount, runFits, afterRun, fromAGroup, fromCGroup, fromAPath, fromCPath, afterLevel, levelFits, fromTailPath, afterTailGroup, tailGroupFits}
+use Rattle.theory_record.specs.Format.{runCount, runFits, afterRun, fromAGroup, fromCGroup, fromAPath}
+use Rattle.theory_record.specs.Format.{fromCPath, afterLevel, levelFits, fromTailPath, afterTailGroup, tailGroupFits}
 use Rattle.record_reader.specs.declared.Run.{Run}
 use Rattle.record_reader.specs.declared.Level.{Level}
 use Rattle.record_reader.specs.declared.TailGroup.{TailGroup}
@@ -26,13 +27,13 @@ unfoldable pub levelAt : List ℕ → ℕ → Level
 levelAt s i =
     record {
       fits = levelFits (drop i s);
-      «a_group» = placeOf s (fromAGroup (drop i s));
-      «c_group» = placeOf s (fromCGroup (drop i s));
-      «a_path» = placeOf s (fromAPath (drop i s));
-      «c_path» = placeOf s (fromCPath (drop i s));
+      «a_group_at» = placeOf s (fromAGroup (drop i s));
+      «c_group_at» = placeOf s (fromCGroup (drop i s));
+      «a_path_at» = placeOf s (fromAPath (drop i s));
+      «c_path_at» = placeOf s (fromCPath (drop i s));
       next = placeOf s (afterLevel (drop i s));
     }
 
 -- the group of a tail record at a place of s
 unfoldable pub groupAt : List ℕ → ℕ → TailGroup
-groupAt s i = record { fits = tailGroupFits (drop i s); path = placeOf s (fromTailPath (drop i s)); next = placeOf s (afterTailGroup (drop i s)) }
+groupAt s i = record { fits = tailGroupFits (drop i s); «path_at» = placeOf s (fromTailPath (drop i s)); next = placeOf s (afterTailGroup (drop i s)) }

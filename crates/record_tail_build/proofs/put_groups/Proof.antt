@@ -11,12 +11,6 @@ use native.Mathlib.Omega.{arith}
 use borrow.Author.Needs.{needs}
 use Rattle.record_tail_build.proofs.put_groups.Statement.{statement}
 use Rattle.record_tail_build.proofs.put_groups.Tie as tie
-use Rattle.record_tail_build.proofs.put_groups.Reads as reads
-use Rattle.record_tail_build.proofs.put_groups.Lts as lts
-use Rattle.code_level.proofs.level_depth.Reads as level-depth-reads
-use Rattle.code_level.proofs.level_groups.Reads as level-groups-reads
-use Rattle.code_level.proofs.level_width.Reads as level-width-reads
-use Rattle.record_tail_build.proofs.put_group.Reads as put-group-reads
 
 abbrev Inv-loop : tie.InvT-loop
 Inv-loop out₀ level tree n k groups width depth at₀ g₀ out at g =
@@ -52,16 +46,22 @@ loop-holds c =
           (counted .put-number .ensures) (λ j. groups .before .before .shared-slice-known .given j .fits),
     )
 
+numbered-requires : tie.Need-numbered-requires Inv-loop μ-loop
+numbered-requires c κs = search needs
+
 put-group-requires : tie.Need-put-group-requires Inv-loop μ-loop
 put-group-requires c κs =
-    let loop = c .before .before in
+    let turn : tie.In-loop Inv-loop μ-loop = search in
+    let numbered : tie.After-numbered Inv-loop μ-loop = search in
+    let loop = turn .before in
     let counted = loop .before .before .before in
     let depth = counted .before .before in
     let width = depth .before in
     let groups = width .before in
     let start = groups .before .before .before .before in
-    group-room (start .pre) (groups .level-groups .ensures) (width .level-width .ensures) (depth .level-depth .ensures) _
-    (c .before .loop-test .taken) (loop .loop .inv .2) (search needs)
+    rw (numbered .numbered .ensures)
+    (group-room (start .pre) (groups .level-groups .ensures) (width .level-width .ensures) (depth .level-depth .ensures) _ (turn .loop-test .taken)
+    (loop .loop .inv .2) (search needs))
 
 add-g : tie.Need-add-g Inv-loop μ-loop
 add-g c = search needs
@@ -71,13 +71,14 @@ loop-less c = search needs
 
 loop-again : tie.Need-loop-again Inv-loop μ-loop
 loop-again c =
-    let put = c .before .before in
-    let loop = put .before .before .before in
-    let q = loop .loop .inv in (
+    let turn : tie.In-loop Inv-loop μ-loop = search in
+    let numbered : tie.After-numbered Inv-loop μ-loop = search in
+    let q = turn .before .loop .inv in
+    let put = rw (numbered .numbered .ensures) at (c .before .before .put-group .ensures) in (
       search needs,
       search needs,
-      next-place _ _ _ _ (q .2) (put .put-group .ensures .end),
-      groups-step _ _ _ _ _ _ (q .3) (put .put-group .ensures) (put .before .before .loop-test .taken),
+      next-place _ _ _ _ (q .2) (put .end),
+      groups-step _ _ _ _ _ _ (q .3) put (turn .loop-test .taken),
     )
 
 same-length : tie.Need-same-length Inv-loop μ-loop
@@ -97,6 +98,7 @@ put-groups-spec =
     level-depth-requires
     put-number-requires
     loop-holds
+    numbered-requires
     put-group-requires
     add-g
     loop-less

@@ -5,21 +5,14 @@ use Rattle.record_tail_check.specs.helpers.Numbers.{groupsNumber}
 use Rattle.field_gf128.specs.Word.{word}
 use Rattle.record_reader.proofs.Places.{group-places}
 use Rattle.theory_record.specs.Format.{tailForm, wholeItems}
-use Prim.Native.Nat.{_-_, _≤_}
-use mathlib.Core.Path.{_≡_}
+use Prim.Native.Nat.{_-_, _*_, _≤_}
+use mathlib.Core.Path.{_≡_, _∙_, ap}
+use native.Mathlib.Omega.{arith}
 use mathlib.Core.Bool.{true}
 use lib.ListN.{length, drop}
 use borrow.Author.Needs.{needs}
 use Rattle.record_tail_check.proofs.groups_number.Statement.{statement}
 use Rattle.record_tail_check.proofs.groups_number.Tie as tie
-use Rattle.record_tail_check.proofs.groups_number.Reads as reads
-use Rattle.record_tail_check.proofs.groups_number.Lts as lts
-use Rattle.code_level.proofs.level_groups.Reads as level-groups-reads
-use Rattle.code_level.proofs.level_width.Reads as level-width-reads
-use Rattle.record_opening.proofs.opening_number.Reads as opening-number-reads
-use Rattle.record_opening.proofs.same_word.Reads as same-word-reads
-use Rattle.record_reader.proofs.group_at.Reads as group-at-reads
-use Rattle.record_tail_check.proofs.first_value.Reads as first-value-reads
 
 abbrev Inv-loop : tie.InvT-loop
 Inv-loop base n k root claim s groups width g₀ at₀ g at =
@@ -46,26 +39,41 @@ loop-holds c =
 group-at-requires : tie.Need-group-at-requires Inv-loop μ-loop
 group-at-requires c κs = search needs
 
-mul-opening-number : tie.Need-mul-opening-number Inv-loop μ-loop
-mul-opening-number c =
-    let h =
-    (let width = c .before .before .before in
+numbered-requires : tie.Need-numbered-requires Inv-loop μ-loop
+numbered-requires c κs = search needs
+
+first-place-requires : tie.Need-first-place-requires Inv-loop μ-loop
+first-place-requires c κs =
+    let turn : tie.In-loop Inv-loop μ-loop = search in
+    let width = turn .before .before in
     let groups = width .before in
     let start = groups .before .before .before in
-    place-small (start .pre) (groups .level-groups .ensures) _ (c .before .loop-test .taken) (width .level-width .ensures)) in
-    search needs
+    let h = place-small (start .pre) (groups .level-groups .ensures) _ (turn .loop-test .taken) (width .level-width .ensures) in
+    rw (c .numbered .ensures) (omega arith)
 
 opening-number-requires : tie.Need-opening-number-requires Inv-loop μ-loop
 opening-number-requires c κs =
-    let loop = c .before .before in
+    let read : tie.After-group-at Inv-loop μ-loop = search in
+    let loop = read .before .before in
     let groups = loop .before .before in
     let start = groups .before .before .before in (
-      group-readable (start .pre) (groups .level-groups .ensures) _ _ (c .group-at .ensures) (c .before .loop-test .taken) (loop .loop .inv .2),
+      group-readable (start .pre) (groups .level-groups .ensures) _ _ (read .group-at .ensures) (read .before .loop-test .taken) (loop .loop .inv .2),
       search needs,
     )
 
+-- the place of the group's first value
+first-is : (c : tie.After-first-place Inv-loop μ-loop)
+    → c .first-place .result .0 ≡ c .before .before .before .before .loop .g * c .before .before .before .before .before .level-width .result
+first-is c = c .first-place .ensures ∙ ap (λ i. i * c .before .before .before .before .before .level-width .result) (c .before .numbered .ensures)
+
 returns : tie.Need-returns Inv-loop μ-loop
-returns c = search group-refused
+returns c =
+    let first : tie.After-first-place Inv-loop μ-loop = search in
+    let read = first .before .before in
+    let loop = read .before .before in
+    let width = loop .before in
+    group-refused _ _ _ _ _ _ _ _ _ (loop .loop .inv .3) (read .group-at .ensures) (first-is first) (c .before .opening-number .ensures)
+    (width .level-width .ensures) (read .before .loop-test .taken) (c .if1 .taken)
 
 add-g : tie.Need-add-g Inv-loop μ-loop
 add-g c = search needs
@@ -76,7 +84,8 @@ loop-less c = search needs
 loop-again : tie.Need-loop-again Inv-loop μ-loop
 loop-again c =
     let asked = c .before in
-    let read = asked .before in
+    let first = asked .before in
+    let read = first .before .before in
     let loop = read .before .before in
     let width = loop .before in
     let groups = width .before in
@@ -87,7 +96,7 @@ loop-again c =
       search needs,
       group-places _ _ _ v .within,
       rest-there (start .pre) (groups .level-groups .ensures) _ _ v t (i .2),
-      group-passed _ _ _ _ _ _ _ _ _ (i .3) v (asked .opening-number .ensures) (width .level-width .ensures) t (c .if1 .left),
+      group-passed _ _ _ _ _ _ _ _ _ (i .3) v (first-is first) (asked .opening-number .ensures) (width .level-width .ensures) t (c .if1 .left),
     )
 
 first-value-requires : tie.Need-first-value-requires Inv-loop μ-loop
@@ -115,7 +124,8 @@ groups-number-spec =
     level-width-requires
     loop-holds
     group-at-requires
-    mul-opening-number
+    numbered-requires
+    first-place-requires
     opening-number-requires
     returns
     add-g

@@ -1,3 +1,4 @@
+-- `record_writer::put_digests` meets its contract.
 use Rattle.record_writer.proofs.Runs.{digests-put}
 use borrow.Author.Needs.{needs}
 use Rattle.record_writer.proofs.put_digests.Statement.{statement}

@@ -59,10 +59,14 @@ add-end c =
     let start : tie.Start Inv-loop μ-loop = search in
     omega (arith, group-room _ _ _ (start .pre .yes .shaped .shape) (c .loop-test .taken))
 
+numbered-requires : tie.Need-numbered-requires Inv-loop μ-loop
+numbered-requires c κs = search needs
+
 mul-hash-group : tie.Need-mul-hash-group Inv-loop μ-loop
 mul-hash-group c =
     let start : tie.Start Inv-loop μ-loop = search in
-    omega (arith, group-room _ _ _ (start .pre .yes .shaped .shape) (c .before .loop-test .taken))
+    let in-loop : tie.In-loop Inv-loop μ-loop = search in
+    omega (arith, group-room _ _ _ (start .pre .yes .shaped .shape) (in-loop .loop-test .taken))
 
 sub-hash-group : tie.Need-sub-hash-group Inv-loop μ-loop
 sub-hash-group c = search needs
@@ -73,14 +77,16 @@ part-hash-group-start c = search needs
 part-hash-group-end : tie.Need-part-hash-group-end Inv-loop μ-loop
 part-hash-group-end c =
     let start : tie.Start Inv-loop μ-loop = search in
-    omega (arith, group-room _ _ _ (start .pre .yes .shaped .shape) (c .before .loop-test .taken))
+    let in-loop : tie.In-loop Inv-loop μ-loop = search in
+    omega (arith, group-room _ _ _ (start .pre .yes .shaped .shape) (in-loop .loop-test .taken))
 
 hash-group-requires : tie.Need-hash-group-requires Inv-loop μ-loop
 hash-group-requires c κs =
     let start : tie.Start Inv-loop μ-loop = search in
+    let in-loop : tie.In-loop Inv-loop μ-loop = search in
     let a = start .args in (
-      group-length (now (a .values)) (c .before .before .before .loop .from) (2 * a .width)
-          (omega (arith, group-room _ _ _ (start .pre .yes .shaped .shape) (c .before .before .loop-test .taken))),
+      group-length (now (a .values)) (in-loop .before .loop .from) (2 * a .width)
+          (omega (arith, group-room _ _ _ (start .pre .yes .shaped .shape) (in-loop .loop-test .taken))),
       omega arith,
       omega arith,
     )
@@ -102,9 +108,9 @@ loop-less c = search needs
 loop-again : tie.Need-loop-again Inv-loop μ-loop
 loop-again c =
     let after-hash-group : tie.After-hash-group Inv-loop μ-loop = search in
-    let in-loop = after-hash-group .before .before .before in
-    let at-loop = in-loop .before in
-    let q = at-loop .loop in
+    let after-numbered : tie.After-numbered Inv-loop μ-loop = search in
+    let in-loop = after-numbered .before in
+    let q = in-loop .before .loop in
     let h = after-hash-group .hash-group .ensures in
     let p = c .before .before .put .ensures in (
       search needs,
@@ -113,7 +119,7 @@ loop-again c =
       search needs,
       search needs,
       (h .kept) ∙ (q .inv .5),
-      leaves-step _ _ _ _ _ _ (in-loop .loop-test .taken) (q .inv .1) (q .inv .5) h p (q .inv .6),
+      leaves-step _ _ _ _ _ _ (in-loop .loop-test .taken) (q .inv .1) (q .inv .5) (rw (after-numbered .numbered .ensures) at h) p (q .inv .6),
     )
 
 same-length : tie.Need-same-length Inv-loop μ-loop
@@ -139,6 +145,7 @@ put-leaves-from-spec =
     loop-holds
     mul-end
     add-end
+    numbered-requires
     mul-hash-group
     sub-hash-group
     part-hash-group-start

@@ -106,14 +106,15 @@ add-end c =
           (omega (arith, c .before .loop .inv .6 .whole, c .before .loop .inv .6 .within)),
     )
 
+numbered-requires : tie.Need-numbered-requires Inv-loop μ-loop
+numbered-requires c κs = search needs
+
 mul-put-leaf-rests : tie.Need-mul-put-leaf-rests Inv-loop μ-loop
 mul-put-leaf-rests c =
     let start : tie.Start Inv-loop μ-loop = search in
-    omega (
-      arith,
-      four-room _ _ (c .before .before .loop .g) (start .pre .0 .shaped .shape)
-          (omega (arith, c .before .before .loop .inv .6 .whole, c .before .before .loop .inv .6 .within)),
-    )
+    let at-loop : tie.At-loop Inv-loop μ-loop = search in
+    let q = at-loop .loop in
+    omega (arith, four-room _ _ (q .g) (start .pre .0 .shaped .shape) (omega (arith, q .inv .6 .whole, q .inv .6 .within)))
 
 sub-put-leaf-rests : tie.Need-sub-put-leaf-rests Inv-loop μ-loop
 sub-put-leaf-rests c = search needs
@@ -124,16 +125,16 @@ part-put-leaf-rests-start c = search needs
 part-put-leaf-rests-end : tie.Need-part-put-leaf-rests-end Inv-loop μ-loop
 part-put-leaf-rests-end c =
     let start : tie.Start Inv-loop μ-loop = search in
-    omega (
-      arith,
-      four-room _ _ (c .before .before .loop .g) (start .pre .0 .shaped .shape)
-          (omega (arith, c .before .before .loop .inv .6 .whole, c .before .before .loop .inv .6 .within)),
-    )
+    let at-loop : tie.At-loop Inv-loop μ-loop = search in
+    let q = at-loop .loop in
+    omega (arith, four-room _ _ (q .g) (start .pre .0 .shaped .shape) (omega (arith, q .inv .6 .whole, q .inv .6 .within)))
 
 put-leaf-rests-requires : tie.Need-put-leaf-rests-requires Inv-loop μ-loop
 put-leaf-rests-requires c κs =
     let start : tie.Start Inv-loop μ-loop = search in
-    let q = c .before .before .before .loop in
+    let after-numbered : tie.After-numbered Inv-loop μ-loop = search in
+    let at-loop = after-numbered .before .before in
+    let q = at-loop .loop in
     let a = start .args in
     let y = start .pre .0 in
     let r = four-room _ _ (q .g) (y .shaped .shape) (omega (arith, q .inv .6 .whole, q .inv .6 .within)) in
@@ -141,7 +142,7 @@ put-leaf-rests-requires c κs =
       halves = group-length (now (a .values)) (q .from) (8 * a .width) (omega (arith, y .values-is));
       chunk = q .inv .6 .fits (omega arith);
       strides = omega arith;
-      numbers = omega (arith, q .inv .6 .within, y .shaped .groups-le);
+      numbers = omega (arith, after-numbered .numbered .ensures, q .inv .6 .within, y .shaped .groups-le);
     }
 
 put-digests-requires : tie.Need-put-digests-requires Inv-loop μ-loop
@@ -168,10 +169,11 @@ loop-again : tie.Need-loop-again Inv-loop μ-loop
 loop-again c =
     let after-by-fours : tie.After-by-fours Inv-loop μ-loop = search in
     let after-put-leaf-rests : tie.After-put-leaf-rests Inv-loop μ-loop = search in
-    let at-loop = after-put-leaf-rests .before .before .before .before in
+    let after-numbered : tie.After-numbered Inv-loop μ-loop = search in
+    let at-loop = after-numbered .before .before in
     let q = at-loop .loop in
     let z = q .inv .6 .sized in
-    let f = after-put-leaf-rests .put-leaf-rests .ensures in
+    let f = rw (after-numbered .numbered .ensures) at (after-put-leaf-rests .put-leaf-rests .ensures) in
     let p = c .before .before .put-digests .ensures in
     let in-all : q .g + 4 ≤ after-by-fours .by-fours .result = omega (arith, q .inv .6 .whole) in (
       in-all,
@@ -219,6 +221,7 @@ put-leaves-spec =
     loop-holds
     mul-end
     add-end
+    numbered-requires
     mul-put-leaf-rests
     sub-put-leaf-rests
     part-put-leaf-rests-start

@@ -16,10 +16,17 @@ group-of-requires : tie.Need-group-of-requires
 group-of-requires c κs = omega (arith, leaf-yes _ _ _ _ _ _ (c .before .leaf-number .ensures) (c .if1 .left))
 
 leaf-of-requires : tie.Need-leaf-of-requires
-leaf-of-requires c κs = let y = leaf-yes _ _ _ _ _ _ (c .before .before .leaf-number .ensures) (c .before .if1 .left) in (y .domain-le, y .shaped .width-le, y .values-is)
+leaf-of-requires c κs =
+    let asked = c .before in
+    let y = leaf-yes _ _ _ _ _ _ (asked .before .leaf-number .ensures) (asked .if1 .left) in
+    (y .domain-le, y .shaped .width-le, y .values-is)
 
 returns-2 : tie.Need-returns-2
-returns-2 c = done-digest _ _ _ _ (c .before .before .before .leaf-number .ensures) (c .before .before .if1 .left) (leaf-of-place _ _ _ _ _ _ _ (c .before .group-of .ensures) (c .leaf-of .ensures))
+returns-2 c =
+    let group = c .before in
+    let asked = group .before in
+    done-digest _ _ _ _ (asked .before .leaf-number .ensures) (asked .if1 .left)
+    (leaf-of-place _ _ _ _ _ _ _ (group .group-of .ensures) (c .leaf-of .ensures))
 
 pub leaf-digest-spec : {M : Type 1} → statement M
 leaf-digest-spec =

@@ -8,18 +8,19 @@ use borrow.Author.Needs.{needs}
 use Rattle.theory_laws.specs.Lists.{part}
 use Rattle.theory_field.specs.Words.{words}
 use Rattle.theory_merkle.specs.Message.{leafRest}
+use Rattle.tree_place.specs.Place.{number}
 use Rattle.tree_four_messages.proofs.Filling.{StridesFilled, strides-begin, strides-step, strides-end, leaf-rest-put}
 use Rattle.tree_four_messages.proofs.Values.{group-length, group-of-four, next-group}
 use Rattle.tree_four_messages.proofs.put_leaf_rests.Statement.{statement}
 use Rattle.tree_four_messages.proofs.put_leaf_rests.Tie as tie
 
 abbrev Inv-loop : tie.InvT-loop
-Inv-loop messages₀ prefix width values first from₀ at₀ k₀ messages from at k =
+Inv-loop messages₀ prefix width group values from₀ at₀ k₀ messages from at k =
     (k ≤ 4) × (from ≡ 2 * (width * k)) × (at ≡ 1024 * k + prefix) × (length messages ≡ length messages₀)
-    × StridesFilled messages₀ prefix (24 + 16 * width) (λ j. leafRest width (first + j) (part width (width * j) (words values))) k messages
+    × StridesFilled messages₀ prefix (24 + 16 * width) (λ j. leafRest width (number group + j) (part width (width * j) (words values))) k messages
 
 abbrev μ-loop : tie.MeasureT-loop
-μ-loop messages₀ prefix width values first from₀ at₀ k₀ messages from at k = 4 - k
+μ-loop messages₀ prefix width group values from₀ at₀ k₀ messages from at k = 4 - k
 
 loop-holds : tie.Need-loop-holds Inv-loop μ-loop
 loop-holds c = (search needs, search needs, search needs, refl, strides-begin _ _ _ _)
@@ -30,13 +31,14 @@ mul-end c = search needs
 add-end : tie.Need-add-end Inv-loop μ-loop
 add-end c = omega (arith, group-of-four (c .before .before .before .before .args .width) _ (c .loop-test .taken))
 
-add-leaf-rest : tie.Need-add-leaf-rest Inv-loop μ-loop
-add-leaf-rest c = search needs
+after-requires : tie.Need-after-requires Inv-loop μ-loop
+after-requires c κs = search needs
 
 mul-leaf-rest : tie.Need-mul-leaf-rest Inv-loop μ-loop
 mul-leaf-rest c =
     let start : tie.Start Inv-loop μ-loop = search in
-    omega (arith, group-of-four (start .args .width) _ (c .before .loop-test .taken))
+    let in-loop : tie.In-loop Inv-loop μ-loop = search in
+    omega (arith, group-of-four (start .args .width) _ (in-loop .loop-test .taken))
 
 sub-leaf-rest : tie.Need-sub-leaf-rest Inv-loop μ-loop
 sub-leaf-rest c = search needs
@@ -47,14 +49,16 @@ part-leaf-rest-start c = search needs
 part-leaf-rest-end : tie.Need-part-leaf-rest-end Inv-loop μ-loop
 part-leaf-rest-end c =
     let start : tie.Start Inv-loop μ-loop = search in
-    omega (arith, group-of-four (start .args .width) _ (c .before .loop-test .taken))
+    let in-loop : tie.In-loop Inv-loop μ-loop = search in
+    omega (arith, group-of-four (start .args .width) _ (in-loop .loop-test .taken))
 
 leaf-rest-requires : tie.Need-leaf-rest-requires Inv-loop μ-loop
 leaf-rest-requires c κs =
     let start : tie.Start Inv-loop μ-loop = search in
+    let in-loop : tie.In-loop Inv-loop μ-loop = search in
     let a = start .args in (
-      group-length (now (a .values)) (c .before .before .before .loop .from) (2 * a .width)
-          (omega (arith, group-of-four (a .width) _ (c .before .before .loop-test .taken))),
+      group-length (now (a .values)) (in-loop .before .loop .from) (2 * a .width)
+          (omega (arith, group-of-four (a .width) _ (in-loop .loop-test .taken))),
       omega arith,
     )
 
@@ -69,15 +73,15 @@ loop-less c = search needs
 
 loop-again : tie.Need-loop-again Inv-loop μ-loop
 loop-again c =
+    let after : tie.After-after Inv-loop μ-loop = search in
     let in-loop : tie.In-loop Inv-loop μ-loop = search in
-    let at-loop = in-loop .before in
-    let q = at-loop .loop in (
+    let q = in-loop .before .loop in (
       search needs,
       next-group _ _ _ (q .inv .1),
       search needs,
       search needs,
       strides-step _ _ _ _ _ _ _ _ _ (in-loop .loop-test .taken) (omega arith) (omega arith) (q .inv .2)
-          (leaf-rest-put _ _ _ _ (q .inv .1) (c .before .before .leaf-rest .ensures)) (q .inv .4),
+          (leaf-rest-put _ _ _ _ _ (q .inv .1) (after .after .ensures) (c .before .before .leaf-rest .ensures)) (q .inv .4),
     )
 
 same-length : tie.Need-same-length Inv-loop μ-loop
@@ -95,7 +99,7 @@ put-leaf-rests-spec =
     loop-holds
     mul-end
     add-end
-    add-leaf-rest
+    after-requires
     mul-leaf-rest
     sub-leaf-rest
     part-leaf-rest-start

@@ -34,7 +34,8 @@ returns c =
     let p = d .before .before .before .before in
     let b = p .before .before .before .before in
     let a = b .before .before .before .before .before in
-    leaf-prefix-put _ _ _ _ _ _ _ _ _ _ _ _ _ _ (a .put-number .ensures) (b .put-part .ensures) (p .put-part2 .ensures) (d .put-number-part .ensures) (e .put-number-part2 .ensures)
+    leaf-prefix-put _ _ _ _ _ _ _ _ _ _ _ _ _ _ (a .put-number .ensures) (b .put-part .ensures) (p .put-part2 .ensures) (d .put-number-part .ensures)
+    (e .put-number-part2 .ensures)
 
 pub leaf-prefix-spec : {M : Type 1} → statement M
 leaf-prefix-spec =

@@ -20,7 +20,10 @@ same-length : tie.Need-same-length
 same-length c = search needs
 
 returns : tie.Need-returns
-returns c = digests-put _ _ _ _ _ _ _ _ (search needs) (search needs) (c .before .before .before .before .before .before .before .put-part .ensures) (c .before .before .put-part2 .ensures)
+returns c =
+    let second = c .before .before in
+    let first = second .before .before .before .before .before in
+    digests-put _ _ _ _ _ _ _ _ (search needs) (search needs) (first .put-part .ensures) (second .put-part2 .ensures)
 
 pub node-rest-spec : {M : Type 1} → statement M
 node-rest-spec =

@@ -10,7 +10,9 @@ use Rattle.tree_message.proofs.put_halves.Statement.{statement}
 use Rattle.tree_message.proofs.put_halves.Tie as tie
 
 abbrev Inv-loop : tie.InvT-loop
-Inv-loop out₀ from values at₀ i₀ out at i = (i ≤ length values) × (at ≡ from + 8 * i) × (length out ≡ length out₀) × (stored out at (flat (map (leBytes 8) (drop i values))) ≡ stored out₀ from (flat (map (leBytes 8) values)))
+Inv-loop out₀ from values at₀ i₀ out at i =
+    (i ≤ length values) × (at ≡ from + 8 * i) × (length out ≡ length out₀)
+    × (stored out at (flat (map (leBytes 8) (drop i values))) ≡ stored out₀ from (flat (map (leBytes 8) values)))
 
 abbrev μ-loop : tie.MeasureT-loop
 μ-loop out₀ from values at₀ i₀ out at i = length values - i

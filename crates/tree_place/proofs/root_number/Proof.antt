@@ -22,7 +22,9 @@ returns-3 : tie.Need-returns-3
 returns-3 c = search (root-asked, asks, yes-worked, no-worked)
 
 mul-if4 : tie.Need-mul-if4
-mul-if4 c = omega (arith, tree-bounded _ _ _ _ (c .before .before .before .before .before .tree-number .ensures) (c .before .before .before .before .if1 .left))
+mul-if4 c =
+    let asked : tie.Else1 = search in
+    omega (arith, tree-bounded _ _ _ _ (asked .before .tree-number .ensures) (asked .if1 .left))
 
 returns-4 : tie.Need-returns-4
 returns-4 c = search (root-asked, asks, yes-worked, no-worked)

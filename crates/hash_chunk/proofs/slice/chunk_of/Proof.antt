@@ -14,7 +14,8 @@ use Rattle.hash_chunk.proofs.slice.chunk_of.Tie as tie
 
 abbrev Inv-loop : tie.InvT-loop
 Inv-loop flags t input h₀ from₀ i₀ h from i =
-    (from ≡ 64 * i) × (from ≤ length input) × (i ≤ 15) × ((x : ℕ) → B.chunkFrom flags (15 - i) h (startFlag i) t (drop from input) x ≡ B.chunk h₀ flags t input x)
+    (from ≡ 64 * i) × (from ≤ length input) × (i ≤ 15)
+    × ((x : ℕ) → B.chunkFrom flags (15 - i) h (startFlag i) t (drop from input) x ≡ B.chunk h₀ flags t input x)
 
 abbrev μ-loop : tie.MeasureT-loop
 μ-loop flags t input h₀ from₀ i₀ h from i = length input - from
@@ -49,14 +50,20 @@ loop-less c = omega arith
 
 loop-again : tie.Need-loop-again Inv-loop μ-loop
 loop-again c =
-    let l = c .before .before .before .before .before .loop in
-    let a = c .before .before .before .before .before .before .before .args in (
+    let start : tie.Start Inv-loop μ-loop = search in
+    let here : tie.At-loop Inv-loop μ-loop = search in
+    let words : tie.After-words-at Inv-loop μ-loop = search in
+    let flag : tie.After-start-flag Inv-loop μ-loop = search in
+    let a = start .args in
+    let l = here .loop in
+    let next =
+    next-law (a .flags) (a .t) (l .h) _ _ _ _ _ _ (words .words-at .ensures) (flag .start-flag .ensures) (c .before .compress .ensures)
+    (c .first-eight .ensures) in (
       omega arith,
       omega arith,
       omega arith,
       λ x.
-          chunk-turn (a .flags) (l .i) (a .t) (l .from) (a .key) (l .h) _ (now (a .input)) x (omega arith) (omega arith)
-          (next-law _ _ _ _ _ _ _ _ _ (c .before .before .before .words-at .ensures) (c .before .before .start-flag .ensures) (c .before .compress .ensures) (c .first-eight .ensures)) (l .inv .3 x),
+          chunk-turn (a .flags) (l .i) (a .t) (l .from) (l .h) _ (now (a .input)) _ x (omega arith) (omega arith) next (l .inv .3 x),
     )
 
 sub-n : tie.Need-sub-n Inv-loop μ-loop
@@ -74,9 +81,12 @@ cast-t20 c = omega arith
 returns : tie.Need-returns Inv-loop μ-loop
 unfolding outOf
 returns c =
+    let start : tie.Start Inv-loop μ-loop = search in
     let l = c .before .before .before .loop in
-    let a = c .before .before .before .before .before .args in
-    λ x. chunk-end (a .flags) (l .i) (a .t) (l .from) _ _ x (a .key) (l .h) _ (now (a .input)) refl (omega arith) (c .before .last-words .ensures) (c .start-flag2 .ensures) (l .inv .3 x)
+    let a = start .args in
+    λ x.
+    chunk-end (a .flags) (l .i) (a .t) (l .from) _ _ x (l .h) _ (now (a .input)) _ refl (omega arith)
+    (c .before .last-words .ensures) (c .start-flag2 .ensures) (l .inv .3 x)
 
 pub chunk-of-spec : {M : Type 1} → statement M
 chunk-of-spec =

@@ -12,7 +12,9 @@ slice-aggregate-words-at : tie.Need-slice-aggregate-words-at
 slice-aggregate-words-at c = search needs
 
 words-at-requires : tie.Need-words-at-requires
-words-at-requires c κs = omega (arith, block-length (c .before .before .before .args .s) _ (c .before .before .before .good .0))
+words-at-requires c κs =
+    let start : tie.Start = search in
+    omega (arith, block-length (start .args .s) _ (start .good .0))
 
 start-flag-requires : tie.Need-start-flag-requires
 start-flag-requires c κs = search needs
@@ -28,8 +30,15 @@ add-t11 c = search needs
 
 returns : tie.Need-returns
 returns c =
-    let s = c .before .before .before .before .before .before .before .before .before .args .s in
-    compressed-law s (next-law (s .flags) (s .counter) (s .h) _ (s .block) _ _ _ _ (c .before .before .before .before .before .words-at .ensures ∙ block-whole (s .block)) (c .before .before .before .before .start-flag .ensures) (c .before .before .compress .ensures) (c .before .first-eight .ensures))
+    let start : tie.Start = search in
+    let words : tie.After-words-at = search in
+    let flag : tie.After-start-flag = search in
+    let state : tie.After-compress = search in
+    let eight : tie.After-first-eight = search in
+    let s = start .args .s in
+    compressed-law s
+    (next-law (s .flags) (s .counter) (s .h) _ (s .block) _ _ _ _ (words .words-at .ensures ∙ block-whole (s .block))
+    (flag .start-flag .ensures) (state .compress .ensures) (eight .first-eight .ensures))
 
 pub compressed-spec : {M : Type 1} → statement M
 compressed-spec =

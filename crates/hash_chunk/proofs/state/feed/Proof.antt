@@ -55,10 +55,13 @@ loop-less c = omega (arith, joined (c .before .before .before) .room)
 
 loop-again : tie.Need-loop-again Inv-loop μ-loop
 loop-again c =
-    let l = c .before .before .before .before .before .before .loop in
-    let a = c .before .before .before .before .before .before .before .before .args in
-    let j = joined (c .before .before .before) in
-    let u = c .before .before .before .if1 .s in
+    let start : tie.Start Inv-loop μ-loop = search in
+    let here : tie.At-loop Inv-loop μ-loop = search in
+    let met : tie.Joined1 Inv-loop μ-loop = search in
+    let a = start .args in
+    let l = here .loop in
+    let j = joined met in
+    let u = met .if1 .s in
     let n = c .before .before .least .result in
     let p : 0 < n = omega (arith, j .room) in
     let f : u .fill + n ≤ 64 = omega (arith, j .room) in (

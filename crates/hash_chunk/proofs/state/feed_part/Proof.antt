@@ -16,7 +16,8 @@ feed-number-requires c κs = search needs
 feed-requires : tie.Need-feed-requires
 feed-requires c κs =
     let a = c .before .before .args in
-    fits-after (a .s) _ (leBytes 8 (length (now (a .bytes)))) 8 (length (now (a .bytes))) (8 + length (now (a .bytes))) (c .feed-number .ensures) (length-leBytes 8 (length (now (a .bytes)))) refl (c .before .before .pre)
+    let size = length (now (a .bytes)) in
+    fits-after (a .s) _ (leBytes 8 size) 8 size (8 + size) (c .feed-number .ensures) (length-leBytes 8 size) refl (c .before .before .pre)
 
 returns : tie.Need-returns
 returns c = fed-then _ _ _ (c .before .feed-number .ensures) (c .feed .ensures)

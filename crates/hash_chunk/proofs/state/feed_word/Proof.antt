@@ -21,7 +21,8 @@ feed-number-requires-2 c κs =
 returns : tie.Need-returns
 returns c =
     let a = c .before .before .args in
-    fed-then (a .s) (leBytes 8 (a .lo)) (leBytes 8 (a .hi)) (c .before .feed-number .ensures) (c .feed-number2 .ensures) ∙ ap (S.fed (a .s)) (sym (leBytes-joined 8 8 (a .hi) (a .lo) (omega arith)))
+    fed-then (a .s) (leBytes 8 (a .lo)) (leBytes 8 (a .hi)) (c .before .feed-number .ensures) (c .feed-number2 .ensures)
+    ∙ ap (S.fed (a .s)) (sym (leBytes-joined 8 8 (a .hi) (a .lo) (omega arith)))
 
 pub feed-word-spec : {M : Type 1} → statement M
 feed-word-spec = tie.close (tie.spec feed-number-requires feed-number-requires-2 returns)

@@ -10,7 +10,9 @@ slice-aggregate-last-words : tie.Need-slice-aggregate-last-words
 slice-aggregate-last-words c = search needs
 
 last-words-requires : tie.Need-last-words-requires
-last-words-requires c κs = omega (arith, block-length (c .before .before .before .args .s) _ (c .before .before .before .good .0))
+last-words-requires c κs =
+    let start : tie.Start = search in
+    omega (arith, block-length (start .args .s) _ (start .good .0))
 
 start-flag-requires : tie.Need-start-flag-requires
 start-flag-requires c κs = search needs
@@ -21,8 +23,11 @@ cast-t9 c = search needs
 returns : tie.Need-returns
 unfolding outOf
 returns c =
-    let s = c .before .before .before .before .before .before .args .s in
-    λ x. last-law s _ _ x (omega (arith, block-length s _ (c .before .before .before .before .before .before .good .0))) (c .before .before .last-words .ensures) (c .before .start-flag .ensures)
+    let start : tie.Start = search in
+    let words : tie.After-last-words = search in
+    let flag : tie.After-start-flag = search in
+    let s = start .args .s in
+    λ x. last-law s _ _ x (omega (arith, block-length s _ (start .good .0))) (words .last-words .ensures) (flag .start-flag .ensures)
 
 pub last-spec : {M : Type 1} → statement M
 last-spec =

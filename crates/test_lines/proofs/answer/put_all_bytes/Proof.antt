@@ -1,13 +1,13 @@
 -- `test_lines::answer::put_all_bytes` is safe and ends.
 use borrow.Author.Needs.{needs}
-use Prim.Native.Nat.{_≤_, _-_}
+use Prim.Native.Nat.{_-_}
 use mathlib.Core.Path.{_≡_}
 use lib.ListN.{length}
 use Rattle.test_lines.proofs.answer.put_all_bytes.Statement.{statement}
 use Rattle.test_lines.proofs.answer.put_all_bytes.Tie as tie
 
 abbrev Inv-loop : tie.InvT-loop
-Inv-loop bytes₀ s end₀ i₀ bytes end i = (length bytes ≡ length bytes₀) × (i ≤ length s)
+Inv-loop bytes₀ s end₀ i₀ bytes end i = (length bytes ≡ length bytes₀)
 
 abbrev μ-loop : tie.MeasureT-loop
 μ-loop bytes₀ s end₀ i₀ bytes end i = length s - i
@@ -15,11 +15,8 @@ abbrev μ-loop : tie.MeasureT-loop
 loop-holds : tie.Need-loop-holds Inv-loop μ-loop
 loop-holds c = search needs
 
-mul-put-bytes : tie.Need-mul-put-bytes Inv-loop μ-loop
-mul-put-bytes c = search needs
-
-shared-slice-read-put-bytes : tie.Need-shared-slice-read-put-bytes Inv-loop μ-loop
-shared-slice-read-put-bytes c = search needs
+half-in-requires : tie.Need-half-in-requires Inv-loop μ-loop
+half-in-requires c κs = search needs
 
 put-bytes-requires : tie.Need-put-bytes-requires Inv-loop μ-loop
 put-bytes-requires c κs = search needs
@@ -46,8 +43,7 @@ put-all-bytes-spec =
     Inv-loop
     μ-loop
     loop-holds
-    mul-put-bytes
-    shared-slice-read-put-bytes
+    half-in-requires
     put-bytes-requires
     add-i
     loop-less

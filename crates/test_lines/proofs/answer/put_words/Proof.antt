@@ -15,8 +15,8 @@ abbrev μ-loop : tie.MeasureT-loop
 loop-holds : tie.Need-loop-holds Inv-loop μ-loop
 loop-holds c = search needs
 
-put-item-requires : tie.Need-put-item-requires Inv-loop μ-loop
-put-item-requires c κs = search needs
+put-word-requires : tie.Need-put-word-requires Inv-loop μ-loop
+put-word-requires c κs = search needs
 
 sub-if1 : tie.Need-sub-if1 Inv-loop μ-loop
 sub-if1 c = search needs
@@ -49,7 +49,7 @@ put-words-spec =
     Inv-loop
     μ-loop
     loop-holds
-    put-item-requires
+    put-word-requires
     sub-if1
     same-length
     returns

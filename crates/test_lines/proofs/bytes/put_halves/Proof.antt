@@ -6,10 +6,10 @@ use Rattle.test_lines.proofs.bytes.put_halves.Statement.{statement}
 use Rattle.test_lines.proofs.bytes.put_halves.Tie as tie
 
 abbrev Inv-loop : tie.InvT-loop
-Inv-loop out₀ at s from count end₀ place₀ left₀ out end place left = (length out ≡ length out₀)
+Inv-loop out₀ at s end₀ place₀ left₀ out end place left = (length out ≡ length out₀)
 
 abbrev μ-loop : tie.MeasureT-loop
-μ-loop out₀ at s from count end₀ place₀ left₀ out end place left = left
+μ-loop out₀ at s end₀ place₀ left₀ out end place left = left
 
 loop-holds : tie.Need-loop-holds Inv-loop μ-loop
 loop-holds c = search needs

@@ -7,28 +7,22 @@ use Rattle.test_lines.proofs.pieces.put_argument.Statement.{statement}
 use Rattle.test_lines.proofs.pieces.put_argument.Tie as tie
 
 abbrev Inv-loop : tie.InvT-loop
-Inv-loop s from to words store out₀ at end₀ next₀ out end next = (length out ≡ length out₀)
+Inv-loop s words store out₀ at end₀ from₀ out end from = (length out ≡ length out₀)
 
 abbrev μ-loop : tie.MeasureT-loop
-μ-loop s from to words store out₀ at end₀ next₀ out end next = to - next
+μ-loop s words store out₀ at end₀ from₀ out end from = length s - from
 
 loop-holds : tie.Need-loop-holds Inv-loop μ-loop
 loop-holds c = search needs
 
-find-requires : tie.Need-find-requires Inv-loop μ-loop
-find-requires c κs = search needs
+piece-requires : tie.Need-piece-requires Inv-loop μ-loop
+piece-requires c κs = search needs
 
 put-piece-requires : tie.Need-put-piece-requires Inv-loop μ-loop
 put-piece-requires c κs = search needs
 
-same-length : tie.Need-same-length Inv-loop μ-loop
-same-length c = search needs
-
-returns : tie.Need-returns Inv-loop μ-loop
-returns c = search needs
-
-add-next : tie.Need-add-next Inv-loop μ-loop
-add-next c = search needs
+next-requires : tie.Need-next-requires Inv-loop μ-loop
+next-requires c κs = search needs
 
 loop-less : tie.Need-loop-less Inv-loop μ-loop
 loop-less c = search needs
@@ -36,11 +30,11 @@ loop-less c = search needs
 loop-again : tie.Need-loop-again Inv-loop μ-loop
 loop-again c = search needs
 
-same-length-2 : tie.Need-same-length-2 Inv-loop μ-loop
-same-length-2 c = search needs
+same-length : tie.Need-same-length Inv-loop μ-loop
+same-length c = search needs
 
-returns-2 : tie.Need-returns-2 Inv-loop μ-loop
-returns-2 c = search needs
+returns : tie.Need-returns Inv-loop μ-loop
+returns c = search needs
 
 pub put-argument-spec : {M : Type 1} → statement M
 put-argument-spec =
@@ -49,12 +43,10 @@ put-argument-spec =
     Inv-loop
     μ-loop
     loop-holds
-    find-requires
+    piece-requires
     put-piece-requires
-    same-length
-    returns
-    add-next
+    next-requires
     loop-less
     loop-again
-    same-length-2
-    returns-2)
+    same-length
+    returns)

@@ -7,10 +7,10 @@ use Rattle.test_lines.proofs.pieces.put_pairs.Statement.{statement}
 use Rattle.test_lines.proofs.pieces.put_pairs.Tie as tie
 
 abbrev Inv-loop : tie.InvT-loop
-Inv-loop s from to out₀ at end₀ i₀ out end i = (length out ≡ length out₀)
+Inv-loop s out₀ at end₀ i₀ out end i = (length out ≡ length out₀)
 
 abbrev μ-loop : tie.MeasureT-loop
-μ-loop s from to out₀ at end₀ i₀ out end i = to - i
+μ-loop s out₀ at end₀ i₀ out end i = length s - i
 
 loop-holds : tie.Need-loop-holds Inv-loop μ-loop
 loop-holds c = search needs

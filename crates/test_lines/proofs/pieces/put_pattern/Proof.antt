@@ -1,16 +1,16 @@
 -- `test_lines::pieces::put_pattern` is safe and ends.
 use borrow.Author.Needs.{needs}
-use Prim.Native.Nat.{_≤_, _-_}
+use Prim.Native.Nat.{_-_}
 use mathlib.Core.Path.{_≡_}
 use lib.ListN.{length}
 use Rattle.test_lines.proofs.pieces.put_pattern.Statement.{statement}
 use Rattle.test_lines.proofs.pieces.put_pattern.Tie as tie
 
 abbrev Inv-loop : tie.InvT-loop
-Inv-loop s from to out₀ at count end₀ i₀ out end i = (length out ≡ length out₀) × (i ≤ count)
+Inv-loop s out₀ at count end₀ i₀ out end i = (length out ≡ length out₀)
 
 abbrev μ-loop : tie.MeasureT-loop
-μ-loop s from to out₀ at count end₀ i₀ out end i = count - i
+μ-loop s out₀ at count end₀ i₀ out end i = count - i
 
 decimal-requires : tie.Need-decimal-requires Inv-loop μ-loop
 decimal-requires c κs = search needs

@@ -6,19 +6,16 @@ use Rattle.test_lines.proofs.pieces.put_times.Statement.{statement}
 use Rattle.test_lines.proofs.pieces.put_times.Tie as tie
 
 abbrev Inv-loop : tie.InvT-loop
-Inv-loop s from to words out₀ at x left₀ end₀ out left end = (length out ≡ length out₀)
+Inv-loop s words out₀ at digits left₀ end₀ out left end = (length out ≡ length out₀)
 
 abbrev μ-loop : tie.MeasureT-loop
-μ-loop s from to words out₀ at x left₀ end₀ out left end = left
+μ-loop s words out₀ at digits left₀ end₀ out left end = left
 
-find-requires : tie.Need-find-requires Inv-loop μ-loop
-find-requires c κs = search needs
+piece-requires : tie.Need-piece-requires Inv-loop μ-loop
+piece-requires c κs = search needs
 
-after-requires : tie.Need-after-requires Inv-loop μ-loop
-after-requires c κs = search needs
-
-decimal-requires : tie.Need-decimal-requires Inv-loop μ-loop
-decimal-requires c κs = search needs
+times-requires : tie.Need-times-requires Inv-loop μ-loop
+times-requires c κs = search needs
 
 loop-holds : tie.Need-loop-holds Inv-loop μ-loop
 loop-holds c = search needs
@@ -47,9 +44,8 @@ put-times-spec =
     (tie.spec
     Inv-loop
     μ-loop
-    find-requires
-    after-requires
-    decimal-requires
+    piece-requires
+    times-requires
     loop-holds
     put-digits-requires
     sub-left

@@ -1,14 +1,15 @@
 -- `test_lines::pieces::value` is safe and ends.
 use borrow.Author.Needs.{needs}
 use Prim.Native.Nat.{_≤_, _-_}
+use lib.ListN.{length}
 use Rattle.test_lines.proofs.pieces.value.Statement.{statement}
 use Rattle.test_lines.proofs.pieces.value.Tie as tie
 
 abbrev Inv-loop : tie.InvT-loop
-Inv-loop s from to base x₀ at₀ x at = from ≤ at
+Inv-loop s base x₀ at₀ x at = 0 ≤ at
 
 abbrev μ-loop : tie.MeasureT-loop
-μ-loop s from to base x₀ at₀ x at = to - at
+μ-loop s base x₀ at₀ x at = length s - at
 
 loop-holds : tie.Need-loop-holds Inv-loop μ-loop
 loop-holds c = search needs

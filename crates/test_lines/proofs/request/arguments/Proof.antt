@@ -7,19 +7,43 @@ use Rattle.test_lines.proofs.request.arguments.Statement.{statement}
 use Rattle.test_lines.proofs.request.arguments.Tie as tie
 
 abbrev Inv-loop : tie.InvT-loop
-Inv-loop table letters s from store bytes₀ words₀ all₀ next₀ at₀ bytes words all next at = (length bytes ≡ length bytes₀) × (length words ≡ length words₀)
+Inv-loop letters s from store bytes₀ words₀ place₀ at₀ bytes words place at = (length bytes ≡ length bytes₀) × (length words ≡ length words₀)
 
 abbrev μ-loop : tie.MeasureT-loop
-μ-loop table letters s from store bytes₀ words₀ all₀ next₀ at₀ bytes words all next at = length table - at
+μ-loop letters s from store bytes₀ words₀ place₀ at₀ bytes words place at = length letters - at
 
 loop-holds : tie.Need-loop-holds Inv-loop μ-loop
 loop-holds c = search needs
 
-shared-slice-read-letter : tie.Need-shared-slice-read-letter Inv-loop μ-loop
-shared-slice-read-letter c = search needs
+byte-at-requires : tie.Need-byte-at-requires Inv-loop μ-loop
+byte-at-requires c κs = search needs
+
+piece-requires : tie.Need-piece-requires Inv-loop μ-loop
+piece-requires c κs = search needs
+
+value-requires : tie.Need-value-requires Inv-loop μ-loop
+value-requires c κs = search needs
+
+row-of-requires : tie.Need-row-of-requires Inv-loop μ-loop
+row-of-requires c κs = search needs
+
+push-requires : tie.Need-push-requires Inv-loop μ-loop
+push-requires c κs = search needs
+
+wrapping-add-usize-requires : tie.Need-wrapping-add-usize-requires Inv-loop μ-loop
+wrapping-add-usize-requires c κs = search needs
+
+wrapping-add-usize-requires-2 : tie.Need-wrapping-add-usize-requires-2 Inv-loop μ-loop
+wrapping-add-usize-requires-2 c κs = search needs
 
 add-at : tie.Need-add-at Inv-loop μ-loop
 add-at c = search needs
+
+loop-less : tie.Need-loop-less Inv-loop μ-loop
+loop-less c = search needs
+
+loop-again : tie.Need-loop-again Inv-loop μ-loop
+loop-again c = search needs
 
 same-length : tie.Need-same-length Inv-loop μ-loop
 same-length c = search needs
@@ -30,30 +54,6 @@ same-length-2 c = search needs
 returns : tie.Need-returns Inv-loop μ-loop
 returns c = search needs
 
-end-of-requires : tie.Need-end-of-requires Inv-loop μ-loop
-end-of-requires c κs = search needs
-
-with-argument-requires : tie.Need-with-argument-requires Inv-loop μ-loop
-with-argument-requires c κs = search needs
-
-next-of-requires : tie.Need-next-of-requires Inv-loop μ-loop
-next-of-requires c κs = search needs
-
-loop-less : tie.Need-loop-less Inv-loop μ-loop
-loop-less c = search needs
-
-loop-again : tie.Need-loop-again Inv-loop μ-loop
-loop-again c = search needs
-
-same-length-3 : tie.Need-same-length-3 Inv-loop μ-loop
-same-length-3 c = search needs
-
-same-length-4 : tie.Need-same-length-4 Inv-loop μ-loop
-same-length-4 c = search needs
-
-returns-2 : tie.Need-returns-2 Inv-loop μ-loop
-returns-2 c = search needs
-
 pub arguments-spec : {M : Type 1} → statement M
 arguments-spec =
     tie.close
@@ -61,16 +61,16 @@ arguments-spec =
     Inv-loop
     μ-loop
     loop-holds
-    shared-slice-read-letter
+    byte-at-requires
+    piece-requires
+    value-requires
+    row-of-requires
+    push-requires
+    wrapping-add-usize-requires
+    wrapping-add-usize-requires-2
     add-at
-    same-length
-    same-length-2
-    returns
-    end-of-requires
-    with-argument-requires
-    next-of-requires
     loop-less
     loop-again
-    same-length-3
-    same-length-4
-    returns-2)
+    same-length
+    same-length-2
+    returns)

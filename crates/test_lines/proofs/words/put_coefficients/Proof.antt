@@ -1,13 +1,13 @@
 -- `test_lines::words::put_coefficients` is safe and ends.
 use borrow.Author.Needs.{needs}
-use Prim.Native.Nat.{_≤_, _-_}
+use Prim.Native.Nat.{_-_}
 use mathlib.Core.Path.{_≡_}
 use lib.ListN.{length}
 use Rattle.test_lines.proofs.words.put_coefficients.Statement.{statement}
 use Rattle.test_lines.proofs.words.put_coefficients.Tie as tie
 
 abbrev Inv-loop : tie.InvT-loop
-Inv-loop out₀ c end₀ b₀ out end b = (length out ≡ length out₀) × (b ≤ 128)
+Inv-loop out₀ c end₀ b₀ out end b = (length out ≡ length out₀)
 
 abbrev μ-loop : tie.MeasureT-loop
 μ-loop out₀ c end₀ b₀ out end b = 128 - b
@@ -21,8 +21,11 @@ mul-w c = search needs
 array-copy-out-w : tie.Need-array-copy-out-w Inv-loop μ-loop
 array-copy-out-w c = search needs
 
-put-at-requires : tie.Need-put-at-requires Inv-loop μ-loop
-put-at-requires c κs = search needs
+put-half-requires : tie.Need-put-half-requires Inv-loop μ-loop
+put-half-requires c κs = search needs
+
+put-half-requires-2 : tie.Need-put-half-requires-2 Inv-loop μ-loop
+put-half-requires-2 c κs = search needs
 
 add-b : tie.Need-add-b Inv-loop μ-loop
 add-b c = search needs
@@ -48,7 +51,8 @@ put-coefficients-spec =
     loop-holds
     mul-w
     array-copy-out-w
-    put-at-requires
+    put-half-requires
+    put-half-requires-2
     add-b
     loop-less
     loop-again

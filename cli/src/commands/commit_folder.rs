@@ -1,0 +1,108 @@
+//! `seal commit FOLDER`: one root for a project of many files: that of its manifest.
+
+use crate::folder::Kind;
+use crate::json::Json;
+use crate::manifest::{Manifest, MANIFEST};
+use crate::options::Options;
+use crate::outcome::{Failure, Outcome, Verdict};
+use crate::project::{manifest_of, root_of, walked, written_path, Walked};
+use crate::reading::{lies_in, reason, shown_path, unreadable};
+use crate::seal::Seal;
+use crate::shape::Shape;
+use crate::shown::some_of;
+use crate::table::{variables, MOST_BYTES};
+use crate::writing::{beside, parent, Target};
+use dequmlo::Root;
+use std::path::{Path, PathBuf};
+
+pub fn run(options: &Options, k: usize, domain: Vec<u8>) -> Result<Outcome, Failure> {
+    let project = &options.operands[0];
+    let folder = match options.path("--out") {
+        Some(folder) => folder,
+        None => beside(&named(project)?, ".seal"),
+    };
+    let (target, mut notes) = Target::new(&folder, Kind::Seal, options.has("--force"))?;
+    if lies_in(parent(&folder), project) {
+        return Err(Failure(format!(
+            "{} would lie in the project that it stands for; name a folder outside of it by --out",
+            folder.display()
+        )));
+    }
+    let found = walked(project)?;
+    if let Some(sentence) = not_a_project(project, &found) {
+        return Ok(Outcome::declined(sentence));
+    }
+    let manifest = match manifest_of(project, found.files, k, &domain) {
+        Ok(manifest) => manifest,
+        Err(stop) => return stop.outcome(),
+    };
+    let text = manifest.text();
+    if text.len() > MOST_BYTES {
+        return Ok(Outcome::declined(format!(
+            "the manifest of the project has {} bytes, more than the {MOST_BYTES} that a deposit has; divide the project and seal each part",
+            text.len()
+        )));
+    }
+    let root = match root_of(text.as_bytes(), k, &domain) {
+        Ok(root) => root,
+        Err(refusal) => return Ok(Outcome::refused(&refusal)),
+    };
+    let n = variables(text.len());
+    let shape = Shape { n, k, domain };
+    let files = Seal::project_files(&shape, &root, &shown_path(project), &manifest);
+    notes.extend(target.write(&files)?);
+    Ok(told(&manifest, &root, project, target.folder()).notes(notes))
+}
+
+/// A folder's path with its own name at the end, as `.` has none.
+fn named(project: &Path) -> Result<PathBuf, Failure> {
+    if project.file_name().is_some() {
+        return Ok(project.into());
+    }
+    project
+        .canonicalize()
+        .map_err(|e| unreadable(project, reason(&e)))
+}
+
+/// Why a folder is no project, by name.
+fn not_a_project(project: &Path, found: &Walked) -> Option<String> {
+    if found.others.is_empty() && !found.files.is_empty() {
+        return None;
+    }
+    let project = project.display();
+    if found.others.is_empty() {
+        return Some(format!("there is no file in {project}"));
+    }
+    let names: Vec<String> = found
+        .others
+        .iter()
+        .map(|(path, what)| format!("{} is {what}", written_path(path)))
+        .collect();
+    Some(format!(
+        "{project} holds what is neither a file nor a folder, and a seal stands for files alone: {}. Take it out, or put the file itself in its place",
+        some_of(&names)
+    ))
+}
+
+fn told(manifest: &Manifest, root: &Root, project: &Path, folder: &Path) -> Outcome {
+    let (files, bytes, parts) = (manifest.0.len(), manifest.bytes(), manifest.parts());
+    let noun = if files == 1 { "file" } else { "files" };
+    let sentence = format!(
+        "sealed the project {}: {files} {noun}, {bytes} bytes in {parts} parts",
+        project.display()
+    );
+    Outcome::new(Verdict::Done, sentence)
+        .say()
+        .lines([
+            format!("root {root}"),
+            format!(
+                "the seal is in {0}, with {MANIFEST}, which lists the files; the office keeps it, the holder keeps the folder and a copy of {0}",
+                folder.display()
+            ),
+        ])
+        .found("seal", Json::text(folder.display()))
+        .found("root", Json::text(root))
+        .found("files", Json::number(files))
+        .found("bytes", Json::number(bytes))
+        .found("parts", Json::number(parts))
+}

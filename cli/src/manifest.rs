@@ -1,0 +1,249 @@
+//! A project's manifest: the length of every file and the roots of its parts, in the one form of SPECIFICATION 16.2, so that the same project
+//! has the same manifest everywhere.
+
+use crate::format::marked;
+use crate::table::MOST_BYTES;
+use dequmlo::Root;
+use std::fmt::Write;
+
+pub const MANIFEST: &str = "manifest.txt";
+
+/// The bytes of every part of a file but the last.
+pub const PART: u64 = MOST_BYTES as u64;
+
+/// A file of a project.
+#[derive(Clone, Debug, PartialEq, Eq)]
+pub struct Entry {
+    /// The path below the project's folder, its names with slashes between them.
+    pub path: Vec<u8>,
+    pub bytes: u64,
+    /// The root of each part.
+    pub parts: Vec<Root>,
+}
+
+/// The files, rising by the bytes of their paths.
+#[derive(Clone, Debug, PartialEq, Eq)]
+pub struct Manifest(pub Vec<Entry>);
+
+/// How many parts a file of so many bytes has: an empty file has one.
+pub fn part_count(bytes: u64) -> usize {
+    ((bytes + PART - 1) / PART).max(1) as usize
+}
+
+/// Where a part of a file starts, and how many bytes it has.
+pub fn part_place(bytes: u64, index: usize) -> (u64, usize) {
+    let start = index as u64 * PART;
+    (start, (bytes - start).min(PART) as usize)
+}
+
+impl Manifest {
+    pub fn text(&self) -> String {
+        let mut text = marked("");
+        for Entry { path, bytes, parts } in &self.0 {
+            text += &format!("file {bytes} {}\n", escaped(path));
+            for root in parts {
+                text += &format!("part {root}\n");
+            }
+        }
+        text
+    }
+
+    /// The manifest that has this text, to the letter.
+    pub fn of_text(text: &str) -> Option<Manifest> {
+        let mut files: Vec<Entry> = Vec::new();
+        for line in text.strip_prefix(&marked(""))?.lines() {
+            match line.split_once(' ')? {
+                ("file", rest) => {
+                    let (bytes, path) = rest.split_once(' ')?;
+                    files.push(Entry {
+                        path: unescaped(path)?,
+                        bytes: bytes.parse().ok()?,
+                        parts: Vec::new(),
+                    });
+                }
+                ("part", root) => files.last_mut()?.parts.push(root.parse().ok()?),
+                _ => return None,
+            }
+        }
+        let manifest = Manifest(files);
+        (manifest.in_order() && manifest.text() == text).then_some(manifest)
+    }
+
+    pub fn find(&self, path: &[u8]) -> Option<&Entry> {
+        let place = self.0.binary_search_by(|entry| entry.path[..].cmp(path));
+        place.ok().map(|place| &self.0[place])
+    }
+
+    pub fn bytes(&self) -> u64 {
+        self.0.iter().map(|entry| entry.bytes).sum()
+    }
+
+    pub fn parts(&self) -> usize {
+        self.0.iter().map(|entry| entry.parts.len()).sum()
+    }
+
+    /// Whether the paths rise and could be files' below a folder, and each file has the parts that its length asks for.
+    fn in_order(&self) -> bool {
+        let sound = |entry: &Entry| {
+            let mut names = entry.path.split(|byte| *byte == b'/');
+            !entry.path.contains(&0)
+                && names.all(|name| ![&b""[..], b".", b".."].contains(&name))
+                && entry.parts.len() == part_count(entry.bytes)
+        };
+        self.0.iter().all(sound) && self.0.windows(2).all(|two| two[0].path < two[1].path)
+    }
+}
+
+/// A path on one line: each byte below 32, the byte 127, the backslash, a blank at the end, and each byte that is not part of a character in
+/// UTF-8 are written as a backslash and two digits.
+pub fn escaped(path: &[u8]) -> String {
+    let mut text = String::new();
+    let mut rest = path;
+    while !rest.is_empty() {
+        let valid = match std::str::from_utf8(rest) {
+            Ok(all) => all,
+            Err(e) => std::str::from_utf8(&rest[..e.valid_up_to()]).expect("so far it is valid"),
+        };
+        for (i, c) in valid.char_indices() {
+            let last = i + c.len_utf8() == rest.len();
+            if c < ' ' || c == '\x7f' || c == '\\' || c == ' ' && last {
+                escape(&mut text, c as u8);
+            } else {
+                text.push(c);
+            }
+        }
+        rest = &rest[valid.len()..];
+        if let [byte, after @ ..] = rest {
+            escape(&mut text, *byte);
+            rest = after;
+        }
+    }
+    text
+}
+
+fn escape(text: &mut String, byte: u8) {
+    let _ = write!(text, "\\{byte:02x}");
+}
+
+/// The path of a text; none where a backslash is not followed by two digits.
+fn unescaped(text: &str) -> Option<Vec<u8>> {
+    let mut pieces = text.split('\\');
+    let mut path = pieces.next()?.as_bytes().to_vec();
+    for piece in pieces {
+        path.push(u8::from_str_radix(piece.get(..2)?, 16).ok()?);
+        path.extend_from_slice(&piece.as_bytes()[2..]);
+    }
+    Some(path)
+}
+
+#[cfg(test)]
+mod tests {
+    use super::{escaped, part_count, part_place, unescaped, Entry, Manifest, PART};
+    use dequmlo::Root;
+
+    const EMPTY: Entry = Entry {
+        path: Vec::new(),
+        bytes: 0,
+        parts: Vec::new(),
+    };
+
+    fn file(path: &[u8], bytes: u64) -> Entry {
+        Entry {
+            path: path.to_vec(),
+            bytes,
+            parts: (0..part_count(bytes))
+                .map(|i| Root([i as u8; 32]))
+                .collect(),
+        }
+    }
+
+    #[test]
+    fn a_path_on_one_line() {
+        for (path, text) in [
+            (&b"plans/north.dwg"[..], "plans/north.dwg"),
+            ("Πρόσοψη/立面図 ١".as_bytes(), "Πρόσοψη/立面図 ١"),
+            (b"two\nlines\\", "two\\0alines\\5c"),
+            (b"blank ", "blank\\20"),
+            (b" a  b", " a  b"),
+            (b"\x7f\x80\xc3\xa9\xc3", "\\7f\\80é\\c3"),
+            (b"\xe2\x82A\xf0\x9f\x98", "\\e2\\82A\\f0\\9f\\98"),
+            (b"\xc0\xaf\xed\xa0\x80", "\\c0\\af\\ed\\a0\\80"),
+        ] {
+            assert_eq!(escaped(path), text);
+            assert_eq!(unescaped(text).unwrap(), path);
+        }
+        for text in ["\\", "\\0", "a\\0g", "\\é"] {
+            assert_eq!(unescaped(text), None, "{text}");
+        }
+    }
+
+    #[test]
+    fn parts_of_a_file() {
+        for (bytes, count) in [(0, 1), (1, 1), (PART, 1), (PART + 1, 2), (3 * PART, 3)] {
+            assert_eq!(part_count(bytes), count, "{bytes}");
+        }
+        assert_eq!(part_place(PART + 7, 0), (0, PART as usize));
+        assert_eq!(part_place(PART + 7, 1), (PART, 7));
+        assert_eq!(part_place(0, 0), (0, 0));
+    }
+
+    #[test]
+    fn what_is_written_is_read() {
+        let files = [
+            file(b"a b\n", 0),
+            file(b"a/\xff", 16),
+            file(b"b", 2 * PART + 1),
+        ];
+        let manifest = Manifest(files.to_vec());
+        let text = manifest.text();
+        assert!(text.starts_with("format 1\nfile 0 a b\\0a\npart 0000"));
+        assert_eq!(Manifest::of_text(&text), Some(manifest.clone()));
+        assert_eq!(manifest.find(b"a/\xff"), Some(&files[1]));
+        assert_eq!(manifest.find(b"a"), None);
+        assert_eq!((manifest.bytes(), manifest.parts()), (2 * PART + 17, 5));
+        assert_eq!(Manifest::of_text("format 1\n"), Some(Manifest(Vec::new())));
+    }
+
+    #[test]
+    fn another_text_is_none() {
+        let text = Manifest(vec![file(b"A", 16), file(b"b\n", 17)]).text();
+        let swapped = Manifest(vec![file(b"b", 17), file(b"A", 16)]).text();
+        let twice = Manifest(vec![file(b"A", 16), file(b"A", 16)]).text();
+        let without_parts = Manifest(vec![Entry {
+            path: b"A".to_vec(),
+            ..EMPTY
+        }]);
+        assert!(Manifest::of_text(&text).is_some());
+        let mut others = vec![
+            swapped,
+            twice,
+            without_parts.text(),
+            text.replace("file 16", "file 016"),
+            text.replace("file 16", "file +16"),
+            text.replace("file 16", "file 16777201"),
+            text.replace("\\0a", "\\0A"),
+            text.replace(" A\n", " \\41\n"),
+            text.replace("part 00", "part  00"),
+            text.replace('\n', "\r\n"),
+            format!("{text}\n"),
+            format!("{text}part {}\n", Root([0; 32])),
+            text[..text.len() - 1].into(),
+            text["format 1\n".len()..].into(),
+        ];
+        for path in [
+            &b"/a"[..],
+            b"a/",
+            b"a//b",
+            b".",
+            b"../a",
+            b"a/../b",
+            b"",
+            b"a\0b",
+        ] {
+            others.push(Manifest(vec![file(path, 1)]).text());
+        }
+        for other in others {
+            assert_eq!(Manifest::of_text(&other), None, "{other:?}");
+        }
+    }
+}

@@ -1,0 +1,546 @@
+//! The program and tools/check_seal.py, which shares no code with the library, give the same answers: the same number at the same level for
+//! every damage that a check can name.
+
+mod desk;
+
+use desk::{Desk, Run};
+use std::collections::BTreeMap;
+use std::ffi::OsStr;
+use std::fs;
+use std::os::unix::ffi::OsStrExt;
+use std::process::Command;
+
+/// The levels at which records are damaged: the first, one in the middle, and the last. A deposit of 64 words has six.
+const LEVELS: [usize; 3] = [0, 3, 5];
+
+/// What both say of each position and of the tail: `yes`, `no`, or the number with its level.
+type Answers = BTreeMap<String, String>;
+
+/// A sealed file of 64 words, k = 2, opened at these positions; the challenges are the checker's own file.
+fn opened(name: &str, positions: &[usize]) -> Desk {
+    let desk = Desk::new(name);
+    desk.write("plan.txt", &desk::plan());
+    desk.run("commit plan.txt --profile balanced").says(0, &[]);
+    let open = "open plan.txt --seal plan.txt.seal --seed dice --at";
+    desk.run(&format!("{open} {}", listed(positions)))
+        .says(0, &[]);
+    desk.keep("challenges.txt");
+    desk
+}
+
+fn listed(positions: &[usize]) -> String {
+    let texts: Vec<String> = positions.iter().map(usize::to_string).collect();
+    texts.join(",")
+}
+
+/// Runs both with the same words, which must end with this status, and compares what they say.
+fn both(desk: &Desk, status: i32, positions: &[usize], more: &str) -> Answers {
+    let words = format!(
+        "plan.txt.opening --seal plan.txt.seal --challenges challenges.txt --at {} {more}",
+        listed(positions)
+    );
+    let program = desk.run(&format!("check {words}"));
+    let witness = witness(desk, &words);
+    program.says(status, &[]);
+    witness.says(status, &[]);
+    let said = answers(&program, "accepted", "refused");
+    assert_eq!(said, answers(&witness, "yes", "no"), "{more}");
+    said
+}
+
+/// Runs tools/check_seal.py with the words of a line.
+fn witness(desk: &Desk, words: &str) -> Run {
+    python(desk, "check_seal.py", words.split_whitespace())
+}
+
+/// Runs a file of tools/.
+fn python<W: AsRef<OsStr>>(desk: &Desk, file: &str, words: impl IntoIterator<Item = W>) -> Run {
+    let tools = concat!(env!("CARGO_MANIFEST_DIR"), "/../tools");
+    let mut command = Command::new("python3");
+    command
+        .arg(format!("{tools}/{file}"))
+        .args(words)
+        .env("PYTHONDONTWRITEBYTECODE", "1")
+        .current_dir(&desk.0);
+    Run::of(&mut command)
+}
+
+/// A text of values with another one in the place of the one of this number; its first line is the format.
+fn with_value(text: &str, number: usize, value: &str) -> String {
+    let mut lines: Vec<&str> = text.lines().collect();
+    lines[number + 1] = value;
+    lines.join("\n") + "\n"
+}
+
+fn answers(run: &Run, yes: &str, no: &str) -> Answers {
+    run.out
+        .lines()
+        .filter_map(|line| line.split_once(": "))
+        .filter(|(name, _)| name.starts_with("position ") || *name == "tail")
+        .map(|(name, said)| {
+            let number = said.strip_prefix(&format!("{no}, "));
+            let answer = match number.and_then(|text| text.split_once(": ")) {
+                Some((number, _)) => number,
+                None if said.split(';').next() == Some(yes) => "yes",
+                None => "no",
+            };
+            (name.into(), answer.into())
+        })
+        .collect()
+}
+
+/// One level of a query record, in the order of its bytes.
+struct Level {
+    words: [Vec<u8>; 3],
+    a_group: Vec<Vec<u8>>,
+    c_group: Vec<Vec<u8>>,
+    a_path: Vec<Vec<u8>>,
+    c_path: Vec<Vec<u8>>,
+}
+
+/// Takes so many bytes off the front.
+fn take(bytes: &mut &[u8], size: usize) -> Vec<u8> {
+    let (front, rest) = bytes.split_at(size);
+    *bytes = rest;
+    front.to_vec()
+}
+
+fn run(bytes: &mut &[u8], size: usize) -> Vec<Vec<u8>> {
+    let count = u32::from_le_bytes(take(bytes, 4).try_into().unwrap());
+    (0..count).map(|_| take(bytes, size)).collect()
+}
+
+fn levels(mut bytes: &[u8]) -> Vec<Level> {
+    let count = u32::from_le_bytes(take(&mut bytes, 4).try_into().unwrap());
+    let mut level = || Level {
+        words: [0; 3].map(|_| take(&mut bytes, 16)),
+        a_group: run(&mut bytes, 16),
+        c_group: run(&mut bytes, 16),
+        a_path: run(&mut bytes, 32),
+        c_path: run(&mut bytes, 32),
+    };
+    (0..count).map(|_| level()).collect()
+}
+
+fn record(levels: &[Level]) -> Vec<u8> {
+    let count = |items: usize| (items as u32).to_le_bytes().to_vec();
+    let mut bytes = count(levels.len());
+    for level in levels {
+        bytes.extend(level.words.concat());
+        for run in [&level.a_group, &level.c_group, &level.a_path, &level.c_path] {
+            bytes.extend(count(run.len()));
+            bytes.extend(run.concat());
+        }
+    }
+    bytes
+}
+
+type Damage = fn(&mut Level);
+
+/// The damages of a record that a level's questions name, each with its number.
+const DAMAGES: [(u32, Damage); 12] = [
+    (16, |level| drop(level.a_group.pop())),
+    (17, |level| drop(level.a_path.pop())),
+    (18, |level| level.a_group[0][15] ^= 128),
+    (18, |level| level.a_path[0][31] ^= 1),
+    (19, |level| level.words[0][0] ^= 1),
+    (21, |level| level.words[1][7] ^= 16),
+    (22, |level| drop(level.c_group.pop())),
+    (23, |level| drop(level.c_path.pop())),
+    (24, |level| level.c_group[1][3] ^= 2),
+    (24, |level| level.c_path[0][0] ^= 1),
+    (25, |level| level.words[2][15] ^= 1),
+    // Both words and their group changed together: what was deposited is not what is shown.
+    (18, |level| {
+        level.words[0][0] ^= 1;
+        level.words[1][0] ^= 1;
+        level.a_group.iter_mut().for_each(|word| word[0] ^= 1);
+    }),
+];
+
+#[test]
+fn the_witness_gives_the_values_of_the_specification() {
+    let tried = witness(&Desk::new("witness-values"), "--try");
+    tried.says(
+        0,
+        &["12.4, the query record: yes", "12.4, the tail record: yes"],
+    );
+}
+
+#[test]
+fn the_witness_accepts_an_intact_opening() {
+    let desk = opened("witness-intact", &[0, 7, 255]);
+    let said = both(&desk, 0, &[0, 7, 255], "");
+    assert!(said.values().all(|answer| answer == "yes"), "{said:?}");
+    assert_eq!(said.len(), 4);
+    fs::copy(desk.path("plan.txt.opening/roots.txt"), desk.path("kept")).unwrap();
+    both(&desk, 0, &[7], "--roots kept");
+}
+
+#[test]
+fn the_witness_numbers_each_damage_of_a_level() {
+    let positions: Vec<usize> = (0..DAMAGES.len() * LEVELS.len()).map(|i| 7 * i).collect();
+    let desk = opened("witness-levels", &positions);
+    let cases = LEVELS
+        .iter()
+        .flat_map(|level| DAMAGES.iter().map(move |damage| (*level, damage)));
+    let mut expected = Answers::new();
+    for (position, (level, (number, damage))) in positions.iter().zip(cases) {
+        let name = format!("plan.txt.opening/query-{position}.record");
+        let mut parts = levels(&desk.read(&name));
+        assert_eq!(record(&parts), desk.read(&name));
+        damage(&mut parts[level]);
+        desk.write(&name, &record(&parts));
+        expected.insert(
+            format!("position {position}"),
+            format!("{number} at level {level}"),
+        );
+    }
+    expected.insert("tail".into(), "yes".into());
+    assert_eq!(both(&desk, 1, &positions, ""), expected);
+}
+
+#[test]
+fn the_witness_on_records_that_do_not_read_whole() {
+    let positions = [0, 1, 2, 3, 4, 5, 6, 7, 8];
+    let desk = opened("witness-reading", &positions);
+    let file = |position: usize| format!("plan.txt.opening/query-{position}.record");
+    let sound = desk.read(&file(0));
+    let cut = |size: usize| sound[..size].to_vec();
+    let counted = |count: u32| [&count.to_le_bytes(), &sound[4..]].concat();
+    let fewer = record(&levels(&sound)[..5]);
+    // Seven levels, of which no more is read than six and a byte.
+    let longer = record(
+        &[levels(&sound), levels(&sound)]
+            .into_iter()
+            .flatten()
+            .take(7)
+            .collect::<Vec<_>>(),
+    );
+    let damaged = [
+        (cut(sound.len() - 1), "14"),
+        (cut(0), "14"),
+        (cut(3), "14"),
+        (counted(u32::MAX), "14"),
+        (counted(5), "14"),
+        ([&sound[..], &[0]].concat(), "14"),
+        (longer, "14"),
+        (fewer, "15"),
+        (vec![0; 4], "15"),
+    ];
+    for (position, (bytes, number)) in positions.iter().zip(&damaged) {
+        desk.write(&file(*position), bytes);
+        let said = both(&desk, 1, &[*position], "");
+        assert_eq!(said[&format!("position {position}")], *number);
+    }
+}
+
+#[test]
+fn the_witness_on_another_position_s_record_and_a_missing_one() {
+    let desk = opened("witness-positions", &[6, 7, 100]);
+    let copied = |from: usize, to: usize| {
+        let file = |position| desk.path(&format!("plan.txt.opening/query-{position}.record"));
+        fs::copy(file(from), file(to)).unwrap();
+    };
+    // Position 6 and 7 are one pair, and have one record; 6 and 2 are in one group; 100 is elsewhere.
+    copied(6, 7);
+    copied(6, 2);
+    copied(100, 6);
+    let said = both(&desk, 1, &[2, 6, 7, 9], "");
+    let numbers = [
+        ("position 2", "19 at level 0"),
+        ("position 6", "18 at level 0"),
+        ("position 7", "yes"),
+        ("position 9", "no"),
+        ("tail", "yes"),
+    ];
+    for (name, answer) in numbers {
+        assert_eq!(said[name], answer, "{name}");
+    }
+}
+
+#[test]
+fn the_witness_on_other_challenges_than_the_holder_s() {
+    let desk = opened("witness-challenges", &[7, 200]);
+    let sound = desk.text("challenges.txt");
+    for level in LEVELS {
+        let changed = with_value(&sound, level, &format!("{:032x}", 5));
+        desk.write("challenges.txt", changed.as_bytes());
+        let said = both(&desk, 1, &[7, 200], "");
+        assert_eq!(said["position 7"], format!("26 at level {level}"));
+        assert_eq!(said["tail"], "yes");
+    }
+    // One challenge less is the checker's own mistake.
+    desk.write("challenges.txt", &sound.as_bytes()[..sound.len() - 33]);
+    both(&desk, 2, &[7], "");
+}
+
+#[test]
+fn the_witness_on_other_roots() {
+    let desk = opened("witness-roots", &[7, 200]);
+    let name = "plan.txt.opening/roots.txt";
+    let sound = desk.text(name);
+    desk.write("kept", sound.as_bytes());
+    let changed = |level: usize| with_value(&sound, level, &"ab".repeat(32));
+    // Level 0's root is the office's own, so that what the opening says of it does not count.
+    desk.write(name, changed(0).as_bytes());
+    both(&desk, 0, &[7], "");
+    for (level, number) in [
+        (1, "24 at level 0"),
+        (3, "24 at level 2"),
+        (6, "24 at level 5"),
+    ] {
+        desk.write(name, changed(level).as_bytes());
+        let said = both(&desk, 1, &[7, 200], "");
+        assert_eq!(said["position 7"], number);
+        assert_eq!(said["tail"], if level == 6 { "30" } else { "yes" });
+        both(&desk, 0, &[7], "--roots kept");
+        desk.write("other", changed(level).as_bytes());
+        assert_eq!(both(&desk, 1, &[7], "--roots other")["position 7"], number);
+    }
+    desk.write("other", changed(0).as_bytes());
+    both(&desk, 2, &[7], "--roots other");
+    // One root less in the opening: the length is refused, by the program before it looks at a position.
+    desk.write(name, &sound.as_bytes()[..sound.len() - 65]);
+    let words = "plan.txt.opening --seal plan.txt.seal --challenges challenges.txt --at 7";
+    desk.run(&format!("check {words}"))
+        .says(1, &["opening: refused, 5: "]);
+    witness(&desk, words).says(1, &["position 7: no, 5: ", "tail: no, 5: "]);
+}
+
+#[test]
+fn the_witness_numbers_each_damage_of_the_tail() {
+    let desk = opened("witness-tail", &[7]);
+    let name = "plan.txt.opening/tail.record";
+    let sound = desk.read(name);
+    // Two groups of two words and one digest, each after its count: 4 + 2 × (4 + 32 + 4 + 32) bytes.
+    assert_eq!(sound.len(), 148);
+    let changed = |at: usize, bit: u8| {
+        let mut bytes = sound.clone();
+        bytes[at] ^= bit;
+        bytes
+    };
+    // The group that starts at a byte, without its last value or without its path.
+    let shortened = |group: usize, without_path: bool| {
+        let (count, removed) = if without_path {
+            (group + 36, 32)
+        } else {
+            (group, 16)
+        };
+        let mut bytes = sound.clone();
+        bytes[count] -= 1;
+        let values = count + 4;
+        drop(bytes.drain(values..values + removed));
+        bytes
+    };
+    let damaged = [
+        (sound[..147].to_vec(), "14"),
+        ([&sound[..], &[0]].concat(), "14"),
+        (Vec::new(), "14"),
+        (changed(0, 1), "14"),
+        ([&[1, 0, 0, 0], &sound[4..76]].concat(), "27"),
+        (vec![0; 4], "27"),
+        (shortened(4, false), "28"),
+        (shortened(76, false), "28"),
+        (shortened(4, true), "29"),
+        (shortened(76, true), "29"),
+        (changed(8, 1), "30"),
+        (changed(147, 1), "30"),
+    ];
+    for (bytes, number) in damaged {
+        desk.write(name, &bytes);
+        let said = both(&desk, 1, &[7], "");
+        assert_eq!((&*said["tail"], &*said["position 7"]), (number, "yes"));
+    }
+    desk.write(name, &sound);
+    let claim = format!("--claim {:032x}", 5);
+    assert_eq!(both(&desk, 1, &[7], &claim)["tail"], "31");
+    desk.write("plan.txt.opening/claim.txt", &[b'0'; 32]);
+    assert_eq!(both(&desk, 1, &[7], "")["tail"], "31");
+}
+
+#[test]
+fn the_witness_accepts_what_earlier_versions_wrote() {
+    let desk = Desk::new("witness-fixtures");
+    let fixtures = concat!(env!("CARGO_MANIFEST_DIR"), "/tests/fixtures/v1");
+    for version in ["0.1.0", "0.2.0", "0.3.0"] {
+        let folder = format!("{fixtures}/{version}");
+        fs::copy(
+            format!("{folder}/plan.txt.opening/challenges.txt"),
+            desk.path("challenges.txt"),
+        )
+        .unwrap();
+        let opening = format!("{folder}/plan.txt.opening --seal {folder}/plan.txt.seal");
+        let words = format!("{opening} --challenges challenges.txt --at 0,7,127");
+        witness(&desk, &words).says(0, &["position 127: yes\ntail: yes\nyes\n"]);
+    }
+}
+
+#[test]
+fn the_witness_on_another_format_and_on_two_files_for_a_position() {
+    let desk = opened("witness-folder", &[3, 7]);
+    let file = |name: &str| desk.path("plan.txt.opening").join(name);
+    fs::copy(file("query-3.record"), file("query-003.record")).unwrap();
+    both(&desk, 1, &[7], "");
+    fs::remove_file(file("query-003.record")).unwrap();
+    both(&desk, 0, &[7], "");
+    for name in ["plan.txt.seal/root.txt", "plan.txt.opening/roots.txt"] {
+        let sound = desk.text(name);
+        desk.write(name, sound.replacen("format 1", "format 2", 1).as_bytes());
+        both(&desk, 2, &[7], "");
+        desk.write(name, sound.as_bytes());
+    }
+}
+
+#[test]
+fn the_witness_takes_no_damaged_seal() {
+    let desk = opened("witness-seal", &[7]);
+    for name in ["parameters.txt", "root.txt"] {
+        let name = format!("plan.txt.seal/{name}");
+        let sound = desk.text(&name);
+        let end = sound.len() - 2;
+        let other = if sound.as_bytes()[end] == b'0' {
+            "1"
+        } else {
+            "0"
+        };
+        desk.write(&name, format!("{}{other}\n", &sound[..end]).as_bytes());
+        both(&desk, 2, &[7], "");
+        desk.write(&name, sound.replace('\n', " \r\n").as_bytes());
+        both(&desk, 0, &[7], "");
+        desk.write(&name, sound.as_bytes());
+    }
+}
+
+/// Runs the program and tools/check_project.py on an opening of a project, which must end with this status and say the same of each record.
+fn both_on_a_file(desk: &Desk, status: i32, path: &[u8], offset: &str) -> [Run; 2] {
+    let words = "house.opening --seal house.seal --challenges challenges.txt --offset";
+    let words = words.split_whitespace().map(OsStr::new);
+    let more = [offset.as_bytes(), b"--file", path].map(OsStr::from_bytes);
+    let words: Vec<&OsStr> = words.chain(more).collect();
+    let program = desk.seal([&[OsStr::new("check")], &words[..]].concat());
+    let witness = python(desk, "check_project.py", words);
+    program.says(status, &[]);
+    witness.says(status, &[]);
+    assert_eq!(
+        answers(&program, "accepted", "refused"),
+        answers(&witness, "yes", "no")
+    );
+    [program, witness]
+}
+
+#[test]
+fn the_witness_checks_a_file_of_a_project() {
+    let desk = Desk::new("witness-project");
+    desk.folder("house");
+    let paths: [&[u8]; 7] = [
+        b"two\nlines",
+        b"end ",
+        b"\xff\xc3\xa9\xc3",
+        b"back\\5c",
+        "план 平面図".as_bytes(),
+        b"empty",
+        b"a b",
+    ];
+    for (i, path) in paths.iter().enumerate() {
+        let file = desk.path("house").join(OsStr::from_bytes(path));
+        fs::write(file, &desk::plan()[..(i * 150) % 750]).unwrap();
+    }
+    for (profile, path, offset) in [
+        ("balanced", paths[4], "599,0"),
+        ("deepwrap", paths[2], "17"),
+        ("default", paths[1], "0"),
+    ] {
+        desk.run(&format!("commit house --profile {profile} --force"))
+            .says(0, &[]);
+        let open =
+            format!("open house --seal house.seal --seed dice --force --offset {offset} --file");
+        let words = open
+            .split(' ')
+            .map(OsStr::new)
+            .chain([OsStr::from_bytes(path)]);
+        desk.seal(words).says(0, &[]);
+        fs::copy(
+            desk.path("house.opening/challenges.txt"),
+            desk.path("challenges.txt"),
+        )
+        .unwrap();
+        let [program, witness] = both_on_a_file(&desk, 0, path, offset);
+        program.says(0, &["manifest: accepted"]);
+        witness.says(0, &["manifest: yes\n", "tail: yes\nyes\n"]);
+    }
+
+    // The last opening, with one thing or another changed.
+    let (path, record) = (paths[1], "house.opening/query-0.record");
+    desk.damage(record, 60);
+    let [_, witness] = both_on_a_file(&desk, 1, path, "0");
+    witness.says(1, &["manifest: yes\n", "position 0: no, 18 at level 0: "]);
+    desk.damage(record, 60);
+    both_on_a_file(&desk, 2, b"end", "0");
+    both_on_a_file(&desk, 2, path, "150");
+    let sound = desk.text("house.opening/manifest.txt");
+    for other in [
+        sound.replacen("file 150", "file 151", 1),
+        sound.replacen('0', "1", 20),
+        sound.replace("end\\20", "end "),
+        format!("{sound}\n"),
+        sound[..sound.len() - 1].into(),
+        String::new(),
+    ] {
+        desk.write("house.opening/manifest.txt", other.as_bytes());
+        let [program, witness] = both_on_a_file(&desk, 1, path, "0");
+        program.says(1, &["manifest: refused: "]);
+        witness.says(1, &["manifest: no: "]);
+    }
+    fs::remove_file(desk.path("house.opening/manifest.txt")).unwrap();
+    both_on_a_file(&desk, 1, path, "0");
+}
+
+/// Texts that a seal stands for and that are no manifests, or are.
+#[test]
+fn the_witness_knows_a_manifest_by_its_form() {
+    let desk = Desk::new("witness-forms");
+    desk.folder("house");
+    desk.write("house/b", &desk::plan());
+    desk.run("commit house").says(0, &[]);
+    let sound = desk.text("house.seal/manifest.txt");
+    let part = sound.lines().last().unwrap();
+    let twice = format!("file 960 b\n{part}\n");
+    for (text, status) in [
+        (sound.clone(), 0),
+        (
+            sound.replace("file 960 b", &format!("file 0 a\\0a\n{part}\nfile 960 b")),
+            0,
+        ),
+        (
+            sound.replace("file 960 b", &format!("file 0 c\n{part}\nfile 960 b")),
+            1,
+        ),
+        (sound.replace("960 b", "0960 b"), 1),
+        (sound.replace("960 b", "960 \\62"), 1),
+        (sound.replace("960 b", "960 ./b"), 1),
+        (format!("{sound}{twice}"), 1),
+        (format!("{sound}{part}\n"), 1),
+        (sound.replace("format 1\n", ""), 1),
+        (format!("{sound} "), 1),
+        (sound.replace('\n', "\r\n"), 1),
+    ] {
+        for folder in ["house.seal", "house.opening"] {
+            let _ = fs::remove_dir_all(desk.path(folder));
+        }
+        desk.write("manifest.txt", text.as_bytes());
+        desk.run("commit manifest.txt --out house.seal")
+            .says(0, &[]);
+        // What is opened is the file by itself, under the root that the text names for it.
+        desk.run("commit house/b --out one --force").says(0, &[]);
+        desk.run("open house/b --seal one --seed dice --at 3 --out house.opening")
+            .says(0, &[]);
+        fs::copy(
+            desk.path("house.opening/challenges.txt"),
+            desk.path("challenges.txt"),
+        )
+        .unwrap();
+        desk.write("house.opening/manifest.txt", text.as_bytes());
+        both_on_a_file(&desk, status, b"b", "50");
+    }
+}

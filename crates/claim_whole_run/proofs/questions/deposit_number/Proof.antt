@@ -1,0 +1,87 @@
+-- `claim_whole_run::questions::deposit_number` meets its contract.
+use native.Mathlib.Omega.{arith}
+use Rattle.theory_laws.proofs.Questions.{asks, asks-given}
+use Rattle.claim_whole_run.proofs.Numbers.{asks-twice, room-asked}
+use Rattle.code_codeword.proofs.Lengths.{gammas-fit}
+use Rattle.theory_record.proofs.Ranges.{sizes-small}
+use Rattle.code_level.proofs.Totals.{levels-fit}
+use borrow.Author.Needs.{needs}
+use Rattle.claim_whole_run.proofs.questions.deposit_number.Statement.{statement}
+use Rattle.claim_whole_run.proofs.questions.deposit_number.Tie as tie
+use Rattle.claim_whole_run.proofs.questions.deposit_number.Reads as reads
+use Rattle.claim_whole_run.proofs.questions.deposit_number.Lts as lts
+use Rattle.code_level.proofs.level_length.Reads as level-length-reads
+use Rattle.code_level.proofs.levels_length.Reads as levels-length-reads
+use Rattle.code_level.proofs.trees_size.Reads as trees-size-reads
+
+mul-if1 : tie.Need-mul-if1
+mul-if1 c = let start : tie.Start = search in let p = start .pre in omega (arith, gammas-fit {n = start .args .n} {k = start .args .k} (p .n-most) (p .k-most))
+
+mul-if1-2 : tie.Need-mul-if1-2
+mul-if1-2 c =
+    let start : tie.Start = search in
+    let p = start .pre in
+    omega (arith, gammas-fit {n = start .args .n} {k = start .args .k} (p .n-most) (p .k-most))
+
+returns : tie.Need-returns
+returns c = search (asks, asks-given, asks-twice) depth 16 fits 8000
+
+levels-length-requires : tie.Need-levels-length-requires
+levels-length-requires c κs = let start : tie.Start = search in start .pre
+
+mul-if2 : tie.Need-mul-if2
+mul-if2 c = let start : tie.Start = search in let h = levels-fit _ _ (start .pre) in search needs
+
+returns-2 : tie.Need-returns-2
+returns-2 c = search (asks, asks-given, asks-twice) depth 16 fits 8000
+
+level-length-requires : tie.Need-level-length-requires
+level-length-requires c κs = let start : tie.Start = search in (sizes-small _ _ (start .pre), search needs)
+
+returns-3 : tie.Need-returns-3
+returns-3 c = search (asks, asks-given, asks-twice) depth 16 fits 8000
+
+mul-if4 : tie.Need-mul-if4
+mul-if4 c = search needs
+
+returns-4 : tie.Need-returns-4
+returns-4 c = search (asks, asks-given, asks-twice) depth 16 fits 8000
+
+trees-size-requires : tie.Need-trees-size-requires
+trees-size-requires c κs = let start : tie.Start = search in start .pre
+
+returns-5 : tie.Need-returns-5
+returns-5 c = search (asks, asks-given, asks-twice) depth 16 fits 8000
+
+add-if6 : tie.Need-add-if6
+add-if6 c = search needs
+
+mul-if6 : tie.Need-mul-if6
+mul-if6 c = search needs
+
+returns-6 : tie.Need-returns-6
+returns-6 c = search (asks, asks-given, asks-twice) depth 16 fits 8000
+
+returns-7 : tie.Need-returns-7
+returns-7 c = search room-asked
+
+pub deposit-number-spec : {M : Type 1} → statement M
+deposit-number-spec =
+    tie.close
+    (tie.spec
+    mul-if1
+    mul-if1-2
+    returns
+    levels-length-requires
+    mul-if2
+    returns-2
+    level-length-requires
+    returns-3
+    mul-if4
+    returns-4
+    trees-size-requires
+    returns-5
+    add-if6
+    mul-if6
+    returns-6
+    returns-7)

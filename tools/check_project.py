@@ -1,0 +1,156 @@
+#!/usr/bin/env python3
+"""Checks an opening of a file of a project by docs/SPECIFICATION.md alone. It needs Python 3.6 or later and check_seal.py beside it.
+
+    tools/check_project.py OPENING --seal FOLDER --file PATH --offset B,B,.. --challenges FILE [--roots FILE] [--claim WORD]
+
+It commits the manifest that the opening shows, compares its root with the project's (SPECIFICATION 16.5), and then checks the records under the part's root as
+check_seal.py does. `manifest: no` or a later `no` says which of the two failed. Committing takes some minutes where the manifest has megabytes.
+Exit status: 0 yes, 1 no, 2 nothing could be checked.
+"""
+import argparse
+import os
+import re
+import sys
+from pathlib import Path
+
+from check_seal import CannotCheck, Level, check_opening, content, digest, leaf_message, node_message, part, read_seal, u64
+
+PART = 16_777_200
+
+
+# 6. The code. Here a word is a number.
+
+
+def times(factor):
+    """The product with a word, as sums of what each byte of the other word gives (SPECIFICATION 2.2)."""
+    tables, power = [], factor
+    for _ in range(16):
+        table = [0]
+        for _ in range(8):
+            table += [power ^ entry for entry in table]
+            power <<= 1
+            if power >> 128:
+                power ^= 1 << 128 | 0x87
+        tables.append(table)
+
+    def product(word):
+        total = 0
+        for table, byte in zip(tables, word.to_bytes(16, "little")):
+            total ^= table[byte]
+        return total
+
+    return product
+
+
+def gamma(base, n, k, j, i):
+    """SPECIFICATION 6.1."""
+    message = u64(6) + b"".join(map(part, (b"magnetar/pcs/gamma/v1", base, u64(n), u64(k), u64(j), u64(i))))
+    return int.from_bytes(digest(message)[:16], "little")
+
+
+def shifted(table, n, shift):
+    """P(v + L) for every v: coordinate by coordinate, a and b become a + l × (a + b) and b + l × (a + b) (SPECIFICATION 6.3)."""
+    values = list(table)
+    for i in range(n):
+        product = times(shift[i])
+        for v in range(len(values)):
+            if not v >> i & 1:
+                a, b = values[v], values[v | 1 << i]
+                step = product(a ^ b)
+                values[v], values[v | 1 << i] = a ^ step, b ^ step
+    return values
+
+
+def codeword(base, n, k, table):
+    words = []
+    for eps in range(2 ** k):
+        shift = [0] * n
+        for j in range(k):
+            if eps >> j & 1:
+                shift = [l ^ gamma(base, n, k, j, i) for i, l in enumerate(shift)]
+        words += shifted(table, n, shift) if eps else table
+    return [word.to_bytes(16, "little") for word in words]
+
+
+def root_of(base, k, data):
+    """n and the root of level 0 of these bytes as a file (SPECIFICATION 15.1, 5.4)."""
+    n = max(1, ((len(data) + 15) // 16).bit_length())
+    table = [int.from_bytes(data[at : at + 16], "little") for at in range(0, 2 ** n * 16, 16)]
+    table[-1] = len(data)
+    level, words = Level(base, n, k, 0), codeword(base, n, k, table)
+    groups = [words[at : at + level.width] for at in range(0, level.count, level.width)]
+    fresh = digest.__wrapped__
+    digests = [fresh(leaf_message(level.domain, level.count, level.width, g, values)) for g, values in enumerate(groups)]
+    for height in range(level.depth):
+        digests = [fresh(node_message(level.domain, height, left, right)) for left, right in zip(digests[::2], digests[1::2])]
+    return n, digests[0]
+
+
+# 16. Projects.
+
+
+def escaped(path):
+    """A path as SPECIFICATION 16.2 writes it; surrogates stand for the bytes that are not part of a character in UTF-8."""
+    text = path.decode("utf-8", "surrogateescape")
+    shown = re.sub(r"[\0-\x1f\x7f\\\udc80-\udcff]| \Z", lambda found: "\\%02x" % (ord(found.group()) & 0xFF), text)
+    return shown.encode()
+
+
+def unescaped(text):
+    return re.sub(rb"\\([0-9a-f]{2})", lambda found: bytes([int(found.group(1), 16)]), text)
+
+
+def manifest(text):
+    """Each path with its length and its parts' roots; nothing where the text is no manifest, to the letter."""
+    files = []
+    for block in re.findall(rb"file ([0-9]+) ([^\n]*)\n((?:part [0-9a-f]{64}\n)*)", text):
+        files.append((unescaped(block[1]), int(block[0]), re.findall(rb"[0-9a-f]{64}", block[2])))
+    written = b"format 1\n" + b"".join(
+        b"file %d %s\n" % (size, escaped(path)) + b"".join(b"part %s\n" % root for root in roots) for path, size, roots in files
+    )
+    paths = [path for path, _, _ in files]
+    named = all(b"\0" not in path and not {b"", b".", b".."} & set(path.split(b"/")) for path in paths)
+    counted = all(len(roots) == max(1, -(-size // PART)) for _, size, roots in files)
+    if written != text or paths != sorted(set(paths)) or not named or not counted:
+        return None
+    return {path: (size, [bytes.fromhex(root.decode()) for root in roots]) for path, size, roots in files}
+
+
+def check_file(asked):
+    """Prints the answer for the manifest, and then those for the records. Whether all are yes."""
+    base, n, k, root = read_seal(Path(asked.seal))
+    shown = Path(asked.OPENING) / "manifest.txt"
+    text = content(shown, PART) if shown.is_file() else b""
+    files = manifest(text) if len(text) <= PART and root_of(base, k, text) == (n, root) else None
+    if files is None:
+        print("manifest: no: what the opening shows is not the project's manifest")
+        return False
+    print("manifest: yes")
+    size, roots = files.get(os.fsencode(asked.file), (0, None))
+    if roots is None or not all(0 <= offset < size for offset in asked.offset) or len({offset // PART for offset in asked.offset}) != 1:
+        raise CannotCheck("the project has no such file, or the offsets are not in one part of it")
+    index = asked.offset[0] // PART
+    in_part = min(PART, size - PART * index)
+    asked.at = sorted({offset % PART // 16 for offset in asked.offset})
+    return check_opening(asked, base, max(1, ((in_part + 15) // 16).bit_length()), k, roots[index])
+
+
+def main():
+    parser = argparse.ArgumentParser(description=__doc__, formatter_class=argparse.RawDescriptionHelpFormatter)
+    parser.add_argument("OPENING")
+    for name in ("--seal", "--challenges", "--file"):
+        parser.add_argument(name, required=True)
+    parser.add_argument("--offset", required=True, type=lambda text: [int(offset) for offset in text.split(",")])
+    parser.add_argument("--roots")
+    parser.add_argument("--claim")
+    try:
+        yes = check_file(parser.parse_args())
+    except (CannotCheck, OSError) as why:
+        print(f"nothing was checked: {why}", file=sys.stderr)
+        return 2
+    print("yes" if yes else "no")
+    return 0 if yes else 1
+
+
+if __name__ == "__main__":
+    sys.exit(main())

@@ -1,0 +1,399 @@
+#!/usr/bin/env python3
+"""Checks an opening of a deposit seal by docs/SPECIFICATION.md alone: neither the proved library nor the program is needed, only Python 3.6 or later.
+
+    tools/check_seal.py OPENING --seal FOLDER --challenges FILE --at P,P,.. [--roots FILE] [--claim WORD]
+    tools/check_seal.py --try
+
+Challenges, positions and --roots, roots that were kept, are the checker's own; --claim is a value that is expected. A line for each position and one for
+the tail: `yes`, or `no` with the number of the first question that was answered with no (SPECIFICATION 8.2), its level where it has one, and the question.
+The last line is the verdict on all of it. --try tries this file on the values of SPECIFICATION 12. Exit status: 0 yes, 1 no, 2 nothing could be checked.
+"""
+import argparse
+import collections
+import functools
+import re
+import struct
+import sys
+from pathlib import Path
+
+# SPECIFICATION 8.2: the questions that a check puts.
+QUESTIONS = {
+    4: "Is n at least 1 and at most 20, and k at most 4?",
+    5: "Is there a challenge for each level, and a root more?",
+    7: "Has the base domain at most 200 bytes?",
+    11: "Is the position below 2^(n+k)?",
+    14: "Does the record read whole, with nothing after it?",
+    15: "Has the query record n levels?",
+    16: "Has the a group this level's width?",
+    17: "Has the a path this level's depth?",
+    18: "Do the a group and the a path lead to this level's root?",
+    19: "Does the a group hold a?",
+    20: "Are the places of a and b in one group?",
+    21: "Does the a group hold b?",
+    22: "Has the c group the next level's width?",
+    23: "Has the c path the next level's depth?",
+    24: "Do the c group and the c path lead to the next level's root?",
+    25: "Does the c group hold c?",
+    26: "Is a + r × (a + b) = c, r being this level's challenge?",
+    27: "Has the tail record as many groups as the last level?",
+    28: "Has the group the last level's width?",
+    29: "Has its path the last level's depth?",
+    30: "Do group and path lead to the last level's root?",
+    31: "Is the first value of the first group the terminal claim?",
+}
+
+
+class No(Exception):
+    """A question that was answered with no: its number, its level where it has one, and the question."""
+
+
+class CannotCheck(Exception):
+    """What keeps this file from checking anything, which says nothing of the holder."""
+
+
+def ask(number, yes, level=None):
+    if not yes:
+        at_level = "" if level is None else f" at level {level}"
+        raise No(f"{number}{at_level}: {QUESTIONS[number]}")
+
+
+# 2. The field. A word is held as its 16 bytes, lowest first.
+
+def folded(a, b, r):
+    """SPECIFICATION 6.4: a + r × (a + b), the product being that of 2.2: the sum of r × x^i over the set bits i of a + b."""
+    a, b, r = (int.from_bytes(word, "little") for word in (a, b, r))
+    total = a
+    for i in range(128):
+        if (a ^ b) >> i & 1:
+            total ^= r
+        r <<= 1
+        if r >> 128:
+            r ^= 1 << 128 | 0x87
+    return total.to_bytes(16, "little")
+
+
+# 4. The hash.
+
+IV = (0x6A09E667, 0xBB67AE85, 0x3C6EF372, 0xA54FF53A, 0x510E527F, 0x9B05688C, 0x1F83D9AB, 0x5BE0CD19)
+CHUNK_START, CHUNK_END, PARENT, ROOT = 1, 2, 4, 8
+MIXED = ((0, 4, 8, 12), (1, 5, 9, 13), (2, 6, 10, 14), (3, 7, 11, 15), (0, 5, 10, 15), (1, 6, 11, 12), (2, 7, 8, 13), (3, 4, 9, 14))
+PERMUTED = (2, 6, 3, 10, 7, 0, 4, 13, 1, 11, 12, 5, 9, 14, 15, 8)
+LOW = 0xFFFFFFFF
+
+
+def mix(v, a, b, c, d, x, y):
+    """G of SPECIFICATION 4.1."""
+    for given, right_d, right_b in ((x, 16, 12), (y, 8, 7)):
+        v[a] = v[a] + v[b] + given & LOW
+        moved = v[d] ^ v[a]
+        v[d] = (moved >> right_d | moved << 32 - right_d) & LOW
+        v[c] = v[c] + v[d] & LOW
+        moved = v[b] ^ v[c]
+        v[b] = (moved >> right_b | moved << 32 - right_b) & LOW
+
+
+def compress(h, m, t, length, flags):
+    v = [*h, *IV[:4], t & LOW, t >> 32, length, flags]
+    for _ in range(7):
+        for i, (a, b, c, d) in enumerate(MIXED):
+            mix(v, a, b, c, d, m[2 * i], m[2 * i + 1])
+        m = [m[i] for i in PERMUTED]
+    return [v[i] ^ v[i + 8] for i in range(8)]
+
+
+def chunk(data, number, root):
+    h = IV
+    starts = range(0, max(1, len(data)), 64)
+    for start in starts:
+        block = data[start : start + 64]
+        flags = (CHUNK_START if start == 0 else 0) | (CHUNK_END | root if start == starts[-1] else 0)
+        h = compress(h, struct.unpack("<16I", block.ljust(64, b"\0")), number, len(block), flags)
+    return h
+
+
+def chunks(data, first, root):
+    """The chaining value of a run of chunks, of which the first has this number."""
+    count = max(1, (len(data) + 1023) // 1024)
+    if count == 1:
+        return chunk(data, first, root)
+    left = 1 << (count - 1).bit_length() - 1
+    children = chunks(data[: 1024 * left], first, 0) + chunks(data[1024 * left :], first + left, 0)
+    return compress(IV, children, 0, 64, PARENT | root)
+
+
+@functools.lru_cache(maxsize=None)
+def digest(message):
+    return struct.pack("<8I", *chunks(message, 0, ROOT))
+
+
+# 5. Trees.
+
+
+def u64(value):
+    return value.to_bytes(8, "little")
+
+
+def part(message):
+    return u64(len(message)) + message
+
+
+def leaf_message(domain, count, width, group, values):
+    """SPECIFICATION 5.2, with its count of 5 for six fields and the width before the group's number."""
+    fields = [u64(5), part(b"magnetar/leafN/v1"), part(domain), part(u64(count)), part(u64(width))]
+    return b"".join(fields + [u64(width), u64(group), u64(16 * width)] + values)
+
+
+def node_message(domain, level, left, right):
+    return u64(5) + b"".join(map(part, (b"magnetar/node/v1", domain, u64(level), left, right)))
+
+
+class Level:
+    """Level l of a deposit and the shape of its tree (SPECIFICATION 6.7)."""
+
+    def __init__(self, base, n, k, l):
+        self.count = 2 ** (n + k - l)
+        self.width = 8 if self.count >= 16 else 2 if self.count >= 2 else 1
+        self.groups = self.count // self.width
+        self.depth = self.groups.bit_length() - 1
+        self.domain = base + b"/level/" + str(l).encode()
+
+    def root(self, group, values, path):
+        """SPECIFICATION 5.5: the digest to which a group and its path lead."""
+        at = digest(leaf_message(self.domain, self.count, self.width, group, values))
+        for i, sibling in enumerate(path):
+            left, right = (at, sibling) if (group >> i) % 2 == 0 else (sibling, at)
+            at = digest(node_message(self.domain, i, left, right))
+        return at
+
+
+# 7. Records.
+
+
+class Reader:
+    """A record, read from front to back; what is not there is question 14's no."""
+
+    def __init__(self, record):
+        self.record, self.at = record, 0
+
+    def take(self, size):
+        ask(14, size <= len(self.record) - self.at)
+        self.at += size
+        return self.record[self.at - size : self.at]
+
+    def count(self):
+        return int.from_bytes(self.take(4), "little")
+
+    def run(self, size):
+        items = self.take(size * self.count())
+        return [items[i : i + size] for i in range(0, len(items), size)]
+
+    def whole(self, item):
+        """As many items as the count at the front says, and not one byte after them."""
+        items = [item() for _ in range(self.count())]
+        ask(14, self.at == len(self.record))
+        return items
+
+    def query(self):
+        """SPECIFICATION 7.2: of each level a, b, c, the a group, the c group, the a path and the c path."""
+        return self.whole(lambda: (self.take(16), self.take(16), self.take(16), self.run(16), self.run(16), self.run(32), self.run(32)))
+
+    def tail(self):
+        """SPECIFICATION 7.4: of each group its values and its path."""
+        return self.whole(lambda: (self.run(16), self.run(32)))
+
+
+def record_bytes(n, k):
+    """SPECIFICATION 7.6: the sizes of a query record and of a tail record."""
+    levels = [Level(b"", n, k, l) for l in range(n + 1)]
+    opened = [8 + 16 * level.width + 32 * level.depth for level in levels]
+    return 4 + sum(48 + opened[l] + opened[l + 1] for l in range(n)), 4 + levels[n].groups * opened[n]
+
+
+# 8. Questions.
+
+
+def check_query(base, n, k, position, challenges, roots, record):
+    """SPECIFICATION 8.6."""
+    ask(4, 1 <= n <= 20 and k <= 4)
+    ask(5, len(challenges) == n and len(roots) == n + 1)
+    ask(7, len(base) <= 200)
+    ask(11, position < 2 ** (n + k))
+    levels = Reader(record).query()
+    ask(15, len(levels) == n)
+    for l, (a, b, c, a_group, c_group, a_path, c_path) in enumerate(levels):
+        q = position // 2 ** (l + 1)
+        this, following = Level(base, n, k, l), Level(base, n, k, l + 1)
+        w, w_next = this.width, following.width
+        ask(16, len(a_group) == w, l)
+        ask(17, len(a_path) == this.depth, l)
+        ask(18, this.root(2 * q // w, a_group, a_path) == roots[l], l)
+        ask(19, a_group[2 * q % w] == a, l)
+        ask(20, (2 * q + 1) // w == 2 * q // w, l)
+        ask(21, a_group[(2 * q + 1) % w] == b, l)
+        ask(22, len(c_group) == w_next, l)
+        ask(23, len(c_path) == following.depth, l)
+        ask(24, following.root(q // w_next, c_group, c_path) == roots[l + 1], l)
+        ask(25, c_group[q % w_next] == c, l)
+        ask(26, folded(a, b, challenges[l]) == c, l)
+
+
+def check_tail(base, n, k, root, claim, record):
+    """SPECIFICATION 8.7."""
+    ask(4, 1 <= n <= 20 and k <= 4)
+    ask(5, len(root) == 32)
+    ask(7, len(base) <= 200)
+    groups = Reader(record).tail()
+    last = Level(base, n, k, n)
+    ask(27, len(groups) == last.groups)
+    for g, (values, path) in enumerate(groups):
+        ask(28, len(values) == last.width)
+        ask(29, len(path) == last.depth)
+        ask(30, last.root(g, values, path) == root)
+    ask(31, groups[0][0][0] == claim)
+
+
+# 15. The files of a seal and of an opening.
+
+
+def content(path, most=2 ** 20):
+    """A file's first bytes, one more than `most` at the most."""
+    if not Path(path).is_file():
+        raise CannotCheck(f"there is no file {path}")
+    with open(path, "rb") as file:
+        return file.read(most + 1)
+
+
+def written(path):
+    """The lines of a text as they were written, without the blanks and empty lines that SPECIFICATION 15.2 passes over."""
+    return [line.rstrip() for line in content(path).decode("utf-8", "replace").rstrip().splitlines()]
+
+
+def lines(path):
+    """The lines of a text behind its format."""
+    found = written(path)
+    if found[:1] != ["format 1"] and "".join(found[:1]).startswith("format "):
+        raise CannotCheck(f"{path} is of {found[0]}, and this file knows format 1 alone")
+    return found[found[:1] == ["format 1"] :]
+
+
+def hexadecimal(path, text, size):
+    if not re.fullmatch("[0-9a-fA-F]{%d}" % (2 * size), text):
+        raise CannotCheck(f"{path}: `{text}` is not {2 * size} hexadecimal digits")
+    return bytes.fromhex(text)
+
+
+def word(path, text):
+    """A word as text has its highest digit first."""
+    return hexadecimal(path, text, 16)[::-1]
+
+
+def digests(path):
+    return [hexadecimal(path, line, 32) for line in lines(path)]
+
+
+def parameters(path):
+    """n, k and the base domain, a line each."""
+    found = re.fullmatch(r"n (0|[1-9][0-9]?)\nk ([0-9])\n(?:domain ([!-~]+)|domain-hex ?((?:[0-9a-f]{2})*))", "\n".join(lines(path)))
+    if not found:
+        raise CannotCheck(f"{path} does not have its three lines n, k and domain")
+    n, k, text, digits = found.groups()
+    return int(n), int(k), text.encode() if text else bytes.fromhex(digits)
+
+
+def answered(name, check, *given):
+    """Prints what a check answers. Whether it is yes."""
+    try:
+        check(*given)
+    except No as no:
+        print(f"{name}: no, {no}")
+        return False
+    print(f"{name}: yes")
+    return True
+
+
+def read_seal(folder):
+    """The base domain, n, k and the root. A seal whose check lines are not those of its files is damaged (SPECIFICATION 15.5)."""
+    check = folder / "check.txt"
+    then = {line[66:]: line[:64] for line in written(check)} if check.exists() else None
+    for name in ("parameters.txt", "root.txt"):
+        text = "".join(line + "\n" for line in written(folder / name))
+        if then is not None and digest((text.lower() if name == "root.txt" else text).encode()).hex() != then.get(name):
+            raise CannotCheck(f"the seal is damaged: {name} and its line in check.txt do not agree")
+    n, k, base = parameters(folder / "parameters.txt")
+    return base, n, k, digests(folder / "root.txt")[0]
+
+
+def check_opening(asked, base, n, k, root):
+    """Prints an answer for each position and one for the tail. Whether all are yes. Level 0's root is the office's, whatever the opening says."""
+    opening = Path(asked.OPENING)
+    challenges = [word(asked.challenges, line) for line in lines(asked.challenges)]
+    roots = digests(asked.roots or opening / "roots.txt")
+    try:  # What the checker itself brings.
+        ask(4, 1 <= n <= 20 and k <= 4)
+        ask(5, len(challenges) == n and (not asked.roots or len(roots) == n + 1 and roots[0] == root))
+        ask(11, all(position < 2 ** (n + k) for position in asked.at))
+    except No as no:
+        raise CannotCheck(no)
+    roots[:1] = [root]
+    claim = word("the claim", asked.claim or "".join(lines(opening / "claim.txt")))
+    query_bytes, tail_bytes = record_bytes(n, k)
+    tail = content(opening / "tail.record", tail_bytes)
+    meant = [re.fullmatch(r"query-\+?0*([0-9]+)\.record", path.name) for path in opening.iterdir()]
+    files = collections.Counter(int(found.group(1)) for found in meant if found)
+    doubles = sorted(position for position in files if files[position] > 1)
+    for position in doubles:
+        print(f"position {position}: no: the opening has {files[position]} files for it")
+    yes = not doubles
+    for position in asked.at:
+        path = opening / f"query-{position}.record"
+        if path.exists():
+            record = content(path, query_bytes)
+            yes &= answered(f"position {position}", check_query, base, n, k, position, challenges, roots, record)
+        else:
+            print(f"position {position}: no: the opening has no record at this position")
+            yes = False
+    return answered("tail", check_tail, base, n, k, b"".join(roots[n : n + 1]), claim, tail) and yes
+
+
+# 12. Values on which this file can be tried.
+
+OF_3073 = "7124b49501012f81cc7f11ca069ec9226cecb8a2c850cfe644e327d22d3e1cd3"
+ROOT_0 = "0669330e9f8271b8709da61c36482c788924e6026d5792c2f7e4fa50d61a51f3"
+ROOT_1 = "da293e0d68ec957f29e0f182a5808a566e7b12a855c63c2ab68aec541043a7f5"
+A, B, C = "489a8bcfc565532d361c653a2ab6a572", "449a8bcfc565532d361c653a2ab6a572", "509a8bcfc565532d361c653a2ab6a572"
+LAST = "02000000 1d000000000000000000000000000000" + C
+PATH = "01000000 6623d25b5b1154c90c456a3387fc71b22ddd13ed2e66c679bdbdd170b6b4143d"
+QUERY = bytes.fromhex("01000000" + A + B + C + "02000000" + A + B + LAST + PATH + "00000000")
+
+
+def try_this_file():
+    """Whether SPECIFICATION 12.1, 12.3 and 12.4 come out as they stand there, as far as a check needs them."""
+    yes = digest(bytes(i % 251 for i in range(3073))).hex() == OF_3073 and folded(bytes(16), bytes(15) + b"\x80", b"\2" + bytes(15))[0] == 0x87
+    roots, tail = [bytes.fromhex(ROOT_0), bytes.fromhex(ROOT_1)], bytes.fromhex("01000000" + LAST + "00000000")
+    yes &= answered("12.4, the query record", check_query, b"d", 1, 1, 2, [b"\2" + bytes(15)], roots, QUERY)
+    return answered("12.4, the tail record", check_tail, b"d", 1, 1, roots[1], b"\x1d" + bytes(15), tail) and yes
+
+
+def main():
+    parser = argparse.ArgumentParser(description=__doc__, formatter_class=argparse.RawDescriptionHelpFormatter)
+    parser.add_argument("OPENING")
+    parser.add_argument("--seal", required=True)
+    parser.add_argument("--challenges", required=True)
+    parser.add_argument("--at", required=True, type=lambda text: sorted({int(position) for position in text.split(",")}))
+    parser.add_argument("--roots")
+    parser.add_argument("--claim")
+    try:
+        if sys.argv[1:] == ["--try"]:
+            yes = try_this_file()
+        else:
+            asked = parser.parse_args()
+            yes = check_opening(asked, *read_seal(Path(asked.seal)))
+    except (CannotCheck, OSError) as why:
+        print(f"nothing was checked: {why}", file=sys.stderr)
+        return 2
+    print("yes" if yes else "no")
+    return 0 if yes else 1
+
+
+if __name__ == "__main__":
+    sys.exit(main())
