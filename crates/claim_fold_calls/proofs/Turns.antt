@@ -23,6 +23,7 @@ use Rattle.theory_record.specs.Widths.{levelLength, total}
 use Rattle.theory_record.specs.Build.{levelStart, levelsLength, levelValues}
 use Rattle.theory_record.proofs.Offsets.{length-levelValues, level-halves, level-le}
 use Rattle.theory_claim.specs.Calls.{Call, callNumber, callFold, doneFolds, afterFolds}
+use Rattle.theory_claim.proofs.Calls.{skip}
 use Rattle.code_levels.specs.helpers.Levels.{laid, LevelLent}
 use Rattle.code_levels.proofs.Laying.{next-start, laid-before, laid-there, laid-behind, behind-more, length-fold}
 use Rattle.claim_fold_calls.specs.Lent.{callAt, callsFrom, lentCalls}
@@ -69,10 +70,6 @@ unfolding afterFolds
 skipped c x rest z zero = refl
 skipped c x rest z (suc j) = rw (ne-eqb (callNumber c x) 0 z)
 
-skipped-folds : (c : List ℕ) (x : Call) (rest : List Call) → (callNumber c x ≡ 0 → ⊥) → doneFolds c (x ∷ rest) ≡ doneFolds c rest
-unfolding doneFolds
-skipped-folds c x rest z = rw (ne-eqb (callNumber c x) 0 z)
-
 -- a done one leaves its fold
 taken : (c : List ℕ) (x : Call) (rest : List Call) → callNumber c x ≡ 0 → (j : ℕ) → afterFolds c (x ∷ rest) (suc j) ≡ afterFolds (callFold c x) rest j
 unfolding afterFolds
@@ -101,7 +98,7 @@ module _ (n k : ℕ) (c old oldKept : List ℕ) (calls rest : List Call) (x : Ca
         behind = ap (drop (levelStart n k (suc l))) ew ∙ s .behind;
         behind-kept = ap (drop l) ev ∙ s .behind-kept;
         left = rw ew (λ j. s .left j ∙ skipped current x rest z j);
-        by = rw (ew, ev) (s .by ∙ ap (λ (fs : List Fold). take l (words kept) ++ challengesOf fs) (skipped-folds current x rest z));
+        by = rw (ew, ev) (s .by ∙ ap (λ (fs : List Fold). take l (words kept) ++ challengesOf fs) (skip current x rest z));
       }
 
   -- its fold is laid behind the levels, its challenge behind those of the calls before

@@ -31,9 +31,10 @@ use Rattle.theory_claim.proofs.Lent as L
 use Rattle.code_levels.proofs.Laying.{levels-laid}
 use Rattle.claim_fold_calls.specs.helpers.Laid.{challengesOf}
 use Rattle.claim_whole_run.specs.Whole as whole
-use Rattle.claim_whole_run.specs.Whole.{Given, Buffers, Deposited, Claimed, AfterCalls, lastLevel, lastTree, lastRoot}
-use Rattle.claim_whole_run.specs.helpers.Room.{Room, RecordRoom, LastRoom}
-use Rattle.claim_whole_run.proofs.Deposits.{deposit-of, claim-of}
+use Rattle.claim_run_parts.specs.Parts.{Deposited, lastLevel, lastTree, lastRoot}
+use Rattle.claim_whole_run.specs.Whole.{Given, Buffers, Claimed, AfterCalls}
+use Rattle.claim_run_parts.specs.helpers.Room.{Room, RecordRoom, LastRoom}
+use Rattle.claim_run_parts.proofs.Deposits.{deposit-of, claim-of}
 
 -- room for the last level, its tree and its root
 pub last-room : {n k base table calls challenges gammas levels half kept trees roots : ℕ}

@@ -1,3 +1,1 @@
 pub mod Claims
-pub mod Deposits
-pub mod Numbers

@@ -4,7 +4,7 @@ use Prim.Native.Nat.{ℕ, suc, _+_, _-_, _*_, _^_, _<_, _≤_}
 use mathlib.Core.Path.{_≡_}
 use mathlib.Core.Logic.{_↔_, _⊎_}
 use mathlib.Core.List.{List, [], _∷_, _++_}
-use lib.ListN.{length, take, drop, getD}
+use lib.ListN.{length, take, getD}
 use denote.Ref.{now}
 use denote.Triple.Both.{Both}
 use Rattle.theory_laws.specs.Table.{at}
@@ -18,7 +18,7 @@ use Rattle.theory_code.specs.Gammas.{gammas}
 use Rattle.theory_merkle.specs.Numbers.{buildNumber}
 use Rattle.theory_record.specs.Widths.{present, levelLength, levelWidth, treeLength}
 use Rattle.theory_record.specs.Domain.{levelDomain}
-use Rattle.theory_record.specs.Trees.{treeFor, treesLent, rootsLent}
+use Rattle.theory_record.specs.Trees.{treeFor}
 use Rattle.theory_record.specs.Query.{Answer, accepted, rootAt, checkQuery}
 use Rattle.theory_record.specs.Tail.{checkTail}
 use Rattle.theory_record.specs.Accepted.{AcceptedQuery, AcceptedTail}
@@ -32,8 +32,9 @@ use Rattle.compare_records.specs.helpers.Numbers.{comparison}
 use Rattle.theory_claim.specs.Commit.{commitNumber, committedCodeword}
 use Rattle.theory_claim.specs.Calls.{Call, callNumber, doneFolds, leftBy}
 use Rattle.claim_fold_calls.specs.Lent.{lentCalls}
-use Rattle.claim_fold_calls.specs.helpers.Laid.{zeros, Left}
-use Rattle.claim_whole_run.specs.Questions.{runNumber}
+use Rattle.claim_fold_calls.specs.helpers.Laid.{zeros}
+use Rattle.claim_run_parts.specs.Questions.{runNumber}
+use Rattle.claim_run_parts.specs.Parts.{Deposited, lastLevel, lastTree, lastRoot}
 use Rattle.claim_whole_run.specs.declared.Answers.{Answers}
 
 -- ---- what is lent
@@ -116,26 +117,7 @@ numberFor G B =
     (length (B .gammas)) (length (B .levels)) (length (B .half)) (length (B .kept)) (length (B .trees)) (length (B .roots))
     (length (B .query)) (length (B .tail)) (length (B .one)) (length (B .two))
 
--- ---- what committing, the calls and the trees leave, lent the halves `old` for the levels and `oldKept` for the challenges
-
-module _ (n k : ℕ) (base table calls challenges : List ℕ) where
-  pub record Deposited (old oldKept gammas′ levels kept trees roots : List ℕ) (done : ℕ) : Type 0 where
-    pub gammas-are : words gammas′ ≡ gammas hash base n k
-    pub left : Left n k (committedCodeword base n k (words table)) (words old) (words oldKept) (lentCalls calls (words challenges)) done levels kept
-    pub trees-are : trees ≡ treesLent (scheme base n k) (levelValues n k (words levels))
-    pub roots-are : roots ≡ rootsLent (scheme base n k) (levelValues n k (words levels))
-
 -- ---- what a run leaves
-
--- the last level, its tree and its root: they stand at the end
-abbrev pub lastLevel : ℕ → ℕ → List ℕ → List ℕ
-lastLevel n k levels = drop (length levels - 2 * levelLength n k n) levels
-
-abbrev pub lastTree : ℕ → ℕ → List ℕ → List ℕ
-lastTree n k trees = drop (length trees - 32 * treeLength present n k n) trees
-
-abbrev pub lastRoot : List ℕ → List ℕ
-lastRoot roots = drop (length roots - 32) roots
 
 module _ (G : Given) where
   open Given G using (n, k, position, claim, base, table, calls, challenges, first, second)

@@ -27,7 +27,8 @@ after-done (x ∷ xs) c (suc l) h = go (eqb (callNumber c x) 0) (λ g. after-don
     folds : Bool → List Fold
     folds b = pick b (record { var = x .var; by = x .by } ∷ doneFolds (callFold c x) xs) (doneFolds c xs)
 
-    go : (b : Bool) → (l ≤ length (doneFolds (callFold c x) xs) → afterFolds (callFold c x) xs l ≡ foldsList (take l (doneFolds (callFold c x) xs)) (callFold c x))
+    go : (b : Bool)
+        → (l ≤ length (doneFolds (callFold c x) xs) → afterFolds (callFold c x) xs l ≡ foldsList (take l (doneFolds (callFold c x) xs)) (callFold c x))
         → (suc l ≤ length (doneFolds c xs) → afterFolds c xs (suc l) ≡ foldsList (take (suc l) (doneFolds c xs)) c)
         → suc l ≤ length (folds b) → pick b (afterFolds (callFold c x) xs l) (afterFolds c xs (suc l)) ≡ foldsList (take (suc l) (folds b)) c
     go true f s g = f (omega arith)
@@ -67,7 +68,7 @@ module _ (calls : List Call) (c r : List ℕ) (done : doneFolds c calls ≡ atFi
 -- ---- refused calls change nothing
 
 -- a refused call at the front
-skip : (c : List ℕ) (x : Call) (xs : List Call) → (callNumber c x ≡ 0 → ⊥) → doneFolds c (x ∷ xs) ≡ doneFolds c xs
+pub skip : (c : List ℕ) (x : Call) (xs : List Call) → (callNumber c x ≡ 0 → ⊥) → doneFolds c (x ∷ xs) ≡ doneFolds c xs
 unfolding doneFolds
 skip c x xs bad = go (eqb (callNumber c x) 0) refl
   where
@@ -76,15 +77,18 @@ skip c x xs bad = go (eqb (callNumber c x) 0) refl
     go false e = refl
 
 -- and anywhere in a list
-pub refused-among : (before after : List Call) (c : List ℕ) (x : Call) → (callNumber (leftBy c before) x ≡ 0 → ⊥) → doneFolds c (before ++ x ∷ after) ≡ doneFolds c (before ++ after)
+pub refused-among : (before after : List Call) (c : List ℕ) (x : Call) → (callNumber (leftBy c before) x ≡ 0 → ⊥)
+    → doneFolds c (before ++ x ∷ after) ≡ doneFolds c (before ++ after)
 unfolding doneFolds leftBy
 refused-among [] after c x bad = skip c x after bad
-refused-among (y ∷ before) after c x bad = go (eqb (callNumber c y) 0) (λ f. refused-among before after (callFold c y) x f) (λ f. refused-among before after c x f) bad
+refused-among (y ∷ before) after c x bad =
+    go (eqb (callNumber c y) 0) (λ f. refused-among before after (callFold c y) x f) (λ f. refused-among before after c x f) bad
   where
     folds : Bool → List Call → List Fold
     folds b xs = pick b (record { var = y .var; by = y .by } ∷ doneFolds (callFold c y) xs) (doneFolds c xs)
 
-    go : (b : Bool) → ((callNumber (leftBy (callFold c y) before) x ≡ 0 → ⊥) → doneFolds (callFold c y) (before ++ x ∷ after) ≡ doneFolds (callFold c y) (before ++ after))
+    go : (b : Bool)
+        → ((callNumber (leftBy (callFold c y) before) x ≡ 0 → ⊥) → doneFolds (callFold c y) (before ++ x ∷ after) ≡ doneFolds (callFold c y) (before ++ after))
         → ((callNumber (leftBy c before) x ≡ 0 → ⊥) → doneFolds c (before ++ x ∷ after) ≡ doneFolds c (before ++ after))
         → (callNumber (leftBy (pick b (callFold c y) c) before) x ≡ 0 → ⊥) → folds b (before ++ x ∷ after) ≡ folds b (before ++ after)
     go true f s h = ap (λ (fs : List Fold). record { var = y .var; by = y .by } ∷ fs) (f h)
@@ -106,7 +110,8 @@ callsBy k m (x ∷ xs) = record { n = m; k = k; var = 0; by = x; room = 2 * (2 ^
 pub half-power : (i j : ℕ) → j ≡ suc i → 2 ^ j / 2 ≡ 2 ^ i
 half-power i j e = rw e (omega arith)
 
-call-done : (k m x : ℕ) (c : List ℕ) → m ≤ 20 → k ≤ 4 → 0 < m → length c ≡ 2 ^ (m + k) → callNumber c (record { n = m; k = k; var = 0; by = x; room = 2 * (2 ^ (m + k) / 2) }) ≡ 0
+call-done : (k m x : ℕ) (c : List ℕ) → m ≤ 20 → k ≤ 4 → 0 < m → length c ≡ 2 ^ (m + k)
+    → callNumber c (record { n = m; k = k; var = 0; by = x; room = 2 * (2 ^ (m + k) / 2) }) ≡ 0
 unfolding callNumber foldNumber
 call-done k m x c hm hk h e =
     yes-all (sized m k (lent (2 * length c) (2 ^ (m + k)) ∷ lent (2 * (2 ^ (m + k) / 2)) (2 ^ (m + k) / 2) ∷ (6 asks ltb 0 m) ∷ []))
@@ -118,9 +123,11 @@ calls-by k m [] c hm hk l e = refl
 calls-by k m (x ∷ xs) c hm hk l e =
     let call : Call = record { n = m; k = k; var = 0; by = x; room = 2 * (2 ^ (m + k) / 2) } in
     rw (eq-eqb _ 0 (call-done k m x c hm hk (omega arith) e))
-    (ap (λ (fs : List Fold). record { var = 0; by = x } ∷ fs) (calls-by k (m - 1) xs (callFold c call) (omega arith) hk (omega arith) (folded-long k m x c (omega arith) e)))
+    (ap (λ (fs : List Fold). record { var = 0; by = x } ∷ fs)
+    (calls-by k (m - 1) xs (callFold c call) (omega arith) hk (omega arith) (folded-long k m x c (omega arith) e)))
   where
-    folded-long : (k m x : ℕ) (c : List ℕ) → 0 < m → length c ≡ 2 ^ (m + k) → length (callFold c (record { n = m; k = k; var = 0; by = x; room = 2 * (2 ^ (m + k) / 2) })) ≡ 2 ^ (m - 1 + k)
+    folded-long : (k m x : ℕ) (c : List ℕ) → 0 < m → length c ≡ 2 ^ (m + k)
+        → length (callFold c (record { n = m; k = k; var = 0; by = x; room = 2 * (2 ^ (m + k) / 2) })) ≡ 2 ^ (m - 1 + k)
     folded-long k m x c h e = length-foldList 0 x c ∙ ap (λ (y : ℕ). y / 2) e ∙ half-power (m - 1 + k) (m + k) (omega arith)
 
 pub calls-exist : (k m : ℕ) (xs c : List ℕ) → m ≤ 20 → k ≤ 4 → length xs ≤ m → length c ≡ 2 ^ (m + k) → (calls : List Call) × (doneFolds c calls ≡ atFirst xs)

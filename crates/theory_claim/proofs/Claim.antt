@@ -83,7 +83,10 @@ module _ (n k : ℕ) (base table challenges : List ℕ) (d : Deposit n k base ta
           le-leb k 4 (d .k-most),
           (
             eq-eqb _ _ (d .table-long),
-            (eq-eqb (2 * (k * n)) _ refl, (eq-eqb _ _ (ap (λ (x : ℕ). 2 * x) c-long), (eq-eqb (32 * treeLength present n k 0) _ refl, (le-leb _ 200 (d .base-short), tt)))),
+            (
+              eq-eqb (2 * (k * n)) _ refl,
+              (eq-eqb _ _ (ap (λ (x : ℕ). 2 * x) c-long), (eq-eqb (32 * treeLength present n k 0) _ refl, (le-leb _ 200 (d .base-short), tt))),
+            ),
           ),
         ),
       )
@@ -92,16 +95,19 @@ module _ (n k : ℕ) (base table challenges : List ℕ) (d : Deposit n k base ta
   unfolding committedTree
   commit-leaves = refl
 
-  tree-done : (l : ℕ) → l ≤ n → buildNumber (length (levelDomain base l)) (levelLength n k l) (levelWidth present n k l) (2 * levelLength n k l) (32 * treeLength present n k l) ≡ 0
+  tree-done : (l : ℕ) → l ≤ n
+      → buildNumber (length (levelDomain base l)) (levelLength n k l) (levelWidth present n k l) (2 * levelLength n k l) (32 * treeLength present n k l) ≡ 0
   tree-done l h =
       build-allowed n k l (length (levelDomain base l)) (2 * levelLength n k l) (32 * treeLength present n k l) (sizes-small n k sizes)
       (omega (arith, levelDomain-fits base l (d .base-short) (omega (arith, d .n-most)))) refl refl
 
   root-last : (l : ℕ) (values : List ℕ) → getD (treeFor S l values) (treeLength present n k l - 1) [] ≡ rootFor S l values
   unfolding treeFor rootFor treeLength
-  root-last l values = treeOf-root hash (levelDomain base l) (levelLength n k l) (levelWidth present n k l) (level-shape present n k l present-powers .tree) values
+  root-last l values =
+      treeOf-root hash (levelDomain base l) (levelLength n k l) (levelWidth present n k l) (level-shape present n k l present-powers .tree) values
 
-  query-done : (ls ts out : List ℕ) (position : ℕ) → length ls ≡ 2 * levelsLength n k → length ts ≡ 32 * treeStart present n k (suc n) → length out ≡ querySize present n k
+  query-done : (ls ts out : List ℕ) (position : ℕ) → length ls ≡ 2 * levelsLength n k
+      → length ts ≡ 32 * treeStart present n k (suc n) → length out ≡ querySize present n k
       → position < 2 ^ (n + k) → buildQueryNumber present n k ls ts position out ≡ 0
   query-done ls ts out position l t o low =
       build-query present n k ls ts position out (record { sizes = sizes; levels-long = l; trees-long = t; out-long = o; position-low = low })
@@ -119,23 +125,33 @@ module _ (n k : ℕ) (base table challenges : List ℕ) (d : Deposit n k base ta
     folded = level c (words challenges)
 
     level-long : (l : ℕ) → l ≤ n → length (levels l) ≡ levelLength n k l
-    level-long l h = ap length (level-is n k base table challenges (d .challenges-long) calls done l h) ∙ codeword-sized n k c (words challenges) c-long (sizes-small n k sizes) c-words .long l h
+    level-long l h =
+        ap length (level-is n k base table challenges (d .challenges-long) calls done l h)
+        ∙ codeword-sized n k c (words challenges) c-long (sizes-small n k sizes) c-words .long l h
 
     last-left : leftBy c calls ≡ levels n
-    last-left = left-level calls c (words challenges) done ∙ ap folded r-long ∙ sym (level-is n k base table challenges (d .challenges-long) calls done n (omega arith))
+    last-left =
+        left-level calls c (words challenges) done ∙ ap folded r-long
+        ∙ sym (level-is n k base table challenges (d .challenges-long) calls done n (omega arith))
 
     last-entry : (eps : ℕ) → eps < 2 ^ k → at (levels n) eps ≡ mle (at (words table)) (addPoint (words challenges) (shift n k (gammas hash base n k) eps))
     unfolding committedCodeword
-    last-entry eps h = ap (λ (x : List ℕ). at x eps) (level-is n k base table challenges (d .challenges-long) calls done n (omega arith)) ∙ last-level-at n k eps (gammas hash base n k) (words table) (words challenges) r-long h
+    last-entry eps h =
+        ap (λ (x : List ℕ). at x eps) (level-is n k base table challenges (d .challenges-long) calls done n (omega arith))
+        ∙ last-level-at n k eps (gammas hash base n k) (words table) (words challenges) r-long h
 
-    query-record : (ls ts roots : List ℕ) → Lent n k base table challenges calls ls ts roots → (position : ℕ) → position < 2 ^ (n + k) → (out : List ℕ) → length out ≡ querySize present n k
+    query-record : (ls ts roots : List ℕ) → Lent n k base table challenges calls ls ts roots → (position : ℕ) → position < 2 ^ (n + k)
+        → (out : List ℕ) → length out ≡ querySize present n k
         → checkQuery S position challenges roots (buildQuery present n k ls ts position out) ≡ accepted
     query-record ls ts roots z position low out long =
         let e : ts ≡ treesLent S folded = z .trees-are ∙ trees-lent n k base table challenges (d .challenges-long) calls done in
         let sized = codeword-sized n k c (words challenges) c-long (sizes-small n k sizes) c-words in
         let t : length (treesLent S folded) ≡ 32 * treeStart present n k (suc n) = length-treesLent S length-hash present-powers folded sized in
-        let b : QueryBuild present n k ls ts position out = record { sizes = sizes; levels-long = z .levels-long; trees-long = ap length e ∙ t; out-long = long; position-low = low } in
-        rw (build-query-done present n k ls ts position out b, z .levels-are, levels-lent n k base table challenges (d .challenges-long) calls done, e, z .roots-are, roots-lent n k base table challenges (d .challenges-long) calls done)
+        let b : QueryBuild present n k ls ts position out =
+        record { sizes = sizes; levels-long = z .levels-long; trees-long = ap length e ∙ t; out-long = long; position-low = low } in
+        let levels-same = levels-lent n k base table challenges (d .challenges-long) calls done in
+        let roots-same = roots-lent n k base table challenges (d .challenges-long) calls done in
+        rw (build-query-done present n k ls ts position out b, z .levels-are, levels-same, e, z .roots-are, roots-same)
         (committed-query S length-hash present-powers (d .base-short) sizes c c-long c-words challenges (d .challenges-long) position low)
 
     tail-record : (last tree root : List ℕ) → LastLent n k base table challenges calls last tree root → (out : List ℕ) → length out ≡ tailSize present n k
@@ -147,7 +163,8 @@ module _ (n k : ℕ) (base table challenges : List ℕ) (d : Deposit n k base ta
         ap length (z .tree-is) ∙ length-flat 32 (treeFor S n (levels n)) (treeFor-long S length-hash n (levels n))
         ∙ ap (λ (x : ℕ). 32 * x) (length-treeFor S n (levels n) present-powers) in
         let b : TailBuild present n k last tree out = record { sizes = sizes; level-long = z .level-long; tree-long = t; out-long = long } in
-        rw (build-tail-done present n k last tree out b, z .level-is, z .tree-is, z .root-is, same, ← claim-is-P n k (gammas hash base n k) (words table) challenges (d .challenges-long))
+        let claim-is = claim-is-P n k (gammas hash base n k) (words table) challenges (d .challenges-long) in
+        rw (build-tail-done present n k last tree out b, z .level-is, z .tree-is, z .root-is, same, ← claim-is)
         (committed-tail S length-hash present-powers (d .base-short) sizes c c-long c-words challenges (d .challenges-long) claim)
 
     after : After n k base table challenges calls

@@ -87,7 +87,8 @@ module _ (n k : ℕ) (base table challenges : List ℕ) where
       pub last-left : leftBy committed calls ≡ levelOf n
       pub last-entry : (eps : ℕ) → eps < 2 ^ k → at (levelOf n) eps ≡ P (addPoint r (L eps))
       -- the query record that is built at any position is accepted there
-      pub query-record : (levels trees roots : List ℕ) → Lent levels trees roots → (position : ℕ) → position < 2 ^ (n + k) → (out : List ℕ) → length out ≡ querySize (S .widths) n k
+      pub query-record : (levels trees roots : List ℕ) → Lent levels trees roots → (position : ℕ) → position < 2 ^ (n + k)
+          → (out : List ℕ) → length out ≡ querySize (S .widths) n k
           → checkQuery S position challenges roots (buildQuery (S .widths) n k levels trees position out) ≡ accepted
       -- the tail record that is built is accepted exactly for the claim P(r)
       pub tail-record : (level tree root : List ℕ) → LastLent level tree root → (out : List ℕ) → length out ≡ tailSize (S .widths) n k
@@ -129,7 +130,8 @@ module _ (n k : ℕ) (base table challenges : List ℕ) where
     pub commit-leaves : committedTree S (words table) ≡ flat (treeFor S 0 committed)
     pub fold-done : (l : ℕ) → l < n → foldNumber (n - l) k 0 (2 * levelLength n k l) (2 * levelLength n k (suc l)) ≡ 0
     pub tree-done : (l : ℕ) → l ≤ n
-        → buildNumber (length (levelDomain base l)) (levelLength n k l) (levelWidth (S .widths) n k l) (2 * levelLength n k l) (32 * treeLength (S .widths) n k l) ≡ 0
+        → buildNumber (length (levelDomain base l)) (levelLength n k l) (levelWidth (S .widths) n k l) (2 * levelLength n k l)
+        (32 * treeLength (S .widths) n k l) ≡ 0
     pub root-last : (l : ℕ) → l ≤ n → (values : List ℕ) → getD (treeFor S l values) (treeLength (S .widths) n k l - 1) [] ≡ rootFor S l values
     pub query-done : (levels trees out : List ℕ) (position : ℕ) → length levels ≡ 2 * levelsLength n k → length trees ≡ 32 * treeStart (S .widths) n k (suc n)
         → length out ≡ querySize (S .widths) n k → position < 2 ^ (n + k) → buildQueryNumber (S .widths) n k levels trees position out ≡ 0
@@ -144,7 +146,8 @@ module _ (n k : ℕ) (base table challenges : List ℕ) where
     -- 2. after every such list
     pub after-calls : (calls : List Call) → doneFolds committed calls ≡ atFirst r → After calls
     -- 3. bytes are accepted exactly when every listed check holds, whatever the position, challenges, roots and claim
-    pub query-exactly : (position : ℕ) (rs roots bytes : List ℕ) → Bytes bytes → (checkQuery S position rs roots bytes ≡ accepted) ↔ AcceptedQuery S position rs roots bytes
+    pub query-exactly : (position : ℕ) (rs roots bytes : List ℕ) → Bytes bytes
+        → (checkQuery S position rs roots bytes ≡ accepted) ↔ AcceptedQuery S position rs roots bytes
     pub tail-exactly : (root : List ℕ) (claim : ℕ) (bytes : List ℕ) → Bytes bytes → (checkTail S root claim bytes ≡ 0) ↔ AcceptedTail S root claim bytes
     -- 4. two byte strings that the check accepts for one position, whatever the challenges and roots, compared with buffers of 512 bytes
     pub two-records : (position : ℕ) (rs roots u v old old′ : List ℕ) → Bytes u → Bytes v → length old ≡ messageBuffer → length old′ ≡ messageBuffer

@@ -6,10 +6,10 @@ use Rattle.claim_whole_run.proofs.made.Statement.{statement}
 use Rattle.claim_whole_run.proofs.made.Tie as tie
 use Rattle.claim_whole_run.proofs.made.Reads as reads
 use Rattle.claim_whole_run.proofs.made.Lts as lts
-use Rattle.claim_whole_run.proofs.deposit.Reads as deposit-reads
-use Rattle.claim_whole_run.proofs.query_record.Reads as query-record-reads
-use Rattle.claim_whole_run.proofs.tail_record.Reads as tail-record-reads
-use Rattle.claim_whole_run.proofs.two_records.Reads as two-records-reads
+use Rattle.claim_run_parts.proofs.deposit.Reads as deposit-reads
+use Rattle.claim_run_parts.proofs.query_record.Reads as query-record-reads
+use Rattle.claim_run_parts.proofs.tail_record.Reads as tail-record-reads
+use Rattle.claim_run_parts.proofs.two_records.Reads as two-records-reads
 
 -- the places of the code, from its end to its start
 

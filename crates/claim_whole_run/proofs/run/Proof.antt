@@ -1,13 +1,13 @@
 -- `claim_whole_run::run` meets its contract.
 use mathlib.Core.Path.{refl, sym, _∙_}
-use Rattle.claim_whole_run.proofs.Numbers.{rooms}
+use Rattle.claim_run_parts.proofs.Numbers.{rooms}
 use borrow.Author.Needs.{needs}
 use Rattle.claim_whole_run.proofs.run.Statement.{statement}
 use Rattle.claim_whole_run.proofs.run.Tie as tie
 use Rattle.claim_whole_run.proofs.run.Reads as reads
 use Rattle.claim_whole_run.proofs.run.Lts as lts
 use Rattle.claim_whole_run.proofs.made.Reads as made-reads
-use Rattle.claim_whole_run.proofs.questions.run_number.Reads as run-number-reads
+use Rattle.claim_run_parts.proofs.questions.run_number.Reads as run-number-reads
 
 -- the places of the code that the answer needs
 

@@ -17,12 +17,16 @@ level-length-requires c κs = search needs
 
 mul-end : tie.Need-mul-end
 mul-end c =
-    let w = level-room _ _ _ (c .before .before .before .before .pre .within) (c .before .before .before .before .pre .from=) (c .level-length .ensures) (c .before .before .before .before .pre .room .levels-long) in
+    let start : tie.Start = search in
+    let p = start .pre in
+    let w = level-room _ _ _ (p .within) (p .from=) (c .level-length .ensures) (p .room .levels-long) in
     search needs
 
 add-end : tie.Need-add-end
 add-end c =
-    let w = level-room _ _ _ (c .before .before .before .before .pre .within) (c .before .before .before .before .pre .from=) (c .level-length .ensures) (c .before .before .before .before .pre .room .levels-long) in
+    let start : tie.Start = search in
+    let p = start .pre in
+    let w = level-room _ _ _ (p .within) (p .from=) (c .level-length .ensures) (p .room .levels-long) in
     search needs
 
 tree-bytes-requires : tie.Need-tree-bytes-requires

@@ -107,8 +107,10 @@ returns-2 c =
     let tree-bytes2 : tie.After-tree-bytes2 = search in
     let query-size : tie.After-query-size = search in
     let tail-size : tie.After-tail-size = search in
-    sizes-made _ _ _ (sized .size-number .ensures) _ _ _ _ _ _ _ _ _ _ (passed .if1 .left) (power .power .ensures) (level-length .level-length .ensures) (tree-bytes .tree-bytes .ensures) (levels-length .levels-length .ensures) (trees-size .trees-size .ensures)
-    (level-length2 .level-length2 .ensures) (level-length3 .level-length3 .ensures) (tree-bytes2 .tree-bytes2 .ensures) (query-size .query-size .ensures) (tail-size .tail-size .ensures)
+    sizes-made _ _ _ (sized .size-number .ensures) _ _ _ _ _ _ _ _ _ _
+    (passed .if1 .left) (power .power .ensures) (level-length .level-length .ensures) (tree-bytes .tree-bytes .ensures) (levels-length .levels-length .ensures) (trees-size .trees-size .ensures)
+    (level-length2 .level-length2 .ensures) (level-length3 .level-length3 .ensures) (tree-bytes2 .tree-bytes2 .ensures)
+    (query-size .query-size .ensures) (tail-size .tail-size .ensures)
 
 pub dequmlo-sizes-spec : {M : Type 1} → statement M
 dequmlo-sizes-spec =

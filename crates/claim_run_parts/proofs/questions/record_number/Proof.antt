@@ -1,9 +1,9 @@
--- `claim_whole_run::questions::record_number` meets its contract.
+-- `claim_run_parts::questions::record_number` meets its contract.
 use Rattle.theory_laws.proofs.Questions.{asks, asks-given}
-use Rattle.claim_whole_run.proofs.questions.record_number.Statement.{statement}
-use Rattle.claim_whole_run.proofs.questions.record_number.Tie as tie
-use Rattle.claim_whole_run.proofs.questions.record_number.Reads as reads
-use Rattle.claim_whole_run.proofs.questions.record_number.Lts as lts
+use Rattle.claim_run_parts.proofs.questions.record_number.Statement.{statement}
+use Rattle.claim_run_parts.proofs.questions.record_number.Tie as tie
+use Rattle.claim_run_parts.proofs.questions.record_number.Reads as reads
+use Rattle.claim_run_parts.proofs.questions.record_number.Lts as lts
 use Rattle.record_query_build.proofs.query_size.Reads as query-size-reads
 use Rattle.record_tail_build.proofs.tail_size.Reads as tail-size-reads
 

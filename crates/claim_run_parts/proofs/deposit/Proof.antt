@@ -1,14 +1,14 @@
--- `claim_whole_run::deposit` meets its contract.
+-- `claim_run_parts::deposit` meets its contract.
 use mathlib.Core.Path.{_∙_}
 use native.Mathlib.Omega.{arith}
 use Rattle.theory_record.proofs.Ranges.{sizes-small}
-use Rattle.claim_whole_run.proofs.Deposits.{calls-left, after-none, first-tree}
+use Rattle.claim_run_parts.proofs.Deposits.{calls-left, after-none, first-tree}
 use borrow.Author.Needs.{needs}
-use Rattle.claim_whole_run.proofs.deposit.Statement.{statement}
-use Rattle.claim_whole_run.proofs.deposit.Tie as tie
-use Rattle.claim_whole_run.proofs.deposit.Reads as reads
-use Rattle.claim_whole_run.proofs.deposit.Lts as lts
-use Rattle.claim_whole_run.proofs.commit_first.Reads as commit-first-reads
+use Rattle.claim_run_parts.proofs.deposit.Statement.{statement}
+use Rattle.claim_run_parts.proofs.deposit.Tie as tie
+use Rattle.claim_run_parts.proofs.deposit.Reads as reads
+use Rattle.claim_run_parts.proofs.deposit.Lts as lts
+use Rattle.claim_run_parts.proofs.commit_first.Reads as commit-first-reads
 use Rattle.claim_fold_calls.proofs.fold_calls.Reads as fold-calls-reads
 use Rattle.code_level_trees.proofs.level_trees.Reads as level-trees-reads
 

@@ -12,8 +12,8 @@ use Rattle.theory_record.specs.Query.{sizeQuestions}
 use Rattle.theory_record.proofs.Ranges.{sizes-fit}
 use Rattle.theory_record.proofs.Offsets.{first-length}
 use Rattle.code_level.specs.helpers.Numbers.{sizeNumber}
-use Rattle.claim_whole_run.specs.Questions.{inputQuestions, depositQuestions, recordQuestions, lastQuestions, runQuestions, runNumber}
-use Rattle.claim_whole_run.specs.helpers.Room.{Room, RecordRoom}
+use Rattle.claim_run_parts.specs.Questions.{inputQuestions, depositQuestions, recordQuestions, lastQuestions, runQuestions, runNumber}
+use Rattle.claim_run_parts.specs.helpers.Room.{Room, RecordRoom}
 
 -- a question that compares halves with the words that a function gave
 module _ {A : Type 0} (r x y : A) where

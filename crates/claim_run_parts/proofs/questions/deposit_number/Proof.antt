@@ -1,15 +1,15 @@
--- `claim_whole_run::questions::deposit_number` meets its contract.
+-- `claim_run_parts::questions::deposit_number` meets its contract.
 use native.Mathlib.Omega.{arith}
 use Rattle.theory_laws.proofs.Questions.{asks, asks-given}
-use Rattle.claim_whole_run.proofs.Numbers.{asks-twice, room-asked}
+use Rattle.claim_run_parts.proofs.Numbers.{asks-twice, room-asked}
 use Rattle.code_codeword.proofs.Lengths.{gammas-fit}
 use Rattle.theory_record.proofs.Ranges.{sizes-small}
 use Rattle.code_level.proofs.Totals.{levels-fit}
 use borrow.Author.Needs.{needs}
-use Rattle.claim_whole_run.proofs.questions.deposit_number.Statement.{statement}
-use Rattle.claim_whole_run.proofs.questions.deposit_number.Tie as tie
-use Rattle.claim_whole_run.proofs.questions.deposit_number.Reads as reads
-use Rattle.claim_whole_run.proofs.questions.deposit_number.Lts as lts
+use Rattle.claim_run_parts.proofs.questions.deposit_number.Statement.{statement}
+use Rattle.claim_run_parts.proofs.questions.deposit_number.Tie as tie
+use Rattle.claim_run_parts.proofs.questions.deposit_number.Reads as reads
+use Rattle.claim_run_parts.proofs.questions.deposit_number.Lts as lts
 use Rattle.code_level.proofs.level_length.Reads as level-length-reads
 use Rattle.code_level.proofs.levels_length.Reads as levels-length-reads
 use Rattle.code_level.proofs.trees_size.Reads as trees-size-reads

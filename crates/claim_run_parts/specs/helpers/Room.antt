@@ -4,7 +4,6 @@ use mathlib.Core.Path.{_≡_}
 use mathlib.Core.List.{List}
 use lib.ListN.{length, take, drop}
 use denote.Ref.{RefT, now}
-use denote.Triple.Both.{Both}
 use Rattle.theory_field.specs.Words.{words}
 use Rattle.theory_blake3.specs.Digest.{hash}
 use Rattle.theory_code.specs.Gammas.{gammas}
@@ -19,8 +18,7 @@ use Rattle.theory_claim.specs.Commit.{committedCodeword}
 use Rattle.theory_compare.specs.Compare.{messageBuffer}
 use Rattle.theory_compare.specs.Lent.{Slice}
 use Rattle.claim_fold_calls.specs.helpers.Laid.{CallsLent}
-use Rattle.claim_whole_run.specs.Whole.{Given, Buffers, Deposited, Ran}
-use Rattle.claim_whole_run.specs.declared.Answers.{Answers}
+use Rattle.claim_run_parts.specs.Parts.{Deposited}
 
 -- for committing: a table of 2^n words, room for the gammas, and at least for level 0 and its tree
 pub record CommitRoom (n k base table gammas levels trees : ℕ) : Type 0 where
@@ -86,7 +84,3 @@ abbrev pub DepositLeft : ℕ → ℕ → Slice → Slice → Slice → Slice →
 DepositLeft n k base table calls challenges gammas levels kept trees roots done =
     Deposited n k (now (base .entry)) (now (table .entry)) (now (calls .entry)) (now (challenges .entry)) (now (levels .entry)) (now (kept .entry))
     (now (gammas .exit)) (now (levels .exit)) (now (kept .exit)) (now (trees .exit)) (now (roots .exit)) done
-
--- what a run leaves once its questions are answered
-abbrev pub RunDone : Given → Both Buffers Buffers → Answers → Type 0
-RunDone G B r = (r .number ≡ 0) × Ran G (B .entry) (B .exit) r

@@ -24,8 +24,8 @@ use Rattle.theory_claim.specs.Claim.{Deposit, Claim}
 use Rattle.theory_claim.proofs.Claim.{claim}
 use Rattle.code_levels.proofs.Laying.{behind-more}
 use Rattle.claim_fold_calls.specs.helpers.Laid.{Left}
-use Rattle.claim_whole_run.specs.Whole.{lastLevel, lastTree, lastRoot}
-use Rattle.claim_whole_run.specs.helpers.Room.{CommitRoom}
+use Rattle.claim_run_parts.specs.Parts.{lastLevel, lastTree, lastRoot}
+use Rattle.claim_run_parts.specs.helpers.Room.{CommitRoom}
 
 -- ---- level 0 and its tree, at the front
 

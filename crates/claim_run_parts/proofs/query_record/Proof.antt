@@ -1,7 +1,7 @@
--- `claim_whole_run::query_record` meets its contract: the place that is handed on has the position's number.
+-- `claim_run_parts::query_record` meets its contract: the place that is handed on has the position's number.
 use borrow.Author.Needs.{needs}
-use Rattle.claim_whole_run.proofs.query_record.Statement.{statement}
-use Rattle.claim_whole_run.proofs.query_record.Tie as tie
+use Rattle.claim_run_parts.proofs.query_record.Statement.{statement}
+use Rattle.claim_run_parts.proofs.query_record.Tie as tie
 
 at-requires : tie.Need-at-requires
 at-requires c κs = search needs

@@ -1,12 +1,12 @@
--- `claim_whole_run::questions::last_number` meets its contract.
+-- `claim_run_parts::questions::last_number` meets its contract.
 use Rattle.theory_laws.proofs.Questions.{asks}
 use Rattle.theory_record.proofs.Ranges.{sizes-small}
-use Rattle.claim_whole_run.proofs.Numbers.{too-high, in-reach}
+use Rattle.claim_run_parts.proofs.Numbers.{too-high, in-reach}
 use borrow.Author.Needs.{needs}
-use Rattle.claim_whole_run.proofs.questions.last_number.Statement.{statement}
-use Rattle.claim_whole_run.proofs.questions.last_number.Tie as tie
-use Rattle.claim_whole_run.proofs.questions.last_number.Reads as reads
-use Rattle.claim_whole_run.proofs.questions.last_number.Lts as lts
+use Rattle.claim_run_parts.proofs.questions.last_number.Statement.{statement}
+use Rattle.claim_run_parts.proofs.questions.last_number.Tie as tie
+use Rattle.claim_run_parts.proofs.questions.last_number.Reads as reads
+use Rattle.claim_run_parts.proofs.questions.last_number.Lts as lts
 use Rattle.code_level.proofs.level_length.Reads as level-length-reads
 
 returns : tie.Need-returns

@@ -1,16 +1,16 @@
--- `claim_whole_run::questions::run_number` meets its contract.
+-- `claim_run_parts::questions::run_number` meets its contract.
 use Rattle.code_level.proofs.Sizes.{sizes-said}
-use Rattle.claim_whole_run.proofs.Numbers.{no-size, no-input, no-deposit, no-record, the-last}
+use Rattle.claim_run_parts.proofs.Numbers.{no-size, no-input, no-deposit, no-record, the-last}
 use borrow.Author.Needs.{needs}
-use Rattle.claim_whole_run.proofs.questions.run_number.Statement.{statement}
-use Rattle.claim_whole_run.proofs.questions.run_number.Tie as tie
-use Rattle.claim_whole_run.proofs.questions.run_number.Reads as reads
-use Rattle.claim_whole_run.proofs.questions.run_number.Lts as lts
+use Rattle.claim_run_parts.proofs.questions.run_number.Statement.{statement}
+use Rattle.claim_run_parts.proofs.questions.run_number.Tie as tie
+use Rattle.claim_run_parts.proofs.questions.run_number.Reads as reads
+use Rattle.claim_run_parts.proofs.questions.run_number.Lts as lts
 use Rattle.code_level.proofs.size_number.Reads as size-number-reads
-use Rattle.claim_whole_run.proofs.questions.input_number.Reads as input-number-reads
-use Rattle.claim_whole_run.proofs.questions.deposit_number.Reads as deposit-number-reads
-use Rattle.claim_whole_run.proofs.questions.record_number.Reads as record-number-reads
-use Rattle.claim_whole_run.proofs.questions.last_number.Reads as last-number-reads
+use Rattle.claim_run_parts.proofs.questions.input_number.Reads as input-number-reads
+use Rattle.claim_run_parts.proofs.questions.deposit_number.Reads as deposit-number-reads
+use Rattle.claim_run_parts.proofs.questions.record_number.Reads as record-number-reads
+use Rattle.claim_run_parts.proofs.questions.last_number.Reads as last-number-reads
 
 size-number-requires : tie.Need-size-number-requires
 size-number-requires c κs = search needs

@@ -1,11 +1,11 @@
--- `claim_whole_run::tail_record` meets its contract.
+-- `claim_run_parts::tail_record` meets its contract.
 use Rattle.field_gf128.specs.Word.{word}
-use Rattle.claim_whole_run.proofs.Deposits.{tail-built, tail-checked}
+use Rattle.claim_run_parts.proofs.Deposits.{tail-built, tail-checked}
 use borrow.Author.Needs.{needs}
-use Rattle.claim_whole_run.proofs.tail_record.Statement.{statement}
-use Rattle.claim_whole_run.proofs.tail_record.Tie as tie
-use Rattle.claim_whole_run.proofs.tail_record.Reads as reads
-use Rattle.claim_whole_run.proofs.tail_record.Lts as lts
+use Rattle.claim_run_parts.proofs.tail_record.Statement.{statement}
+use Rattle.claim_run_parts.proofs.tail_record.Tie as tie
+use Rattle.claim_run_parts.proofs.tail_record.Reads as reads
+use Rattle.claim_run_parts.proofs.tail_record.Lts as lts
 use Rattle.code_level.proofs.level_length.Reads as level-length-reads
 use Rattle.code_commit.proofs.trees.tree_bytes.Reads as tree-bytes-reads
 use Rattle.record_tail_check.proofs.check_tail.Reads as check-tail-reads

@@ -1,15 +1,15 @@
--- `claim_whole_run::commit_first` meets its contract.
+-- `claim_run_parts::commit_first` meets its contract.
 use Prim.Native.Nat.{ℕ, _*_}
 use mathlib.Core.Path.{sym, _∙_, ap}
 use lib.Seq.{length-take-le, take-at}
 use Rattle.code_commit.proofs.Sizes.{made}
 use Rattle.theory_record.proofs.Ranges.{sizes-small}
-use Rattle.claim_whole_run.proofs.Deposits.{front-fits, tree-fits, commit-allowed, tree-left, first-level, same-behind}
+use Rattle.claim_run_parts.proofs.Deposits.{front-fits, tree-fits, commit-allowed, tree-left, first-level, same-behind}
 use borrow.Author.Needs.{needs}
-use Rattle.claim_whole_run.proofs.commit_first.Statement.{statement}
-use Rattle.claim_whole_run.proofs.commit_first.Tie as tie
-use Rattle.claim_whole_run.proofs.commit_first.Reads as reads
-use Rattle.claim_whole_run.proofs.commit_first.Lts as lts
+use Rattle.claim_run_parts.proofs.commit_first.Statement.{statement}
+use Rattle.claim_run_parts.proofs.commit_first.Tie as tie
+use Rattle.claim_run_parts.proofs.commit_first.Reads as reads
+use Rattle.claim_run_parts.proofs.commit_first.Lts as lts
 use Rattle.code_level.proofs.level_length.Reads as level-length-reads
 use Rattle.code_commit.proofs.commit.Reads as commit-reads
 use Rattle.code_commit.proofs.trees.tree_bytes.Reads as tree-bytes-reads

@@ -11,7 +11,7 @@ ghost use mathlib.Core.Path.{_≡_};
 ghost use Prim.Native.Nat.{_≤_};
 ghost use Rattle.theory_laws.specs.Questions.{firstNo};
 ghost use Rattle.theory_record.specs.Accepted.{SizesFit};
-ghost use Rattle.claim_whole_run.specs.Questions.{inputQuestions, depositQuestions, recordQuestions, lastQuestions, runNumber};
+ghost use Rattle.claim_run_parts.specs.Questions.{inputQuestions, depositQuestions, recordQuestions, lastQuestions, runNumber};
 
 // 5, of the table, the calls and their challenges.
 fn input_number(n: usize, table: usize, calls: usize, challenges: usize) -> u32

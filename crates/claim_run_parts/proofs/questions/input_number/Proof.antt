@@ -1,10 +1,10 @@
--- `claim_whole_run::questions::input_number` meets its contract.
+-- `claim_run_parts::questions::input_number` meets its contract.
 use Rattle.theory_laws.proofs.Questions.{asks}
 use borrow.Author.Needs.{needs}
-use Rattle.claim_whole_run.proofs.questions.input_number.Statement.{statement}
-use Rattle.claim_whole_run.proofs.questions.input_number.Tie as tie
-use Rattle.claim_whole_run.proofs.questions.input_number.Reads as reads
-use Rattle.claim_whole_run.proofs.questions.input_number.Lts as lts
+use Rattle.claim_run_parts.proofs.questions.input_number.Statement.{statement}
+use Rattle.claim_run_parts.proofs.questions.input_number.Tie as tie
+use Rattle.claim_run_parts.proofs.questions.input_number.Reads as reads
+use Rattle.claim_run_parts.proofs.questions.input_number.Lts as lts
 use Rattle.code_codeword.proofs.sizes.holds.Reads as holds-reads
 
 holds-requires : tie.Need-holds-requires

@@ -1,0 +1,147 @@
+// The parts of a whole run (SPECIFICATION 10.1): its questions, committing with the calls and the trees, each record built and checked, two records
+// compared. These are helpers for the whole run: most require that what they are lent has its length.
+pub mod questions;
+
+use claim_fold_calls::fold_calls;
+use code_commit::commit;
+use code_commit::trees::tree_bytes;
+use code_level::level_length;
+use code_level_trees::level_trees;
+use compare_records::Compared;
+use compare_records::compare;
+use field_gf128::Word;
+use record_query_build::build_query;
+use record_query_check::Checked;
+use record_query_check::check_query;
+use record_tail_build::build_tail;
+use record_tail_check::check_tail;
+use tree_place::Place;
+ghost use mathlib.Core.Path.{_≡_};
+ghost use lib.ListN.{length};
+ghost use Rattle.field_gf128.specs.Word.{word};
+ghost use Rattle.theory_record.specs.Widths.{present};
+ghost use Rattle.theory_record.specs.Query.{checkQuery};
+ghost use Rattle.theory_record.specs.Tail.{checkTail};
+ghost use Rattle.theory_record.specs.Build.{buildQuery, buildTail};
+ghost use Rattle.theory_record.specs.Scheme.{scheme};
+ghost use Rattle.record_query_check.specs.Answer.{answer};
+ghost use Rattle.theory_compare.specs.Lent.{comparedLent, firstLeft, secondLeft};
+ghost use Rattle.compare_records.specs.helpers.Numbers.{comparison};
+ghost use Rattle.claim_fold_calls.specs.helpers.Laid.{zeros};
+ghost use Rattle.claim_run_parts.specs.Parts.{lastLevel, lastTree, lastRoot};
+ghost use Rattle.claim_run_parts.specs.helpers.Room.{CommitLent, CommitLeft, DepositLent, DepositLeft, LastRoom};
+
+// A table committed: its gammas, level 0 at the front of the levels and level 0's tree at the front of the trees.
+fn commit_first(
+    n: usize,
+    k: usize,
+    base: &[u8],
+    table: &[u64],
+    gammas: &mut [u64],
+    levels: &mut [u64],
+    trees: &mut [u8],
+)
+    requires { ⌜ CommitLent n k base table gammas levels trees ⌝ }
+    ensures { λ _. ⌜ CommitLeft n k base table gammas levels trees ⌝ }
+{
+    let size = 2 * level_length(n, k, 0);
+    let bytes = tree_bytes(n, k, 0);
+    commit(
+        n,
+        k,
+        base,
+        table,
+        gammas,
+        &mut levels[..size],
+        &mut trees[..bytes],
+    );
+}
+
+// A table committed, the calls of a lent list on its codeword, and the trees and roots of all levels: how many calls are done. The challenges of
+// the done ones are kept; `half` is room for a fold and is left with zeros.
+pub fn deposit(
+    n: usize,
+    k: usize,
+    base: &[u8],
+    table: &[u64],
+    calls: &[usize],
+    challenges: &[u64],
+    gammas: &mut [u64],
+    levels: &mut [u64],
+    half: &mut [u64],
+    kept: &mut [u64],
+    trees: &mut [u8],
+    roots: &mut [u8],
+) -> usize
+    requires { ⌜ DepositLent n k base table calls challenges gammas levels half kept trees roots ⌝ }
+    ensures { λ done. ⌜ DepositLeft n k base table calls challenges gammas levels kept trees roots done ⌝ }
+    ensures { λ _. ⌜ now (half .exit) ≡ zeros (length (now (half .entry))) ⌝ }
+{
+    commit_first(n, k, base, table, gammas, levels, trees);
+    let done = fold_calls(n, k, calls, challenges, levels, half, kept);
+    level_trees(n, k, base, levels, trees, roots);
+    done
+}
+
+// The query record at a position, built and checked.
+pub fn query_record(
+    n: usize,
+    k: usize,
+    base: &[u8],
+    position: usize,
+    levels: &[u64],
+    trees: &[u8],
+    kept: &[u64],
+    roots: &[u8],
+    out: &mut [u8],
+) -> Checked
+    ensures { λ _. ⌜ now (out .exit) ≡ buildQuery present n k (now (levels .entry)) (now (trees .entry)) position (now (out .entry)) ⌝ }
+    ensures { λ r. ⌜ answer r ≡ checkQuery (scheme (now (base .entry)) n k) position (now (kept .entry)) (now (roots .entry)) (now (out .exit)) ⌝ }
+{
+    let place = Place::at(position);
+    build_query(out, levels, trees, n, k, place);
+    check_query(base, n, k, place, kept, roots, out)
+}
+
+// The tail record, built from the last level and its tree, and checked under the last root.
+pub fn tail_record(
+    n: usize,
+    k: usize,
+    base: &[u8],
+    claim: Word,
+    levels: &[u64],
+    trees: &[u8],
+    roots: &[u8],
+    out: &mut [u8],
+) -> u32
+    requires { ⌜ LastRoom n k (length (now levels)) (length (now trees)) (length (now roots)) ⌝ }
+    ensures { λ _. ⌜ now (out .exit) ≡ buildTail present n k (lastLevel n k (now (levels .entry))) (lastTree n k (now (trees .entry))) (now (out .entry)) ⌝ }
+    ensures { λ r. ⌜ r ≡ checkTail (scheme (now (base .entry)) n k) (lastRoot (now (roots .entry))) (word claim) (now (out .exit)) ⌝ }
+{
+    let from = levels.len() - 2 * level_length(n, k, n);
+    let at = trees.len() - tree_bytes(n, k, n);
+    let last = roots.len() - 32;
+    build_tail(out, &levels[from..], &trees[at..], n, k);
+    check_tail(base, n, k, &roots[last..], claim, out)
+}
+
+// Two records for a position compared, into two message buffers.
+pub fn two_records(
+    n: usize,
+    k: usize,
+    base: &[u8],
+    position: usize,
+    kept: &[u64],
+    roots: &[u8],
+    first: &[u8],
+    second: &[u8],
+    one: &mut [u8],
+    two: &mut [u8],
+) -> Compared
+    ensures { λ r. ⌜ comparison r ≡ comparedLent base n k position kept roots first second one two ⌝ }
+    ensures { λ _. ⌜ now (one .exit) ≡ firstLeft base n k position kept roots first second one two ⌝ }
+    ensures { λ _. ⌜ now (two .exit) ≡ secondLeft base n k position kept roots first second one two ⌝ }
+{
+    let place = Place::at(position);
+    compare(base, n, k, place, kept, roots, first, second, one, two)
+}
