@@ -18,6 +18,7 @@ use record_tail_check::check_tail;
 use tree_place::Place;
 ghost use mathlib.Core.Path.{_≡_};
 ghost use lib.ListN.{length};
+ghost use Rattle.theory_laws.specs.Table.{tab};
 ghost use Rattle.field_gf128.specs.Word.{word};
 ghost use Rattle.theory_record.specs.Widths.{present};
 ghost use Rattle.theory_record.specs.Query.{checkQuery};
@@ -26,8 +27,7 @@ ghost use Rattle.theory_record.specs.Build.{buildQuery, buildTail};
 ghost use Rattle.theory_record.specs.Scheme.{scheme};
 ghost use Rattle.record_query_check.specs.Answer.{answer};
 ghost use Rattle.theory_compare.specs.Lent.{comparedLent, firstLeft, secondLeft};
-ghost use Rattle.compare_records.specs.helpers.Numbers.{comparison};
-ghost use Rattle.claim_fold_calls.specs.helpers.Laid.{zeros};
+ghost use Rattle.compare_records.specs.Answers.{comparison};
 ghost use Rattle.claim_run_parts.specs.Parts.{lastLevel, lastTree, lastRoot};
 ghost use Rattle.claim_run_parts.specs.helpers.Room.{CommitLent, CommitLeft, DepositLent, DepositLeft, LastRoom};
 
@@ -75,7 +75,7 @@ pub fn deposit(
 ) -> usize
     requires { ⌜ DepositLent n k base table calls challenges gammas levels half kept trees roots ⌝ }
     ensures { λ done. ⌜ DepositLeft n k base table calls challenges gammas levels kept trees roots done ⌝ }
-    ensures { λ _. ⌜ now (half .exit) ≡ zeros (length (now (half .entry))) ⌝ }
+    ensures { λ _. ⌜ now (half .exit) ≡ tab (length (now (half .entry))) (λ v. 0) ⌝ }
 {
     commit_first(n, k, base, table, gammas, levels, trees);
     let done = fold_calls(n, k, calls, challenges, levels, half, kept);

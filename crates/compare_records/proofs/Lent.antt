@@ -5,7 +5,7 @@ use native.Mathlib.Omega.{arith}
 use borrow.Author.Tests.{eq-eqb, ne-eqb, le-leb, lt-leb, le-ltb, lt-ltb}
 use Rattle.theory_laws.specs.Questions.{firstNo}
 use Rattle.theory_laws.proofs.Questions.{first-stops, first-passes}
-use Rattle.code_level.specs.helpers.Numbers.{sizeNumber}
+use Rattle.code_level.specs.Sizes.{sizeNumber}
 use Rattle.theory_record.specs.Widths.{levelLength}
 use Rattle.theory_record.specs.Query.{sizeQuestions}
 use Rattle.compare_records.specs.helpers.Numbers.{lengthQuestions, lentNumber}

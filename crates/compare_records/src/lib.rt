@@ -9,7 +9,8 @@ ghost use mathlib.Core.Path.{_≡_};
 ghost use Rattle.theory_compare.specs.Compare.{accepts};
 ghost use Rattle.theory_compare.specs.Lent.{comparedLent, firstLeft, secondLeft};
 ghost use Rattle.tree_place.specs.Place.{index};
-ghost use Rattle.compare_records.specs.helpers.Numbers.{lentNumber, recordsLent, comparison};
+ghost use Rattle.compare_records.specs.Answers.{comparison};
+ghost use Rattle.compare_records.specs.helpers.Numbers.{lentNumber, recordsLent};
 ghost use Rattle.theory_record.specs.Scheme.{scheme};
 
 // How many bytes a buffer for a message has: `messageBuffer` of the definitions. The longest, a leaf message of 8 values, has 434.

@@ -10,10 +10,9 @@ use Rattle.theory_laws.specs.Questions.{pick, Question, _asks_, firstNo, onDone
 use Rattle.theory_blake3.specs.Flags.{rootNode}
 use Rattle.theory_blake3.specs.Compression.{cv}
 use Rattle.theory_blake3.specs.Digest.{bytesOfWords32}
-use Rattle.theory_blake3.specs.Stack.{entries, fold}
+use Rattle.theory_blake3.specs.Stack.{entries, fold, pushed, pushedDepth}
 use Rattle.hash_chunk.specs.declared.state.ChunkState.{ChunkState}
-use Rattle.hash_chunk.specs.helpers.State.{fedByte, lastOf}
-use Rattle.hash_stack.specs.helpers.Push.{pushed, pushedDepth}
+use Rattle.hash_chunk.specs.State.{fedByte, lastOf}
 use Rattle.hash_hasher.specs.declared.hasher.Hasher.{Hasher}
 use Rattle.hash_hasher.specs.declared.hasher.Updated.{Updated}
 use Rattle.hash_hasher.specs.declared.whole.Digested.{Digested}

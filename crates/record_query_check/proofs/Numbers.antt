@@ -8,7 +8,7 @@ use lib.Dec.{eqb, leb, ltb}
 use lib.ListN.{length}
 use Rattle.theory_laws.specs.Questions.{Question, _asks_, firstNo}
 use Rattle.theory_laws.proofs.Questions.{all-yes, first-stops, first-passes}
-use Rattle.code_level.specs.helpers.Numbers.{sizeNumber}
+use Rattle.code_level.specs.Sizes.{sizeNumber}
 use Rattle.theory_record.specs.Widths.{levelLength}
 use Rattle.theory_record.specs.Format.{levelForm, runCount, recordWhole, recordItems}
 use Rattle.theory_record.specs.Query.{Answer, sizeQuestions, checkLevels, queryQuestions, queryNumber, checkQuery}
