@@ -1,6 +1,6 @@
 // Four compressions of BLAKE3 at once: word i of lane l stands at 4 * i + l. The loop over the lanes has a whole round as its body, with
 // nothing left called in it once it is inlined, and the state is a local of `compress`: so the compiler makes the four lanes one vector.
-// The functions serve the crates above: those with a `requires` are not for export.
+// These are helpers for the crates above: those with a `requires` are not for export.
 ghost use mathlib.Core.Path.{_≡_};
 ghost use Prim.Native.Nat.{ℕ, _+_, _*_, _-_, _<_};
 ghost use lib.ListN.{length};
