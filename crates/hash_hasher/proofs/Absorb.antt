@@ -21,7 +21,8 @@ use Rattle.theory_blake3.specs.Digest.{bytesOfWords32}
 use Rattle.theory_blake3.specs.Stack.{entries, fold, pushed, pushedDepth}
 use Rattle.hash_stack.proofs.Tower.{tower-depth}
 use Rattle.hash_hasher.specs.declared.hasher.Hasher.{Hasher}
-use Rattle.hash_hasher.specs.Hasher.{Counts, chunkOf, withChunk, newChunk, nextChunk, roomy, taken, absorbed, finished}
+use Rattle.hash_hasher.specs.helpers.Counts.{Counts}
+use Rattle.hash_hasher.specs.Hasher.{chunkOf, withChunk, newChunk, nextChunk, roomy, taken, absorbed, finished}
 
 -- the two cases of making room
 pub roomy-full : (s : Hasher) → 64 * s .blocks + s .fill ≡ 1024 → roomy s ≡ nextChunk s

@@ -22,8 +22,9 @@ use Rattle.hash_chunk.proofs.Stands.{Stands, stands-started, stands-byte, stand
 use Rattle.hash_stack.proofs.Tower.{merges, tower-depth, tower-step, tower-root}
 use Rattle.hash_hasher.specs.declared.hasher.Hasher.{Hasher}
 use Rattle.hash_hasher.specs.Whole.{mostBytes, digestOf}
-use Rattle.hash_hasher.specs.Hasher.{newOf, numberOf, Ready, chunkOf, withChunk, nextChunk, taken, absorbed, updateOf, finished, finalizeOf}
+use Rattle.hash_hasher.specs.Hasher.{newOf, numberOf, chunkOf, withChunk, nextChunk, taken, absorbed, updateOf, finished, finalizeOf}
 use Rattle.hash_hasher.specs.Sequence.{run, done}
+use Rattle.hash_hasher.specs.helpers.Counts.{Ready}
 use Rattle.hash_hasher.proofs.Ready.{ready-number}
 use Rattle.hash_hasher.proofs.Absorb.{roomy-full, roomy-not}
 use Rattle.theory_laws.proofs.Numbers.{lt-or-le}
