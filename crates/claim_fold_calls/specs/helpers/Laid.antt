@@ -12,7 +12,7 @@ use Rattle.theory_multilinear.specs.Folds.{Fold}
 use Rattle.field_gf128.specs.Word.{word}
 use Rattle.theory_record.specs.Build.{levelStart, levelsLength, levelValues}
 use Rattle.theory_claim.specs.Calls.{Call, callNumber, callFold, doneFolds, afterFolds}
-use Rattle.code_levels.specs.helpers.Levels.{laid, LevelLent}
+use Rattle.code_levels.specs.helpers.Levels.{laid, Room, LevelLent}
 use Rattle.claim_fold_calls.specs.declared.FoldCall.{FoldCall}
 use Rattle.claim_fold_calls.specs.declared.Progress.{Progress}
 
@@ -32,6 +32,10 @@ asked x = record { n = x .n; k = x .k; var = x .var; room = x .room; by = word (
 pub record CallsLent (calls challenges : ℕ) : Type 0 where
   pub calls-long : calls ≡ 4 * (calls / 4)
   pub challenges-long : challenges ≡ 2 * (calls / 4)
+
+-- lengths of all that a list of calls is lent: room for the levels and for a fold, for n challenges, and the calls
+abbrev pub CallsRoom : ℕ → ℕ → ℕ → ℕ → ℕ → ℕ → ℕ → Type 0
+CallsRoom n k levels half kept calls challenges = Room n k levels half × (kept ≡ 2 * n) × CallsLent calls challenges
 
 -- where a list of calls on the codeword c stands, of which the calls `rest` are to come: l are done, the codeword is level l and starts at
 -- the half `from`, the levels up to l are laid, the challenges of the done calls are kept, and behind both stands what was there, the words
