@@ -18,50 +18,52 @@ from records import Deposit, LastLevel, OpenedDeposit, Reader, first_no, query, 
 
 
 @dataclasses.dataclass
-class CheckQuery:
+class Check:
+    """The items of a record, the edit of its bytes, and the scheme; a kind of record adds what its check is lent besides, by how it stands in a line."""
+
     base: bytes
     n: int
     k: int
-    position: int
-    challenges: bytes
-    roots: bytes
     items: list
-    edit: typing.Callable = bytes
+    edit: typing.Callable = dataclasses.field(default=bytes, kw_only=True)
 
-    kind, name = "query", "check_query"
+    @property
+    def name(self):
+        return "check_" + self.kind
 
     def record(self):
-        return self.edit(query_bytes(self.items))
+        return self.edit(self.bytes_of(self.items))
 
     def line(self, store):
-        given = store.named(self.base), self.n, self.k, self.position, store.words(self.challenges), store.named(self.roots), store.named(self.record())
-        return " ".join(map(str, given))
+        lent = (stands(store, getattr(self, field)) for field, stands in self.lent.items())
+        return " ".join(map(str, [store.named(self.base), self.n, self.k, *lent, store.named(self.record())]))
 
     def answer(self):
-        return first_no(records.check_query(self.base, self.n, self.k, self.position, self.challenges, self.roots, self.record()))
+        lent = {field: getattr(self, field) for field in self.lent}
+        return first_no(self.questions(self.base, self.n, self.k, record=self.record(), **lent))
+
+
+def number(store, value):
+    return value
 
 
 @dataclasses.dataclass
-class CheckTail:
-    base: bytes
-    n: int
-    k: int
-    claim: bytes
+class CheckQuery(Check):
+    position: int
+    challenges: bytes
+    roots: bytes
+
+    kind, lent = "query", {"position": number, "challenges": Store.words, "roots": Store.named}
+    bytes_of, questions = staticmethod(query_bytes), staticmethod(records.check_query)
+
+
+@dataclasses.dataclass
+class CheckTail(Check):
     root: bytes
-    items: list
-    edit: typing.Callable = bytes
+    claim: bytes
 
-    kind, name = "tail", "check_tail"
-
-    def record(self):
-        return self.edit(tail_bytes(self.items))
-
-    def line(self, store):
-        given = store.named(self.base), self.n, self.k, store.named(self.root), store.words(self.claim), store.named(self.record())
-        return " ".join(map(str, given))
-
-    def answer(self):
-        return first_no(records.check_tail(self.base, self.n, self.k, self.claim, self.root, self.record()))
+    kind, lent = "tail", {"root": Store.named, "claim": Store.words}
+    bytes_of, questions = staticmethod(tail_bytes), staticmethod(records.check_tail)
 
 
 @dataclasses.dataclass
@@ -118,12 +120,12 @@ class Compare:
 
 def check_query(deposit, position):
     roots = b"".join(deposit.roots)
-    return CheckQuery(deposit.base, deposit.n, deposit.k, position, words_bytes(deposit.challenges), roots, query(deposit, position))
+    return CheckQuery(deposit.base, deposit.n, deposit.k, query(deposit, position), position, words_bytes(deposit.challenges), roots)
 
 
 def check_tail(deposit):
     claim = word_bytes(deposit.levels[-1][0])
-    return CheckTail(deposit.base, deposit.n, deposit.k, claim, deposit.roots[-1], deposit.tail())
+    return CheckTail(deposit.base, deposit.n, deposit.k, deposit.tail(), deposit.roots[-1], claim)
 
 
 def build_query(deposit, position):

@@ -16,6 +16,38 @@ use std::collections::BTreeSet;
 pub const SEED_WARNING: &str = "the questions come from a seed text: good for trying it out, and no substitute for challenges and positions \
                                 that the checker draws after the root is known";
 
+/// The options that name a seal, a place of a project and what a checker asks: `seal open` and `seal check` take them alike.
+const ASKING: [&str; 10] = [
+    "--seal",
+    "--file",
+    "--part",
+    "--offset",
+    "--asked",
+    "--challenges",
+    "--seed",
+    "--at",
+    "--positions",
+    "--count",
+];
+
+/// These, and a command's own.
+pub const fn asking_and<const OWN: usize, const ALL: usize>(
+    own: [&'static str; OWN],
+) -> [&'static str; ALL] {
+    assert!(ALL == ASKING.len() + OWN);
+    let mut all = [""; ALL];
+    let mut i = 0;
+    while i < ALL {
+        all[i] = if i < ASKING.len() {
+            ASKING[i]
+        } else {
+            own[i - ASKING.len()]
+        };
+        i += 1;
+    }
+    all
+}
+
 /// The most bytes that a file of positions is read for.
 const MOST_POSITIONS: usize = 1 << 20;
 

@@ -7,7 +7,7 @@ use crate::opened::{as_text, Opened};
 use crate::options::Options;
 use crate::outcome::{Failure, Outcome};
 use crate::part::{asked_seal, RefusedManifest};
-use crate::questions::{challenges, positions, requested, SEED_WARNING};
+use crate::questions::{asking_and, challenges, positions, requested, SEED_WARNING};
 use crate::reading::shown_path;
 use crate::report::{page, Subject};
 use crate::request::{Answered, Request};
@@ -19,23 +19,13 @@ use crate::writing::{make, may_be_made};
 use dequmlo::{QueryRecord, Root, Statement, Word};
 use std::path::PathBuf;
 
-pub const TAKEN: [&str; 15] = [
-    "--seal",
-    "--file",
-    "--part",
-    "--offset",
-    "--asked",
-    "--challenges",
-    "--seed",
-    "--at",
-    "--positions",
-    "--count",
+pub const TAKEN: [&str; 15] = asking_and([
     "--roots",
     "--claim",
     "--own-questions",
     "--report",
     "--json",
-];
+]);
 
 pub fn run(options: &Options) -> Result<Outcome, Failure> {
     options.expect(1, "one OPENING", &TAKEN)?;

@@ -8,7 +8,7 @@ use crate::outcome::{texts, Failure, Outcome, Verdict};
 use crate::part::{asked_seal, Part};
 use crate::progress::Progress;
 use crate::project::file_path;
-use crate::questions::{challenges, positions, requested, SEED_WARNING};
+use crate::questions::{asking_and, challenges, positions, requested, SEED_WARNING};
 use crate::reading::{shown_path, stretch, unreadable};
 use crate::request::Request;
 use crate::seal::Seal;
@@ -18,21 +18,7 @@ use crate::writing::{beside, Target};
 use dequmlo::{Deposit, Refusal, Word};
 use std::path::Path;
 
-pub const TAKEN: [&str; 13] = [
-    "--seal",
-    "--file",
-    "--part",
-    "--offset",
-    "--asked",
-    "--challenges",
-    "--seed",
-    "--at",
-    "--positions",
-    "--count",
-    "--out",
-    "--force",
-    "--json",
-];
+pub const TAKEN: [&str; 13] = asking_and(["--out", "--force", "--json"]);
 
 pub fn run(options: &Options) -> Result<Outcome, Failure> {
     options.expect(1, "one FILE", &TAKEN)?;

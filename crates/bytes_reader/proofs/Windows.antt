@@ -10,7 +10,7 @@ use Rattle.theory_laws.specs.Lists.{part, leValue}
 use Rattle.theory_laws.proofs.Table.{tab-ext, at-tab, is-tab}
 use Rattle.theory_laws.proofs.Lists.{length-part, getD-part}
 use Rattle.theory_laws.proofs.Updates.{fill-step}
-use Rattle.bytes_reader.specs.helpers.Windows.{byteAt, window, windowAt}
+use Rattle.bytes_reader.specs.Windows.{byteAt, window, windowAt}
 use Rattle.bytes_reader.specs.declared.Window.{Window}
 
 -- zeros past the end add nothing to a number

@@ -1,1 +1,1 @@
-pub mod helpers
+pub mod Windows

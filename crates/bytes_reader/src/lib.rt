@@ -5,7 +5,7 @@ ghost use mathlib.Core.Path.{_≡_};
 ghost use Prim.Native.Nat.{_+_, _-_, _≤_};
 ghost use lib.ListN.{length};
 ghost use Rattle.theory_laws.specs.Lists.{part};
-ghost use Rattle.bytes_reader.specs.helpers.Windows.{byteAt, windowAt};
+ghost use Rattle.bytes_reader.specs.Windows.{byteAt, windowAt};
 
 // A reader over lent bytes, and how far it has read.
 pub struct RecordReader<'a> {

@@ -27,7 +27,8 @@ use Rattle.theory_claim.proofs.Calls.{skip}
 use Rattle.code_levels.specs.helpers.Levels.{laid, LevelLent}
 use Rattle.code_levels.proofs.Laying.{next-start, laid-before, laid-there, laid-behind, behind-more, length-fold}
 use Rattle.claim_fold_calls.specs.Lent.{callAt, callsFrom, lentCalls}
-use Rattle.claim_fold_calls.specs.helpers.Laid.{challengesOf, numberOn, Reached, Called, Left}
+use Rattle.claim_fold_calls.specs.Left.{challengesOf, Left}
+use Rattle.claim_fold_calls.specs.helpers.Laid.{numberOn, Reached, Called}
 
 map-take : {A B : Type 0} (f : A → B) (m : ℕ) (xs : List A) → map f (take m xs) ≡ take m (map f xs)
 map-take f zero xs = refl

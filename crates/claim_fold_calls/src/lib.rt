@@ -8,11 +8,11 @@ use field_words::clear;
 ghost use mathlib.Core.Path.{_≡_};
 ghost use Prim.Native.Nat.{_*_, _<_};
 ghost use lib.ListN.{length};
+ghost use Rattle.theory_laws.specs.Table.{tab};
 ghost use Rattle.theory_field.specs.Words.{words};
 ghost use Rattle.field_gf128.specs.Word.{word};
-ghost use Rattle.code_levels.specs.helpers.Levels.{Room};
 ghost use Rattle.claim_fold_calls.specs.Lent.{callAt, lentCalls};
-ghost use Rattle.claim_fold_calls.specs.helpers.Laid.{zeros, asked, CallsLent, CallLent, Moved, CallsLeft};
+ghost use Rattle.claim_fold_calls.specs.helpers.Laid.{asked, CallsLent, CallsRoom, CallLent, Moved, CallsLeft};
 
 // A fold call as it is lent: its n, k and variable, the length of the room for its answer, in halves, and its challenge.
 pub struct FoldCall {
@@ -90,9 +90,9 @@ pub fn fold_calls(
     half: &mut [u64],
     kept: &mut [u64],
 ) -> usize
-    requires { ⌜ Room n k (length (now levels)) (length (now half)) × (length (now kept) ≡ 2 * n) × CallsLent (length (now calls)) (length (now challenges)) ⌝ }
+    requires { ⌜ CallsRoom n k (length (now levels)) (length (now half)) (length (now kept)) (length (now calls)) (length (now challenges)) ⌝ }
     ensures { λ done. ⌜ CallsLeft n k (lentCalls (now (calls .entry)) (words (now (challenges .entry)))) levels kept done ⌝ }
-    ensures { λ _. ⌜ now (half .exit) ≡ zeros (length (now (half .entry))) ⌝ }
+    ensures { λ _. ⌜ now (half .exit) ≡ tab (length (now (half .entry))) (λ v. 0) ⌝ }
 {
     let count = calls.len() / 4;
     let mut at = Progress { done: 0, from: 0 };

@@ -23,7 +23,7 @@ use Rattle.theory_claim.specs.Calls.{Call, afterFolds}
 use Rattle.theory_claim.specs.Claim.{Deposit, Claim}
 use Rattle.theory_claim.proofs.Claim.{claim}
 use Rattle.code_levels.proofs.Laying.{behind-more}
-use Rattle.claim_fold_calls.specs.helpers.Laid.{Left}
+use Rattle.claim_fold_calls.specs.Left.{Left}
 use Rattle.claim_run_parts.specs.Parts.{lastLevel, lastTree, lastRoot}
 use Rattle.claim_run_parts.specs.helpers.Room.{CommitRoom}
 

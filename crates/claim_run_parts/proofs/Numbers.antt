@@ -11,7 +11,7 @@ use Rattle.theory_record.specs.Build.{levelsLength, treeStart}
 use Rattle.theory_record.specs.Query.{sizeQuestions}
 use Rattle.theory_record.proofs.Ranges.{sizes-fit}
 use Rattle.theory_record.proofs.Offsets.{first-length}
-use Rattle.code_level.specs.helpers.Numbers.{sizeNumber}
+use Rattle.code_level.specs.Sizes.{sizeNumber}
 use Rattle.claim_run_parts.specs.Questions.{inputQuestions, depositQuestions, recordQuestions, lastQuestions, runQuestions, runNumber}
 use Rattle.claim_run_parts.specs.helpers.Room.{Room, RecordRoom}
 

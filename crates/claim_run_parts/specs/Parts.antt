@@ -12,7 +12,7 @@ use Rattle.theory_record.specs.Build.{levelValues}
 use Rattle.theory_record.specs.Scheme.{scheme}
 use Rattle.theory_claim.specs.Commit.{committedCodeword}
 use Rattle.claim_fold_calls.specs.Lent.{lentCalls}
-use Rattle.claim_fold_calls.specs.helpers.Laid.{Left}
+use Rattle.claim_fold_calls.specs.Left.{Left}
 
 -- what committing, the calls and the trees leave, lent the halves `old` for the levels and `oldKept` for the challenges
 

@@ -18,18 +18,18 @@ use record_tail_check::check_tail;
 use tree_place::Place;
 ghost use mathlib.Core.Path.{_≡_};
 ghost use lib.ListN.{length};
+ghost use Rattle.theory_laws.specs.Table.{tab};
 ghost use Rattle.field_gf128.specs.Word.{word};
 ghost use Rattle.theory_record.specs.Widths.{present};
 ghost use Rattle.theory_record.specs.Query.{checkQuery};
 ghost use Rattle.theory_record.specs.Tail.{checkTail};
-ghost use Rattle.theory_record.specs.Build.{buildQuery, buildTail};
-ghost use Rattle.theory_record.specs.Scheme.{scheme};
+ghost use Rattle.theory_record.specs.Build.{buildQuery};
+ghost use Rattle.theory_record.specs.Lent.{schemeOf};
 ghost use Rattle.record_query_check.specs.Answer.{answer};
 ghost use Rattle.theory_compare.specs.Lent.{comparedLent, firstLeft, secondLeft};
-ghost use Rattle.compare_records.specs.helpers.Numbers.{comparison};
-ghost use Rattle.claim_fold_calls.specs.helpers.Laid.{zeros};
-ghost use Rattle.claim_run_parts.specs.Parts.{lastLevel, lastTree, lastRoot};
-ghost use Rattle.claim_run_parts.specs.helpers.Room.{CommitLent, CommitLeft, DepositLent, DepositLeft, LastRoom};
+ghost use Rattle.compare_records.specs.Answers.{comparison};
+ghost use Rattle.claim_run_parts.specs.Parts.{lastRoot};
+ghost use Rattle.claim_run_parts.specs.helpers.Room.{CommitLent, CommitLeft, DepositLent, DepositLeft, LastRoom, tailLent};
 
 // A table committed: its gammas, level 0 at the front of the levels and level 0's tree at the front of the trees.
 fn commit_first(
@@ -75,7 +75,7 @@ pub fn deposit(
 ) -> usize
     requires { ⌜ DepositLent n k base table calls challenges gammas levels half kept trees roots ⌝ }
     ensures { λ done. ⌜ DepositLeft n k base table calls challenges gammas levels kept trees roots done ⌝ }
-    ensures { λ _. ⌜ now (half .exit) ≡ zeros (length (now (half .entry))) ⌝ }
+    ensures { λ _. ⌜ now (half .exit) ≡ tab (length (now (half .entry))) (λ v. 0) ⌝ }
 {
     commit_first(n, k, base, table, gammas, levels, trees);
     let done = fold_calls(n, k, calls, challenges, levels, half, kept);
@@ -96,7 +96,7 @@ pub fn query_record(
     out: &mut [u8],
 ) -> Checked
     ensures { λ _. ⌜ now (out .exit) ≡ buildQuery present n k (now (levels .entry)) (now (trees .entry)) position (now (out .entry)) ⌝ }
-    ensures { λ r. ⌜ answer r ≡ checkQuery (scheme (now (base .entry)) n k) position (now (kept .entry)) (now (roots .entry)) (now (out .exit)) ⌝ }
+    ensures { λ r. ⌜ answer r ≡ checkQuery (schemeOf base n k) position (now (kept .entry)) (now (roots .entry)) (now (out .exit)) ⌝ }
 {
     let place = Place::at(position);
     build_query(out, levels, trees, n, k, place);
@@ -115,8 +115,8 @@ pub fn tail_record(
     out: &mut [u8],
 ) -> u32
     requires { ⌜ LastRoom n k (length (now levels)) (length (now trees)) (length (now roots)) ⌝ }
-    ensures { λ _. ⌜ now (out .exit) ≡ buildTail present n k (lastLevel n k (now (levels .entry))) (lastTree n k (now (trees .entry))) (now (out .entry)) ⌝ }
-    ensures { λ r. ⌜ r ≡ checkTail (scheme (now (base .entry)) n k) (lastRoot (now (roots .entry))) (word claim) (now (out .exit)) ⌝ }
+    ensures { λ _. ⌜ now (out .exit) ≡ tailLent n k levels trees out ⌝ }
+    ensures { λ r. ⌜ r ≡ checkTail (schemeOf base n k) (lastRoot (now (roots .entry))) (word claim) (now (out .exit)) ⌝ }
 {
     let from = levels.len() - 2 * level_length(n, k, n);
     let at = trees.len() - tree_bytes(n, k, n);

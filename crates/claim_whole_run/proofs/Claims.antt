@@ -29,7 +29,7 @@ use Rattle.theory_claim.specs.Calls.{Call, callNumber, doneFolds, afterFolds}
 use Rattle.theory_claim.specs.Claim.{Lent, LastLent, After, Outcome, Claim}
 use Rattle.theory_claim.proofs.Lent as L
 use Rattle.code_levels.proofs.Laying.{levels-laid}
-use Rattle.claim_fold_calls.specs.helpers.Laid.{challengesOf}
+use Rattle.claim_fold_calls.specs.Left.{challengesOf}
 use Rattle.claim_whole_run.specs.Whole as whole
 use Rattle.claim_run_parts.specs.Parts.{Deposited, lastLevel, lastTree, lastRoot}
 use Rattle.claim_whole_run.specs.Whole.{Given, Buffers, Claimed, AfterCalls}

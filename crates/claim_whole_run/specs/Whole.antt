@@ -7,7 +7,7 @@ use mathlib.Core.List.{List, [], _∷_, _++_}
 use lib.ListN.{length, take, getD}
 use denote.Ref.{now}
 use denote.Triple.Both.{Both}
-use Rattle.theory_laws.specs.Table.{at}
+use Rattle.theory_laws.specs.Table.{tab, at}
 use Rattle.theory_field.specs.Words.{words}
 use Rattle.theory_multilinear.specs.Multilinear.{mle}
 use Rattle.theory_multilinear.specs.Folds.{atFirst}
@@ -28,11 +28,10 @@ use Rattle.record_query_check.specs.Answer.{answer}
 use Rattle.theory_compare.specs.Compare.{Comparison, compared, firstMessage, secondMessage, messageBuffer}
 use Rattle.theory_compare.specs.Nearest.{NearestRoot}
 use Rattle.theory_compare.specs.Lent.{Slice}
-use Rattle.compare_records.specs.helpers.Numbers.{comparison}
+use Rattle.compare_records.specs.Answers.{comparison}
 use Rattle.theory_claim.specs.Commit.{commitNumber, committedCodeword}
 use Rattle.theory_claim.specs.Calls.{Call, callNumber, doneFolds, leftBy}
 use Rattle.claim_fold_calls.specs.Lent.{lentCalls}
-use Rattle.claim_fold_calls.specs.helpers.Laid.{zeros}
 use Rattle.claim_run_parts.specs.Questions.{runNumber}
 use Rattle.claim_run_parts.specs.Parts.{Deposited, lastLevel, lastTree, lastRoot}
 use Rattle.claim_whole_run.specs.declared.Answers.{Answers}
@@ -203,7 +202,7 @@ module _ (G : Given) where
     -- the run: what is left, what the records are and what their checks answer, what comparing answers and leaves, and the claim of all that
     pub record Ran (r : Answers) : Type 0 where
       pub deposited : Deposited n k base table calls challenges (old .levels) (old .kept) (new .gammas) levels kept trees roots (r .done)
-      pub half-cleared : new .half ≡ zeros (length (old .half))
+      pub half-cleared : new .half ≡ tab (length (old .half)) (λ v. 0)
       pub query-is : new .query ≡ buildQuery present n k levels trees position (old .query)
       pub tail-is : new .tail ≡ buildTail present n k (lastLevel n k levels) (lastTree n k trees) (old .tail)
       pub answer-is : answer (r .query) ≡ checkQuery S position kept roots (new .query)

@@ -9,7 +9,7 @@ ghost use Rattle.field_gf128.specs.Word.{word};
 ghost use Rattle.theory_multilinear.specs.Fold.{foldList};
 ghost use Rattle.theory_multilinear.specs.Codeword as C;
 ghost use Rattle.theory_code.specs.Questions.{shiftNumber, encodeNumber, foldNumber};
-ghost use Rattle.code_codeword.specs.Answers.{blockOf, foldedOf};
+ghost use Rattle.code_codeword.specs.Answers.{blockOf, encodedOf, foldedOf};
 ghost use Rattle.code_codeword.specs.helpers.Sizes.{ShiftSizes, EncodeSizes};
 
 pub mod folding;
@@ -170,7 +170,7 @@ fn encode_number(n: usize, k: usize, table: usize, gammas: usize, out: usize) ->
 // are not theirs with 5.
 pub fn encode(n: usize, k: usize, table: &[u64], gammas: &[u64], out: &mut [u64]) -> u32
     ensures { λ r. ⌜ r ≡ encodeNumber n k (length (now (table .entry))) (length (now (gammas .entry))) (length (now (out .entry))) ⌝ }
-    ensures { λ r. ⌜ words (now (out .exit)) ≡ onDone r (C.encode n k (words (now (gammas .entry))) (words (now (table .entry)))) (words (now (out .entry))) ⌝ }
+    ensures { λ r. ⌜ words (now (out .exit)) ≡ onDone r (encodedOf n k (now (gammas .entry)) (now (table .entry))) (words (now (out .entry))) ⌝ }
 {
     let number = encode_number(n, k, table.len(), gammas.len(), out.len());
     if number != 0 {

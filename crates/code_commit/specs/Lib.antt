@@ -1,2 +1,3 @@
 pub mod Level
+pub mod Lent
 pub mod helpers

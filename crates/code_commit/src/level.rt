@@ -10,7 +10,7 @@ ghost use Rattle.theory_laws.specs.Questions.{onDone};
 ghost use Rattle.theory_field.specs.Words.{words};
 ghost use Rattle.theory_record.specs.Widths.{present};
 ghost use Rattle.theory_record.specs.Trees.{treeFor};
-ghost use Rattle.theory_record.specs.Scheme.{scheme};
+ghost use Rattle.theory_record.specs.Lent.{schemeOf};
 ghost use Rattle.code_commit.specs.Level.{levelTreeNumber};
 
 // 4, 5 and 7.
@@ -40,7 +40,7 @@ fn number(n: usize, k: usize, l: usize, base: usize, values: usize, tree: usize)
 // 20, k past 4 or l past n with 4, lengths that are not theirs with 5, and a base domain of more than 200 bytes with 7.
 pub fn level_tree(n: usize, k: usize, l: usize, base: &[u8], values: &[u64], tree: &mut [u8]) -> u32
     ensures { λ r. ⌜ r ≡ levelTreeNumber present n k l (length (now (base .entry))) (length (now (values .entry))) (length (now (tree .entry))) ⌝ }
-    ensures { λ r. ⌜ now (tree .exit) ≡ onDone r (flat (treeFor (scheme (now (base .entry)) n k) l (words (now (values .entry))))) (now (tree .entry)) ⌝ }
+    ensures { λ r. ⌜ now (tree .exit) ≡ onDone r (flat (treeFor (schemeOf base n k) l (words (now (values .entry))))) (now (tree .entry)) ⌝ }
 {
     let refusal = number(n, k, l, base.len(), values.len(), tree.len());
     if refusal != 0 {

@@ -12,8 +12,9 @@ ghost use Rattle.theory_field.specs.Words.{words};
 ghost use Rattle.theory_blake3.specs.Digest.{hash};
 ghost use Rattle.theory_code.specs.Gammas as G;
 ghost use Rattle.theory_record.specs.Widths.{present};
-ghost use Rattle.theory_claim.specs.Commit.{commitNumber, commitAnswer, codewordOf, committedTree};
-ghost use Rattle.theory_record.specs.Scheme.{scheme};
+ghost use Rattle.theory_claim.specs.Commit.{commitNumber, commitAnswer, committedTree};
+ghost use Rattle.code_commit.specs.Lent.{codewordLent};
+ghost use Rattle.theory_record.specs.Lent.{schemeOf};
 
 // The number that `commit` answers.
 fn number(
@@ -64,8 +65,8 @@ pub fn commit(
 ) -> u32
     ensures { λ r. ⌜ r ≡ commitAnswer n k (now (base .entry)) (now (table .entry)) (now (gammas .entry)) (now (codeword .entry)) (now (tree .entry)) ⌝ }
     ensures { λ r. ⌜ words (now (gammas .exit)) ≡ onDone r (G.gammas hash (now (base .entry)) n k) (words (now (gammas .entry))) ⌝ }
-    ensures { λ r. ⌜ words (now (codeword .exit)) ≡ onDone r (codewordOf (now (base .entry)) n k (now (table .entry))) (words (now (codeword .entry))) ⌝ }
-    ensures { λ r. ⌜ now (tree .exit) ≡ onDone r (committedTree (scheme (now (base .entry)) n k) (words (now (table .entry)))) (now (tree .entry)) ⌝ }
+    ensures { λ r. ⌜ words (now (codeword .exit)) ≡ onDone r (codewordLent n k base table) (words (now (codeword .entry))) ⌝ }
+    ensures { λ r. ⌜ now (tree .exit) ≡ onDone r (committedTree (schemeOf base n k) (words (now (table .entry)))) (now (tree .entry)) ⌝ }
 {
     let refusal = number(
         n,

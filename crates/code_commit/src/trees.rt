@@ -12,7 +12,7 @@ ghost use Rattle.theory_field.specs.Words.{words};
 ghost use Rattle.theory_record.specs.Widths.{present, treeLength};
 ghost use Rattle.theory_record.specs.Trees.{treeFor};
 ghost use Rattle.code_commit.specs.helpers.LevelTree.{LevelTree};
-ghost use Rattle.theory_record.specs.Scheme.{scheme};
+ghost use Rattle.theory_record.specs.Lent.{schemeOf};
 
 // How many bytes level l's tree has.
 pub fn tree_bytes(n: usize, k: usize, l: usize) -> usize
@@ -25,7 +25,7 @@ pub fn tree_bytes(n: usize, k: usize, l: usize) -> usize
 // Level l's tree over its values, at the level's width under level domain l, into a buffer of its size.
 pub fn build_level(n: usize, k: usize, l: usize, base: &[u8], values: &[u64], tree: &mut [u8])
     requires { ⌜ LevelTree n k l (length (now base)) (length (now values)) (length (now tree)) ⌝ }
-    ensures { λ _. ⌜ now (tree .exit) ≡ flat (treeFor (scheme (now (base .entry)) n k) l (words (now (values .entry)))) ⌝ }
+    ensures { λ _. ⌜ now (tree .exit) ≡ flat (treeFor (schemeOf base n k) l (words (now (values .entry)))) ⌝ }
 {
     let mut domain = [0u8; DOMAIN];
     let size = level_domain(&mut domain, base, l);

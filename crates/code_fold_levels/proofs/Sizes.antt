@@ -12,7 +12,7 @@ use Rattle.theory_record.specs.Query.{sizeQuestions}
 use Rattle.theory_record.specs.Build.{levelsLength, treeStart}
 use Rattle.theory_record.proofs.Ranges.{SizesFit, sizes-fit, sizes-small}
 use Rattle.theory_record.proofs.Offsets.{level-halves, first-length}
-use Rattle.code_level.specs.helpers.Numbers.{sizeNumber}
+use Rattle.code_level.specs.Sizes.{sizeNumber}
 use Rattle.code_level.proofs.Sizes.{yes-sizes, yes-halves}
 use Rattle.code_levels.specs.helpers.Levels as fold
 use Rattle.code_level_trees.specs.helpers.Room as tree

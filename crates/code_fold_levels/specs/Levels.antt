@@ -8,7 +8,7 @@ use denote.Ref.{now}
 use Rattle.theory_laws.specs.Questions.{Question, _asks_, firstNo}
 use Rattle.theory_field.specs.Words.{words}
 use Rattle.theory_multilinear.specs.Levels.{level}
-use Rattle.theory_compare.specs.Lent.{Slice}
+use Rattle.theory_record.specs.Lent.{Slice}
 use Rattle.theory_record.specs.Widths.{Widths, present, levelLength}
 use Rattle.theory_record.specs.Query.{sizeQuestions}
 use Rattle.theory_record.specs.Build.{levelsLength, treeStart, levelValues}

@@ -20,7 +20,7 @@ ghost use Rattle.field_gf128.specs.Word.{word};
 ghost use Rattle.theory_record.specs.Widths.{present, levelLength};
 ghost use Rattle.theory_record.specs.Trees.{levelsLent, treesLent, rootsLent};
 ghost use Rattle.theory_record.specs.Build.{levelStart};
-ghost use Rattle.theory_record.specs.Scheme.{scheme};
+ghost use Rattle.theory_record.specs.Lent.{schemeOf};
 ghost use Rattle.code_levels.specs.helpers.Levels.{laid, levelFolded, Room, LevelLent};
 ghost use Rattle.code_fold_levels.specs.Levels.{foldLevelsNumber, foldLevelsLent, foldedLent};
 
@@ -124,8 +124,8 @@ pub fn fold_levels(
     ensures { λ r. ⌜ r ≡ foldLevelsLent n k base challenges levels half trees roots ⌝ }
     ensures { λ r. ⌜ words (now (levels .exit)) ≡ onDone r (levelsLent n (foldedLent n k challenges levels)) (words (now (levels .entry))) ⌝ }
     ensures { λ r. ⌜ now (half .exit) ≡ onDone r (tab (length (now (half .entry))) (λ v. 0)) (now (half .entry)) ⌝ }
-    ensures { λ r. ⌜ now (trees .exit) ≡ onDone r (treesLent (scheme (now (base .entry)) n k) (foldedLent n k challenges levels)) (now (trees .entry)) ⌝ }
-    ensures { λ r. ⌜ now (roots .exit) ≡ onDone r (rootsLent (scheme (now (base .entry)) n k) (foldedLent n k challenges levels)) (now (roots .entry)) ⌝ }
+    ensures { λ r. ⌜ now (trees .exit) ≡ onDone r (treesLent (schemeOf base n k) (foldedLent n k challenges levels)) (now (trees .entry)) ⌝ }
+    ensures { λ r. ⌜ now (roots .exit) ≡ onDone r (rootsLent (schemeOf base n k) (foldedLent n k challenges levels)) (now (roots .entry)) ⌝ }
 {
     let refusal = number(
         n,

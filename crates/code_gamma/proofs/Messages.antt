@@ -9,7 +9,8 @@ use Rattle.theory_laws.proofs.Lists.{length-leBytes}
 use Rattle.theory_blake3.specs.Compression.{iv}
 use Rattle.theory_blake3.specs.Digest.{hash}
 use Rattle.hash_chunk.specs.declared.state.ChunkState.{ChunkState}
-use Rattle.hash_chunk.specs.helpers.State.{started, fed, finished, Fits}
+use Rattle.hash_chunk.specs.State.{started, fed, finished}
+use Rattle.hash_chunk.specs.helpers.Room.{Fits}
 use Rattle.hash_chunk.proofs.Feed.{fed-append}
 use Rattle.hash_chunk.proofs.Stands.{fed-stands, fed-fits, finished-digest}
 use Rattle.theory_merkle.specs.Message.{prefixed, serializePrefix, serializeParts}

@@ -12,7 +12,8 @@ ghost use lib.ListN.{length};
 ghost use Rattle.theory_laws.specs.Lists.{part, leValue};
 ghost use Rattle.theory_laws.specs.Questions.{onDone};
 ghost use Rattle.theory_blake3.specs.Digest.{hash};
-ghost use Rattle.hash_chunk.specs.helpers.State as S;
+ghost use Rattle.hash_chunk.specs.State as S;
+ghost use Rattle.hash_chunk.specs.helpers.Room.{Fits};
 ghost use Rattle.theory_field.specs.Words.{words};
 ghost use Rattle.field_gf128.specs.Word.{word};
 ghost use Rattle.theory_code.specs.Gammas.{gammas};
@@ -21,7 +22,7 @@ ghost use Rattle.theory_code.specs.Questions.{deriveNumber};
 
 // The gamma of (j, i): the first 16 bytes of the digest of the prefix, j and i.
 fn gamma_at(common: ChunkState, j: usize, i: usize) -> Word
-    requires { ⌜ S.Fits common 32 ⌝ }
+    requires { ⌜ Fits common 32 ⌝ }
     ensures { λ r. ⌜ word r ≡ leValue (part 16 0 (S.finished (S.fed common (gammaRest j i)))) ⌝ }
 {
     let message = whole(common, j, i);

@@ -9,14 +9,15 @@ ghost use Prim.Native.Nat.{_≤_};
 ghost use lib.ListN.{length};
 ghost use Rattle.theory_laws.specs.Lists.{leBytes};
 ghost use Rattle.theory_blake3.specs.Compression as C;
-ghost use Rattle.hash_chunk.specs.helpers.State as S;
+ghost use Rattle.hash_chunk.specs.State as S;
+ghost use Rattle.hash_chunk.specs.helpers.Room.{Fits};
 ghost use Rattle.theory_merkle.specs.Message.{prefixed};
 ghost use Rattle.theory_code.specs.Gammas.{gammaMessage};
 ghost use Rattle.code_gamma.specs.helpers.Prefix.{gammaPrefix, gammaRest};
 
 // A number more, as a part of eight bytes.
 fn feed_number_part(s: ChunkState, x: u64) -> ChunkState
-    requires { ⌜ S.Fits s 16 ⌝ }
+    requires { ⌜ Fits s 16 ⌝ }
     ensures { λ r. ⌜ r ≡ S.fed s (prefixed (leBytes 8 x)) ⌝ }
 {
     let t = feed_number(s, 8);
@@ -39,7 +40,7 @@ pub fn prefix(n: usize, k: usize, domain: &[u8]) -> ChunkState
 
 // The whole message: j and i after the prefix.
 pub fn whole(common: ChunkState, j: usize, i: usize) -> ChunkState
-    requires { ⌜ S.Fits common 32 ⌝ }
+    requires { ⌜ Fits common 32 ⌝ }
     ensures { λ r. ⌜ r ≡ S.fed common (gammaRest j i) ⌝ }
 {
     let outer = feed_number_part(common, j as u64);

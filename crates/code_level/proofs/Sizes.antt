@@ -13,7 +13,7 @@ use Rattle.theory_record.specs.Widths.{present, widthFor, levelLength, levelWid
 use Rattle.theory_laws.proofs.Questions.{all-yes}
 use Rattle.theory_record.specs.Query.{sizeQuestions}
 use Rattle.theory_record.proofs.Ranges.{SizesFit, sizes-fit}
-use Rattle.code_level.specs.helpers.Numbers.{sizeNumber}
+use Rattle.code_level.specs.Sizes.{sizeNumber}
 use Rattle.theory_record.proofs.Widths.{present-powers, level-shape, width-pos}
 
 -- the code's shift, which keeps 64 bits

@@ -1,2 +1,2 @@
 pub mod Domain
-pub mod helpers
+pub mod Sizes

@@ -12,7 +12,7 @@ ghost use Rattle.theory_record.specs.Widths.{present, widthFor, levelLength, le
 ghost use Rattle.theory_record.specs.Domain.{digit, decimal, levelDomain};
 ghost use Rattle.theory_record.specs.Build.{levelsLength, treeStart};
 ghost use Rattle.theory_record.proofs.Ranges.{SizesFit};
-ghost use Rattle.code_level.specs.helpers.Numbers.{sizeNumber};
+ghost use Rattle.code_level.specs.Sizes.{sizeNumber};
 
 // How many bytes the longest level domain has, `domainRoom` of the definitions: a base domain of 200, "/level/" and two digits.
 pub const DOMAIN: usize = 209;

@@ -16,7 +16,7 @@ ghost use mathlib.Core.Path.{_≡_};
 ghost use Prim.Native.Nat.{_+_, _*_, _≤_};
 ghost use lib.ListN.{length};
 ghost use Rattle.tree_place.specs.Place.{index, number};
-ghost use Rattle.compare_chain.specs.helpers.Nodes.{LeafNoted, LeafRoom, NodeNoted, nodesInto, chainInto, ChainRoom};
+ghost use Rattle.compare_chain.specs.helpers.Nodes.{LeafNoted, LeafRoom, NodeNoted, NodesRoom, nodesInto, chainInto, ChainRoom};
 
 // The leaf message of the group whose values stand from a byte of a record on; its digest.
 fn put_leaf(
@@ -68,18 +68,18 @@ fn put_nodes(
     group: Group,
     leaf: [u8; 32],
     s: &[u8],
-    path_from: usize,
+    path: usize,
     depth: usize,
 )
-    requires { ⌜ (length (now domain) ≤ 255) × («path_from» + 32 * depth ≤ length (now s)) × (from + (136 + length (now domain)) * depth ≤ length (now out)) ⌝ }
-    ensures { λ _. ⌜ now (out .exit) ≡ nodesInto (now (out .entry)) from (now (domain .entry)) (number group) leaf (now (s .entry)) «path_from» depth ⌝ }
+    requires { ⌜ NodesRoom (length (now domain)) (length (now s)) path depth from (length (now out)) ⌝ }
+    ensures { λ _. ⌜ now (out .exit) ≡ nodesInto (now (out .entry)) from (now (domain .entry)) (number group) leaf (now (s .entry)) path depth ⌝ }
 {
     let mut at = from;
     let mut d = leaf;
     let mut g = group;
     let mut l: usize = 0;
     while l < depth {
-        let e = digest_at(s, path_from + 32 * l);
+        let e = digest_at(s, path + 32 * l);
         let p = put_node(out, at, domain, l, g, d, e);
         d = p;
         at += 136 + domain.len();
@@ -97,11 +97,11 @@ pub fn put_chain(
     place: Place,
     s: &[u8],
     from: usize,
-    path_from: usize,
+    path: usize,
     depth: usize,
 )
-    requires { ⌜ ChainRoom (length (now domain)) width (length (now s)) from «path_from» depth (length (now out)) ⌝ }
-    ensures { λ _. ⌜ now (out .exit) ≡ chainInto (now (out .entry)) (now (domain .entry)) count width (index place) (now (s .entry)) from «path_from» depth ⌝ }
+    requires { ⌜ ChainRoom (length (now domain)) width (length (now s)) from path depth (length (now out)) ⌝ }
+    ensures { λ _. ⌜ now (out .exit) ≡ chainInto (now (out .entry)) (now (domain .entry)) count width (index place) (now (s .entry)) from path depth ⌝ }
 {
     let g = group_of(place, width);
     let d = put_leaf(out, domain, count, width, g, s, from);
@@ -112,7 +112,7 @@ pub fn put_chain(
         g,
         d,
         s,
-        path_from,
+        path,
         depth,
     );
 }

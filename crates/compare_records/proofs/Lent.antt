@@ -1,19 +1,16 @@
 -- The questions put to what is lent, in the order of the code.
 use Prim.Native.Nat.{ℕ, _+_, _-_, _*_, _^_, _<_, _≤_}
-use mathlib.Core.Path.{_≡_, sym, _∙_, ap}
-use native.Mathlib.Omega.{arith}
+use mathlib.Core.Path.{_≡_, _∙_}
+use mathlib.Core.List.{[], _∷_}
+use lib.Dec.{ltb}
 use borrow.Author.Tests.{eq-eqb, ne-eqb, le-leb, lt-leb, le-ltb, lt-ltb}
-use Rattle.theory_laws.specs.Questions.{firstNo}
+use Rattle.theory_laws.specs.Questions.{_asks_, firstNo}
 use Rattle.theory_laws.proofs.Questions.{first-stops, first-passes}
-use Rattle.code_level.specs.helpers.Numbers.{sizeNumber}
+use Rattle.code_level.specs.Sizes.{sizeNumber}
 use Rattle.theory_record.specs.Widths.{levelLength}
 use Rattle.theory_record.specs.Query.{sizeQuestions}
+use Rattle.theory_record.proofs.Offsets.{first-length}
 use Rattle.compare_records.specs.helpers.Numbers.{lengthQuestions, lentNumber}
-
--- a position is below the length of level 0
-first-length : (n k len : ℕ) → len ≡ levelLength n k 0 → 2 ^ (n + k) ≡ len
-unfolding levelLength
-first-length n k len e = ap (λ (i : ℕ). 2 ^ i) {x = n + k} {y = n + k - 0} (omega arith) ∙ sym e
 
 module _ (base n k position challenges roots first second x : ℕ) (ex : x ≡ sizeNumber n k) where
   pub wrong-size : (x ≡ 0 → ⊥) → x ≡ lentNumber base n k position challenges roots first second
@@ -46,30 +43,13 @@ module _ (base n k position challenges roots first second x : ℕ) (ex : x ≡ s
             long-base e = passes 7 (rw (eq-eqb challenges (2 * n) a, eq-eqb roots (32 * (n + 1)) b, eq-eqb first 512 c, eq-eqb second 512 d, lt-leb base 200 e))
 
             module _ (f : base ≤ 200) (p : ℕ) (ep : p ≡ position) (len : ℕ) (el : len ≡ levelLength n k 0) where
+              passes-7 : (r : ℕ) → r ≡ firstNo ((11 asks ltb position (2 ^ (n + k))) ∷ []) → r ≡ lentNumber base n k position challenges roots first second
+              passes-7 r g =
+                  passes r
+                  (rw (eq-eqb challenges (2 * n) a, eq-eqb roots (32 * (n + 1)) b, eq-eqb first 512 c, eq-eqb second 512 d, le-leb base 200 f) g)
+
               pub high-position : len ≤ p → 11 ≡ lentNumber base n k position challenges roots first second
-              high-position e =
-                  passes 11
-                  (rw (
-                    eq-eqb challenges (2 * n) a,
-                    eq-eqb roots (32 * (n + 1)) b,
-                    eq-eqb first 512 c,
-                    eq-eqb second 512 d,
-                    le-leb base 200 f,
-                    first-length n k len el,
-                    ← ep,
-                    le-ltb p len e,
-                  ))
+              high-position e = passes-7 11 (rw (← (el ∙ first-length n k), ← ep, le-ltb p len e))
 
               pub none-says-no : p < len → 0 ≡ lentNumber base n k position challenges roots first second
-              none-says-no e =
-                  passes 0
-                  (rw (
-                    eq-eqb challenges (2 * n) a,
-                    eq-eqb roots (32 * (n + 1)) b,
-                    eq-eqb first 512 c,
-                    eq-eqb second 512 d,
-                    le-leb base 200 f,
-                    first-length n k len el,
-                    ← ep,
-                    lt-ltb p len e,
-                  ))
+              none-says-no e = passes-7 0 (rw (← (el ∙ first-length n k), ← ep, lt-ltb p len e))

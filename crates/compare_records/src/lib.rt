@@ -9,7 +9,8 @@ ghost use mathlib.Core.Path.{_≡_};
 ghost use Rattle.theory_compare.specs.Compare.{accepts};
 ghost use Rattle.theory_compare.specs.Lent.{comparedLent, firstLeft, secondLeft};
 ghost use Rattle.tree_place.specs.Place.{index};
-ghost use Rattle.compare_records.specs.helpers.Numbers.{lentNumber, recordsLent, comparison};
+ghost use Rattle.compare_records.specs.Answers.{comparison};
+ghost use Rattle.compare_records.specs.helpers.Numbers.{lentNumber, recordsLent};
 ghost use Rattle.theory_record.specs.Scheme.{scheme};
 
 // How many bytes a buffer for a message has: `messageBuffer` of the definitions. The longest, a leaf message of 8 values, has 434.
@@ -112,12 +113,12 @@ pub fn compare(
     roots: &[u8],
     first: &[u8],
     second: &[u8],
-    first_message: &mut [u8],
-    second_message: &mut [u8],
+    one: &mut [u8],
+    two: &mut [u8],
 ) -> Compared
-    ensures { λ r. ⌜ comparison r ≡ comparedLent base n k (index position) challenges roots first second «first_message» «second_message» ⌝ }
-    ensures { λ _. ⌜ now («first_message» .exit) ≡ firstLeft base n k (index position) challenges roots first second «first_message» «second_message» ⌝ }
-    ensures { λ _. ⌜ now («second_message» .exit) ≡ secondLeft base n k (index position) challenges roots first second «first_message» «second_message» ⌝ }
+    ensures { λ r. ⌜ comparison r ≡ comparedLent base n k (index position) challenges roots first second one two ⌝ }
+    ensures { λ _. ⌜ now (one .exit) ≡ firstLeft base n k (index position) challenges roots first second one two ⌝ }
+    ensures { λ _. ⌜ now (two .exit) ≡ secondLeft base n k (index position) challenges roots first second one two ⌝ }
 {
     let x = lent_number(
         base.len(),
@@ -126,8 +127,8 @@ pub fn compare(
         position,
         challenges.len(),
         roots.len(),
-        first_message.len(),
-        second_message.len(),
+        one.len(),
+        two.len(),
     );
     if x != 0 {
         return Compared {
@@ -144,16 +145,7 @@ pub fn compare(
             second: 0,
         };
     }
-    let m = pick_levels(
-        base,
-        n,
-        k,
-        position,
-        first,
-        second,
-        first_message,
-        second_message,
-    );
+    let m = pick_levels(base, n, k, position, first, second, one, two);
     Compared {
         number: 0,
         first: m,

@@ -3,7 +3,7 @@ use Prim.Native.Nat.{ℕ, suc, _+_, _*_, _^_, _≤_}
 use mathlib.Core.Path.{_≡_, sym, _∙_}
 use native.Mathlib.Nat.{mul-le-mul}
 use Rattle.theory_laws.proofs.Questions.{on-refused}
-use Rattle.code_level.specs.helpers.Numbers.{sizeNumber}
+use Rattle.code_level.specs.Sizes.{sizeNumber}
 use Rattle.theory_record.specs.Widths.{present, levelLength, treeLength}
 use Rattle.theory_record.specs.Sizes.{querySize, tailSize}
 use Rattle.theory_record.specs.Build.{levelsLength, treeStart}

@@ -2,7 +2,7 @@
 -- bytes of level 0's tree, of all trees, of the last level's tree, of the roots, and of a query and a tail record. Question 4, as for records.
 use Prim.Native.Nat.{ℕ, suc, _+_, _*_, _^_}
 use Rattle.theory_laws.specs.Questions.{onDone}
-use Rattle.code_level.specs.helpers.Numbers.{sizeNumber}
+use Rattle.code_level.specs.Sizes.{sizeNumber}
 use Rattle.theory_record.specs.Widths.{present, levelLength, treeLength}
 use Rattle.theory_record.specs.Sizes.{querySize, tailSize}
 use Rattle.theory_record.specs.Build.{levelsLength, treeStart}

@@ -11,11 +11,12 @@ ghost use Rattle.theory_multilinear.specs.Fold.{foldList};
 ghost use Rattle.theory_code.specs.Questions.{foldNumber};
 ghost use Rattle.code_codeword.specs.Answers.{foldedOf};
 ghost use Rattle.theory_code.specs.Gammas as G;
-ghost use Rattle.theory_claim.specs.Commit.{commitAnswer, codewordOf, committedTree};
+ghost use Rattle.theory_claim.specs.Commit.{commitAnswer, committedTree};
+ghost use Rattle.code_commit.specs.Lent.{codewordLent};
 ghost use Rattle.theory_record.specs.Trees.{levelsLent, treesLent, rootsLent};
 ghost use Rattle.code_fold_levels.specs.Levels.{foldLevelsLent, foldedLent};
 ghost use Rattle.export_dequmlo.specs.Answers.{folded};
-ghost use Rattle.theory_record.specs.Scheme.{scheme};
+ghost use Rattle.theory_record.specs.Lent.{schemeOf};
 
 // The gammas of a base domain, the codeword of a table of 2^n words, and level 0's tree: 4, 5, 7.
 #[no_mangle]
@@ -30,8 +31,8 @@ pub extern "C" fn dequmlo_commit(
 ) -> u32
     ensures { λ r. ⌜ r ≡ commitAnswer n k (now (base .entry)) (now (table .entry)) (now (gammas .entry)) (now (codeword .entry)) (now (tree .entry)) ⌝ }
     ensures { λ r. ⌜ words (now (gammas .exit)) ≡ onDone r (G.gammas hash (now (base .entry)) n k) (words (now (gammas .entry))) ⌝ }
-    ensures { λ r. ⌜ words (now (codeword .exit)) ≡ onDone r (codewordOf (now (base .entry)) n k (now (table .entry))) (words (now (codeword .entry))) ⌝ }
-    ensures { λ r. ⌜ now (tree .exit) ≡ onDone r (committedTree (scheme (now (base .entry)) n k) (words (now (table .entry)))) (now (tree .entry)) ⌝ }
+    ensures { λ r. ⌜ words (now (codeword .exit)) ≡ onDone r (codewordLent n k base table) (words (now (codeword .entry))) ⌝ }
+    ensures { λ r. ⌜ now (tree .exit) ≡ onDone r (committedTree (schemeOf base n k) (words (now (table .entry)))) (now (tree .entry)) ⌝ }
 {
     code_commit::commit(n, k, base, table, gammas, codeword, tree)
 }
@@ -78,8 +79,8 @@ pub extern "C" fn dequmlo_fold_levels(
     ensures { λ r. ⌜ r ≡ foldLevelsLent n k base challenges levels half trees roots ⌝ }
     ensures { λ r. ⌜ words (now (levels .exit)) ≡ onDone r (levelsLent n (foldedLent n k challenges levels)) (words (now (levels .entry))) ⌝ }
     ensures { λ r. ⌜ now (half .exit) ≡ onDone r (tab (length (now (half .entry))) (λ v. 0)) (now (half .entry)) ⌝ }
-    ensures { λ r. ⌜ now (trees .exit) ≡ onDone r (treesLent (scheme (now (base .entry)) n k) (foldedLent n k challenges levels)) (now (trees .entry)) ⌝ }
-    ensures { λ r. ⌜ now (roots .exit) ≡ onDone r (rootsLent (scheme (now (base .entry)) n k) (foldedLent n k challenges levels)) (now (roots .entry)) ⌝ }
+    ensures { λ r. ⌜ now (trees .exit) ≡ onDone r (treesLent (schemeOf base n k) (foldedLent n k challenges levels)) (now (trees .entry)) ⌝ }
+    ensures { λ r. ⌜ now (roots .exit) ≡ onDone r (rootsLent (schemeOf base n k) (foldedLent n k challenges levels)) (now (roots .entry)) ⌝ }
 {
     code_fold_levels::fold_levels(n, k, base, challenges, levels, half, trees, roots)
 }

@@ -9,7 +9,7 @@ ghost use Rattle.theory_record.specs.Tail.{checkTail};
 ghost use Rattle.theory_record.specs.Build.{buildQueryNumber, buildQuery, buildTailNumber, buildTail};
 ghost use Rattle.theory_compare.specs.Lent.{comparedLent, firstLeft, secondLeft};
 ghost use Rattle.export_dequmlo.specs.Answers.{checked, compared};
-ghost use Rattle.theory_record.specs.Scheme.{scheme};
+ghost use Rattle.theory_record.specs.Lent.{schemeOf};
 
 // The query record at a position, from all levels and their trees end to end: 4, 5, 11.
 #[no_mangle]
@@ -45,7 +45,7 @@ pub extern "C" fn dequmlo_check_query(
     roots: &[u8],
     bytes: &[u8],
 ) -> Checked
-    ensures { λ r. ⌜ checked r ≡ checkQuery (scheme (now (base .entry)) n k) position (now (challenges .entry)) (now (roots .entry)) (now (bytes .entry)) ⌝ }
+    ensures { λ r. ⌜ checked r ≡ checkQuery (schemeOf base n k) position (now (challenges .entry)) (now (roots .entry)) (now (bytes .entry)) ⌝ }
 {
     let place = Place::at(position);
     let a = record_query_check::check_query(base, n, k, place, challenges, roots, bytes);
@@ -80,7 +80,7 @@ pub extern "C" fn dequmlo_check_tail(
     claim: Word,
     bytes: &[u8],
 ) -> u32
-    ensures { λ r. ⌜ r ≡ checkTail (scheme (now (base .entry)) n k) (now (root .entry)) (word claim) (now (bytes .entry)) ⌝ }
+    ensures { λ r. ⌜ r ≡ checkTail (schemeOf base n k) (now (root .entry)) (word claim) (now (bytes .entry)) ⌝ }
 {
     record_tail_check::check_tail(base, n, k, root, claim, bytes)
 }

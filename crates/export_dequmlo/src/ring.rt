@@ -6,11 +6,13 @@ ghost use Rattle.theory_laws.specs.Table.{at};
 ghost use Rattle.theory_laws.specs.Questions.{onDone};
 ghost use Rattle.theory_field.specs.Words.{words};
 ghost use Rattle.field_gf128.specs.Word.{word};
-ghost use Rattle.theory_multilinear.specs.Partials.{partialEvals, foldPartials, materialize, indicator};
+ghost use Rattle.theory_multilinear.specs.Partials.{foldPartials, materialize};
 ghost use Rattle.field_pack.specs.Phi.{coefficients};
 ghost use Rattle.field_equality.specs.Eq.{eqNumber};
 ghost use Rattle.ring_partials.specs.Numbers.{partialNumber, foldNumber};
+ghost use Rattle.ring_partials.specs.Answers.{partialsOf};
 ghost use Rattle.ring_indicator.specs.Numbers.{evalNumber};
+ghost use Rattle.ring_indicator.specs.Answers.{indicatorOf};
 
 // 128 row coefficients by value.
 #[repr(C)]
@@ -34,7 +36,7 @@ pub extern "C" fn dequmlo_partial_evals(
     out: &mut [u64],
 ) -> u32
     ensures { λ r. ⌜ r ≡ partialNumber n (length (now (packed .entry))) (length (now (eq .entry))) (length (now (out .entry))) ⌝ }
-    ensures { λ r. ⌜ words (now (out .exit)) ≡ onDone r (partialEvals n (words (now (packed .entry))) (words (now (eq .entry)))) (words (now (out .entry))) ⌝ }
+    ensures { λ r. ⌜ words (now (out .exit)) ≡ onDone r (partialsOf n (now (packed .entry)) (now (eq .entry))) (words (now (out .entry))) ⌝ }
 {
     ring_partials::partial_evals(n, packed, eq, out)
 }
@@ -68,7 +70,7 @@ pub extern "C" fn dequmlo_materialize(n: usize, z: &[u64], rb: Coefficients, out
 #[no_mangle]
 pub extern "C" fn dequmlo_eval_at(n: usize, z: &[u64], rb: Coefficients, point: &[u64]) -> Answered
     ensures { λ r. ⌜ r .number ≡ evalNumber n (length (now (z .entry))) (length (now (point .entry))) ⌝ }
-    ensures { λ r. ⌜ word (r .word) ≡ onDone (r .number) (indicator (coefficients (rb .words)) (words (now (z .entry))) (words (now (point .entry)))) 0 ⌝ }
+    ensures { λ r. ⌜ word (r .word) ≡ onDone (r .number) (indicatorOf (rb .words) (now (z .entry)) (now (point .entry))) 0 ⌝ }
 {
     let row = rb.words;
     let a = ring_indicator::eval_at(n, z, row, point);

@@ -12,7 +12,7 @@ ghost use Rattle.theory_field.specs.Words.{words};
 ghost use Rattle.theory_record.specs.Widths.{present, widthFor};
 ghost use Rattle.theory_record.specs.Domain.{levelDomain};
 ghost use Rattle.theory_record.specs.Trees.{treeFor};
-ghost use Rattle.theory_record.specs.Scheme.{scheme};
+ghost use Rattle.theory_record.specs.Lent.{schemeOf};
 ghost use Rattle.code_level.specs.Domain.{domainNumber, domainLengthOf};
 ghost use Rattle.code_commit.specs.Level.{levelTreeNumber};
 ghost use Rattle.export_dequmlo.specs.Answers.{domainLength};
@@ -109,7 +109,7 @@ pub extern "C" fn dequmlo_level_tree(
     tree: &mut [u8],
 ) -> u32
     ensures { λ r. ⌜ r ≡ levelTreeNumber present n k level (length (now (base .entry))) (length (now (values .entry))) (length (now (tree .entry))) ⌝ }
-    ensures { λ r. ⌜ now (tree .exit) ≡ onDone r (flat (treeFor (scheme (now (base .entry)) n k) level (words (now (values .entry))))) (now (tree .entry)) ⌝ }
+    ensures { λ r. ⌜ now (tree .exit) ≡ onDone r (flat (treeFor (schemeOf base n k) level (words (now (values .entry))))) (now (tree .entry)) ⌝ }
 {
     code_commit::level::level_tree(n, k, level, base, values, tree)
 }

@@ -29,7 +29,8 @@ use Rattle.code_codeword.specs.Answers.{foldedOf}
 use Rattle.code_codeword.specs.declared.Folded.{Folded}
 use Rattle.theory_field.proofs.Words.{take-words}
 use Rattle.code_codeword.proofs.Lengths.{pow-halved, encode-done, fold-done}
-use Rattle.export_tail_entries.specs.Tail.{zeros, gammasAt, challengesAt, inputSize, sizeQuestions, tailNumber, Whole, codewordOf, inputLevel, tailsOf}
+use Rattle.export_tail_entries.specs.Tail.{zeros, gammasAt, challengesAt, inputSize, sizeQuestions, tailNumber, codewordOf, inputLevel, tailsOf}
+use Rattle.export_tail_entries.specs.helpers.Room.{Whole}
 use Rattle.export_tail_entries.proofs.Padded.{length-front, padded, unpadded}
 
 -- ---- sizes

@@ -1,7 +1,6 @@
 -- The program `tail-list` (SPECIFICATION 11): its input, n and k, a byte each, then table, gammas (j outer) and challenges, 16 bytes a word,
 -- little-endian; and what it finds, the last level of the table's codeword.
-use mathlib.Core.Path.{_≡_}
-use Prim.Native.Nat.{ℕ, _+_, _*_, _^_, _≤_}
+use Prim.Native.Nat.{ℕ, _+_, _*_, _^_}
 use mathlib.Core.List.{List, [], _∷_}
 use lib.Dec.{eqb, leb}
 use lib.ListN.{length, replicate}
@@ -38,18 +37,6 @@ sizeNumber n k len = firstNo (sizeQuestions n k len)
 -- before that, 5 for 0 or 1 byte
 unfoldable pub tailNumber : List ℕ → ℕ
 tailNumber s = firstNo ((5 asks leb 2 (length s)) ∷ sizeQuestions (at s 0) (at s 1) (length s))
-
--- what the questions have asked
-pub record Whole (n k len : ℕ) : Type 0 where
-  pub k≤ : k ≤ 4
-  pub n+k≤ : n + k ≤ 8
-  pub size : len ≡ inputSize n k
-
--- buffers for the table, the gammas and the codeword, in halves of words
-pub record Buffers (n k table gammas out : ℕ) : Type 0 where
-  pub rows : table ≡ 2 * 2 ^ n
-  pub factors : gammas ≡ 2 * (k * n)
-  pub entries : out ≡ 2 * 2 ^ (n + k)
 
 -- the codeword of the table, under the gammas
 unfoldable pub codewordOf : ℕ → ℕ → List ℕ → List ℕ

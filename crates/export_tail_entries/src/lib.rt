@@ -7,8 +7,9 @@ ghost use Rattle.theory_laws.specs.Table.{tab, at};
 ghost use Rattle.theory_field.specs.Words.{words};
 ghost use Rattle.field_gf128.specs.Word.{word};
 ghost use Rattle.theory_multilinear.specs.Fold.{foldList};
-ghost use Rattle.export_tail_entries.specs.Tail.{zeros, challengesAt, inputSize, sizeNumber, tailNumber, Whole, Buffers};
+ghost use Rattle.export_tail_entries.specs.Tail.{zeros, challengesAt, inputSize, sizeNumber, tailNumber};
 ghost use Rattle.export_tail_entries.specs.Tail.{codewordOf, inputLevel, answer, tailsOf};
+ghost use Rattle.export_tail_entries.specs.helpers.Room.{Whole, Buffers};
 use code_codeword::sizes::power;
 use field_gf128::Word;
 

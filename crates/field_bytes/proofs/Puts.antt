@@ -1,7 +1,7 @@
 -- Words put one after the other.
 use Prim.Native.Nat.{ℕ, suc, _+_, _-_, _*_, _≤_, _<_}
 use mathlib.Core.Path.{_≡_, refl, sym, _∙_, ap}
-use mathlib.Core.List.{List, _∷_, _++_, map}
+use mathlib.Core.List.{List, _∷_, _++_}
 use native.Mathlib.Omega.{arith}
 use native.Mathlib.Numerals.{add-one}
 use lib.ListN.{length, take, drop, length-drop}
@@ -15,6 +15,7 @@ use Rattle.field_gf128.specs.Word.{word}
 use Rattle.field_gf128.specs.declared.Word.{Word}
 use Rattle.bytes_numbers.specs.helpers.Put.{Put}
 use Rattle.bytes_numbers.proofs.Stores.{put-after, then-put, same-put}
+use Rattle.field_bytes.specs.Words.{wordBytes}
 
 -- ---- a word
 
@@ -28,10 +29,6 @@ word-put o from o1 j o2 r w a b h =
     (then-put o from 8 _ o1 j 8 _ o2 r a b)
 
 -- ---- words
-
--- the bytes of count words from start on
-abbrev pub wordBytes : List ℕ → ℕ → ℕ → List ℕ
-wordBytes ws start count = flat (map (leBytes 16) (part count start ws))
 
 -- what is left to store of count words from start on, from word i on
 unfoldable pub wordsLeft : List ℕ → ℕ → List ℕ → ℕ → ℕ → ℕ → List ℕ

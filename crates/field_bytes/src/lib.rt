@@ -4,14 +4,13 @@ use bytes_numbers::number_at;
 use bytes_numbers::put_number;
 use field_gf128::Word;
 ghost use mathlib.Core.Path.{_≡_};
-ghost use mathlib.Core.List.{map};
 ghost use Prim.Native.Nat.{_+_, _*_, _≤_};
 ghost use lib.ListN.{length};
-ghost use Rattle.theory_laws.specs.Lists.{part, flat, leValue, leBytes};
+ghost use Rattle.theory_laws.specs.Lists.{part, leValue, leBytes};
 ghost use Rattle.theory_field.specs.Words.{words};
 ghost use Rattle.field_gf128.specs.Word.{word};
 ghost use Rattle.bytes_numbers.specs.helpers.Put.{Put};
-ghost use Rattle.field_bytes.specs.Words.{wordsFrom};
+ghost use Rattle.field_bytes.specs.Words.{wordsFrom, wordBytes};
 
 // The word in the 16 bytes from a place on.
 pub fn word_at(s: &[u8], from: usize) -> Word
@@ -49,7 +48,7 @@ pub fn put_word(out: &mut [u8], from: usize, w: Word) -> usize
 // Words of a slice, from one of them on, 16 bytes each.
 pub fn put_words(out: &mut [u8], from: usize, values: &[u64], start: usize, count: usize) -> usize
     requires { ⌜ (2 * (start + count) ≤ length (now values)) × (from + 16 * count ≤ length (now out)) ⌝ }
-    ensures { λ r. ⌜ Put (now (out .entry)) from (16 * count) (flat (map (leBytes 16) (part count start (words (now (values .entry)))))) (now (out .exit)) r ⌝ }
+    ensures { λ r. ⌜ Put (now (out .entry)) from (16 * count) (wordBytes (words (now (values .entry))) start count) (now (out .exit)) r ⌝ }
 {
     let mut at = from;
     let mut i: usize = 0;

@@ -16,7 +16,8 @@ use Rattle.theory_field.specs.Field.{_⊗_}
 use Rattle.theory_multilinear.specs.Equality.{eqTable}
 use Rattle.theory_multilinear.proofs.Equality.{eq-nil, eq-double, low-entries}
 use Rattle.field_runs.specs.Runs.{doubled}
-use Rattle.field_equality.specs.Eq.{eqQuestions, eqNumber, Sizes}
+use Rattle.field_equality.specs.Eq.{eqQuestions, eqNumber}
+use Rattle.field_equality.specs.helpers.Sizes.{Sizes}
 
 -- there is room to double the table of fewer coordinates
 pub room : (i n len : ℕ) → i < n → len ≡ 2 ^ i → len + len ≤ 2 ^ n

@@ -1,6 +1,5 @@
 -- The questions put to the equality table of a point (SPECIFICATION 8.4). The table itself is `eqTable` of multilinear.
-use mathlib.Core.Path.{_≡_}
-use Prim.Native.Nat.{ℕ, _*_, _^_, _≤_}
+use Prim.Native.Nat.{ℕ, _*_, _^_}
 use mathlib.Core.List.{List, [], _∷_}
 use lib.Dec.{eqb, leb}
 use Rattle.theory_laws.specs.Questions.{Question, _asks_, firstNo}
@@ -11,9 +10,3 @@ eqQuestions n point out = (4 asks leb n 20) ∷ (5 asks eqb point (2 * n)) ∷ (
 
 unfoldable pub eqNumber : ℕ → ℕ → ℕ → ℕ
 eqNumber n point out = firstNo (eqQuestions n point out)
-
--- what is known once every question said yes
-pub record Sizes (n point out : ℕ) : Type 0 where
-  pub coordinates : n ≤ 20
-  pub of-point : point ≡ 2 * n
-  pub of-table : out ≡ 2 * 2 ^ n

@@ -1,1 +1,2 @@
 pub mod Eq
+pub mod helpers

@@ -5,7 +5,8 @@ ghost use lib.ListN.{length};
 ghost use Rattle.theory_laws.specs.Questions.{onDone};
 ghost use Rattle.theory_field.specs.Words.{words};
 ghost use Rattle.theory_multilinear.specs.Equality.{eqTable};
-ghost use Rattle.field_equality.specs.Eq.{eqNumber, Sizes};
+ghost use Rattle.field_equality.specs.Eq.{eqNumber};
+ghost use Rattle.field_equality.specs.helpers.Sizes.{Sizes};
 use field_gf128::Word;
 use field_words::table_len;
 

@@ -24,7 +24,8 @@ use Rattle.theory_blake3.specs.Chunk.{block, next, last}
 use Rattle.hash_chunk.specs.declared.state.ChunkState.{ChunkState}
 use Rattle.hash_chunk.proofs.state.ChunkState as ChunkStateT
 use Rattle.hash_chunk.proofs.state.ChunkState.Laws as ChunkStateL
-use Rattle.hash_chunk.specs.helpers.State.{compressed, roomy, withBlock, fedByte, fed, lastOf, Fits}
+use Rattle.hash_chunk.specs.State.{compressed, roomy, withBlock, fedByte, fed, lastOf}
+use Rattle.hash_chunk.specs.helpers.Room.{Fits}
 
 -- the length of the block of a state that a function is passed (`c .good .0`)
 pub block-length : (s : ChunkState) (vs : List Val) → Is (row ChunkStateT.the-type) s vs → length (s .block) ≡ 64

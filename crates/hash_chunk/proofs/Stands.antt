@@ -15,7 +15,8 @@ use Rattle.theory_blake3.specs.Chunk.{next, chunkFrom, chunk}
 use Rattle.theory_blake3.specs.Digest.{bytesOfWords32, root, digest}
 use Rattle.theory_blake3.proofs.Tree.{tree-one}
 use Rattle.hash_chunk.specs.declared.state.ChunkState.{ChunkState}
-use Rattle.hash_chunk.specs.helpers.State.{started, compressed, withBlock, fedByte, fed, lastOf, finished, Fits}
+use Rattle.hash_chunk.specs.State.{started, compressed, withBlock, fedByte, fed, lastOf, finished}
+use Rattle.hash_chunk.specs.helpers.Room.{Fits}
 use Rattle.hash_chunk.proofs.Chunk.{chunk-step, chunk-last, start-next}
 use Rattle.hash_chunk.proofs.Feed.{roomy-full, roomy-not}
 

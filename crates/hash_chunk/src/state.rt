@@ -17,7 +17,8 @@ ghost use Prim.Native.Nat.{ℕ, _+_, _*_, _^_, _≤_, _<_, min};
 ghost use lib.ListN.{length};
 ghost use Rattle.theory_laws.specs.Lists.{leBytes};
 ghost use Rattle.hash_node.specs.helpers.Node.{outOf};
-ghost use Rattle.hash_chunk.specs.helpers.State as S;
+ghost use Rattle.hash_chunk.specs.State as S;
+ghost use Rattle.hash_chunk.specs.helpers.Room.{Fits};
 
 // The unfinished chunk: a block is compressed only when a byte follows it.
 pub struct ChunkState {
@@ -76,7 +77,7 @@ pub fn least(a: usize, b: usize) -> usize
 
 // The bytes of a slice more.
 pub fn feed(start: ChunkState, input: &[u8]) -> ChunkState
-    requires { ⌜ S.Fits start (length (now input)) ⌝ }
+    requires { ⌜ Fits start (length (now input)) ⌝ }
     ensures { λ r. ⌜ r ≡ S.fed start (now (input .entry)) ⌝ }
 {
     let mut s = start;
@@ -99,7 +100,7 @@ pub fn feed(start: ChunkState, input: &[u8]) -> ChunkState
 
 // A number more, in eight bytes.
 pub fn feed_number(s: ChunkState, x: u64) -> ChunkState
-    requires { ⌜ S.Fits s 8 ⌝ }
+    requires { ⌜ Fits s 8 ⌝ }
     ensures { λ r. ⌜ r ≡ S.fed s (leBytes 8 x) ⌝ }
 {
     let b = number_bytes(x);
@@ -108,7 +109,7 @@ pub fn feed_number(s: ChunkState, x: u64) -> ChunkState
 
 // A part more, after its length in eight bytes.
 pub fn feed_part(s: ChunkState, bytes: &[u8]) -> ChunkState
-    requires { ⌜ S.Fits s (8 + length (now bytes)) ⌝ }
+    requires { ⌜ Fits s (8 + length (now bytes)) ⌝ }
     ensures { λ r. ⌜ r ≡ S.fed s (leBytes 8 (length (now (bytes .entry))) ++ now (bytes .entry)) ⌝ }
 {
     let t = feed_number(s, bytes.len() as u64);
@@ -117,7 +118,7 @@ pub fn feed_part(s: ChunkState, bytes: &[u8]) -> ChunkState
 
 // A word of 16 bytes more, given by its halves.
 pub fn feed_word(s: ChunkState, lo: u64, hi: u64) -> ChunkState
-    requires { ⌜ S.Fits s 16 ⌝ }
+    requires { ⌜ Fits s 16 ⌝ }
     ensures { λ r. ⌜ r ≡ S.fed s (leBytes 16 (hi * 2 ^ 64 + lo)) ⌝ }
 {
     let t = feed_number(s, lo);
@@ -126,7 +127,7 @@ pub fn feed_word(s: ChunkState, lo: u64, hi: u64) -> ChunkState
 
 // A digest more.
 pub fn feed_digest(s: ChunkState, d: [u8; 32]) -> ChunkState
-    requires { ⌜ S.Fits s 32 ⌝ }
+    requires { ⌜ Fits s 32 ⌝ }
     ensures { λ r. ⌜ r ≡ S.fed s d ⌝ }
 {
     feed(s, &d)

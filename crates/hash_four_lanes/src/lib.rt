@@ -1,8 +1,8 @@
 // Four compressions of BLAKE3 at once: word i of lane l stands at 4 * i + l. The loop over the lanes has a whole round as its body, with
 // nothing left called in it once it is inlined, and the state is a local of `compress`: so the compiler makes the four lanes one vector.
-// The functions serve the crates above: those with a `requires` are not for export.
+// These are helpers for the crates above: those with a `requires` are not for export.
 ghost use mathlib.Core.Path.{_≡_};
-ghost use Prim.Native.Nat.{ℕ, _+_, _*_, _-_, _<_};
+ghost use Prim.Native.Nat.{_+_, _*_, _-_, _<_};
 ghost use lib.ListN.{length};
 ghost use Rattle.theory_laws.specs.Table.{tab, at};
 ghost use Rattle.theory_blake3.specs.Compression as C;
@@ -133,7 +133,7 @@ pub fn compress(
     len: u32,
     flags: u32,
 ) -> [u32; 32]
-    ensures { λ r. ⌜ Each 8 r (λ k. C.cv (C.compress (X.lane 8 (now (h .entry)) k) (X.lane 16 (now (m .entry)) k) (at (now (counters .entry)) k) len flags)) ⌝ }
+    ensures { λ r. ⌜ Each 8 r (X.compressed (now (h .entry)) (now (m .entry)) (now (counters .entry)) len flags) ⌝ }
 {
     let mut s = initial(h, counters, len, flags);
     rounds(&mut s, m);

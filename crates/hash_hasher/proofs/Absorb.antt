@@ -12,16 +12,17 @@ use lib.ListN.{length, take, drop, length-drop}
 use Rattle.theory_laws.specs.Lists.{part}
 use Rattle.theory_laws.proofs.Lists.{length-part, part-then, lent-part, length-lent}
 use Rattle.hash_chunk.specs.declared.state.ChunkState.{ChunkState}
-use Rattle.hash_chunk.specs.helpers.State.{fedByte, fed, lastOf, Fits}
+use Rattle.hash_chunk.specs.State.{fedByte, fed, lastOf}
+use Rattle.hash_chunk.specs.helpers.Room.{Fits}
 use Rattle.hash_chunk.proofs.Feed.{held-fed, fits-fed}
 use Rattle.theory_blake3.specs.Flags.{rootNode}
 use Rattle.theory_blake3.specs.Compression.{cv}
 use Rattle.theory_blake3.specs.Digest.{bytesOfWords32}
-use Rattle.theory_blake3.specs.Stack.{entries, fold}
-use Rattle.hash_stack.specs.helpers.Push.{pushed, pushedDepth}
+use Rattle.theory_blake3.specs.Stack.{entries, fold, pushed, pushedDepth}
 use Rattle.hash_stack.proofs.Tower.{tower-depth}
 use Rattle.hash_hasher.specs.declared.hasher.Hasher.{Hasher}
-use Rattle.hash_hasher.specs.Hasher.{Counts, chunkOf, withChunk, newChunk, nextChunk, roomy, taken, absorbed, finished}
+use Rattle.hash_hasher.specs.helpers.Counts.{Counts}
+use Rattle.hash_hasher.specs.Hasher.{chunkOf, withChunk, newChunk, nextChunk, roomy, taken, absorbed, finished}
 
 -- the two cases of making room
 pub roomy-full : (s : Hasher) → 64 * s .blocks + s .fill ≡ 1024 → roomy s ≡ nextChunk s

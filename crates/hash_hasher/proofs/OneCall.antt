@@ -12,11 +12,10 @@ use Rattle.theory_blake3.specs.Flags.{rootNode}
 use Rattle.theory_blake3.specs.Compression.{cv}
 use Rattle.theory_blake3.specs.Chunk.{chunkFrom, chunk}
 use Rattle.theory_blake3.specs.Digest.{bytesOfWords32, root, digest}
-use Rattle.theory_blake3.specs.Stack.{stack, entries, fold}
+use Rattle.theory_blake3.specs.Stack.{stack, entries, fold, pushed, pushedDepth}
 use Rattle.theory_laws.specs.Table.{at}
 use Rattle.hash_four_lanes.specs.helpers.Lane.{lane}
 use Rattle.hash_four_chunks.specs.helpers.FourChunks.{which}
-use Rattle.hash_stack.specs.helpers.Push.{pushed, pushedDepth}
 use Rattle.hash_stack.proofs.Tower.{merges, tower-depth, tower-step, tower-root}
 use Rattle.hash_hasher.specs.helpers.Walk.{Walked, Four}
 

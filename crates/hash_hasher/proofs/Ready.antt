@@ -9,7 +9,8 @@ use lib.ListN.{length, replicate}
 use Rattle.theory_laws.proofs.Questions.{all-yes, one-number}
 use Rattle.hash_hasher.specs.declared.hasher.Hasher.{Hasher}
 use Rattle.hash_hasher.specs.Whole.{mostBytes, answered}
-use Rattle.hash_hasher.specs.Hasher.{questions, numberOf, Ready, absorbed, updateOf}
+use Rattle.hash_hasher.specs.Hasher.{questions, numberOf, absorbed, updateOf}
+use Rattle.hash_hasher.specs.helpers.Counts.{Ready}
 
 pub ready : (s : Hasher) (n : ℕ) → numberOf s n ≡ 0 → Ready s n
 unfolding numberOf

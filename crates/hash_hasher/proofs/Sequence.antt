@@ -14,17 +14,17 @@ use Rattle.theory_blake3.specs.Flags.{rootNode}
 use Rattle.theory_blake3.specs.Compression.{cv}
 use Rattle.theory_blake3.specs.Chunk.{chunk}
 use Rattle.theory_blake3.specs.Digest.{bytesOfWords32, root, digest}
-use Rattle.theory_blake3.specs.Stack.{stack, entries, fold}
+use Rattle.theory_blake3.specs.Stack.{stack, entries, fold, pushed, pushedDepth}
 use Rattle.theory_blake3.proofs.Stack.{stack-nil}
 use Rattle.hash_chunk.specs.declared.state.ChunkState.{ChunkState}
-use Rattle.hash_chunk.specs.helpers.State.{started, fedByte, lastOf}
+use Rattle.hash_chunk.specs.State.{started, fedByte, lastOf}
 use Rattle.hash_chunk.proofs.Stands.{Stands, stands-started, stands-byte, stands-last}
-use Rattle.hash_stack.specs.helpers.Push.{pushed, pushedDepth}
 use Rattle.hash_stack.proofs.Tower.{merges, tower-depth, tower-step, tower-root}
 use Rattle.hash_hasher.specs.declared.hasher.Hasher.{Hasher}
 use Rattle.hash_hasher.specs.Whole.{mostBytes, digestOf}
-use Rattle.hash_hasher.specs.Hasher.{newOf, numberOf, Ready, chunkOf, withChunk, nextChunk, taken, absorbed, updateOf, finished, finalizeOf}
+use Rattle.hash_hasher.specs.Hasher.{newOf, numberOf, chunkOf, withChunk, nextChunk, taken, absorbed, updateOf, finished, finalizeOf}
 use Rattle.hash_hasher.specs.Sequence.{run, done}
+use Rattle.hash_hasher.specs.helpers.Counts.{Ready}
 use Rattle.hash_hasher.proofs.Ready.{ready-number}
 use Rattle.hash_hasher.proofs.Absorb.{roomy-full, roomy-not}
 use Rattle.theory_laws.proofs.Numbers.{lt-or-le}

@@ -1,7 +1,6 @@
 -- What the hasher's calls answer, for every state: also for one whose counters agree but whose contents nobody made. That a state which
 -- was made by `new` and any sequence of updates gives the digest of all the bytes is a law (proofs/Sequence).
-use Prim.Native.Nat.{ℕ, _+_, _*_, _≤_, min}
-use mathlib.Core.Path.{_≡_}
+use Prim.Native.Nat.{ℕ, _+_, _*_, min}
 use mathlib.Core.List.{List, [], _∷_}
 use lib.Count.{ones, trailingZeros}
 use lib.Dec.{leb, eqb}
@@ -10,10 +9,9 @@ use Rattle.theory_laws.specs.Questions.{pick, Question, _asks_, firstNo, onDone
 use Rattle.theory_blake3.specs.Flags.{rootNode}
 use Rattle.theory_blake3.specs.Compression.{cv}
 use Rattle.theory_blake3.specs.Digest.{bytesOfWords32}
-use Rattle.theory_blake3.specs.Stack.{entries, fold}
+use Rattle.theory_blake3.specs.Stack.{entries, fold, pushed, pushedDepth}
 use Rattle.hash_chunk.specs.declared.state.ChunkState.{ChunkState}
-use Rattle.hash_chunk.specs.helpers.State.{fedByte, lastOf}
-use Rattle.hash_stack.specs.helpers.Push.{pushed, pushedDepth}
+use Rattle.hash_chunk.specs.State.{fedByte, lastOf}
 use Rattle.hash_hasher.specs.declared.hasher.Hasher.{Hasher}
 use Rattle.hash_hasher.specs.declared.hasher.Updated.{Updated}
 use Rattle.hash_hasher.specs.declared.whole.Digested.{Digested}
@@ -47,19 +45,6 @@ questions s n =
 
 unfoldable pub numberOf : Hasher → ℕ → ℕ
 numberOf s n = firstNo (questions s n)
-
--- what the questions ask, as facts: of a state that has room for n bytes
-pub record Counts (s : Hasher) (n : ℕ) : Type 0 where
-  pub small : s .len + n ≤ mostBytes
-  pub low : s .blocks ≤ 15
-  pub within : s .fill ≤ 64
-  pub sum : s .len ≡ 1024 * s .chunks + 64 * s .blocks + s .fill
-  pub deep : s .depth ≡ ones (s .chunks)
-
--- and no block is compressed before a byte follows it
-pub record Ready (s : Hasher) (n : ℕ) : Type 0 where
-  pub counts : Counts s n
-  pub some : min 1 (s .len) ≤ s .fill
 
 -- ---- update
 

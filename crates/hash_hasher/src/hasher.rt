@@ -14,6 +14,7 @@ ghost use Prim.Native.Nat.{_+_, _*_, _≤_, _<_, min};
 ghost use lib.ListN.{length};
 ghost use Rattle.theory_blake3.specs.Compression as C;
 ghost use Rattle.hash_hasher.specs.Hasher as S;
+ghost use Rattle.hash_hasher.specs.helpers.Counts.{Counts, Ready};
 
 // A hasher's state. A block is compressed, and a chunk is finished, only when a byte follows.
 pub struct Hasher {
@@ -142,7 +143,7 @@ fn with_chunk(s: Hasher, c: ChunkState, n: usize) -> Hasher
 
 // The chunk is full, and a byte follows: its chaining value goes onto the stack.
 fn next_chunk(s: Hasher) -> Hasher
-    requires { ⌜ S.Counts s 1 × (64 * s .blocks + s .fill ≡ 1024) ⌝ }
+    requires { ⌜ Counts s 1 × (64 * s .blocks + s .fill ≡ 1024) ⌝ }
     ensures { λ r. ⌜ r ≡ S.nextChunk s ⌝ }
 {
     let c = chunk_of(s);
@@ -168,7 +169,7 @@ fn next_chunk(s: Hasher) -> Hasher
 
 // The bytes of a slice more: chunk by chunk.
 fn absorb(start: Hasher, input: &[u8]) -> Hasher
-    requires { ⌜ S.Counts start (length (now input)) ⌝ }
+    requires { ⌜ Counts start (length (now input)) ⌝ }
     ensures { λ r. ⌜ r ≡ S.absorbed start (now (input .entry)) ⌝ }
 {
     let mut s = start;
@@ -215,7 +216,7 @@ pub fn update(s: Hasher, input: &[u8]) -> Updated
 
 // The digest of the bytes so far.
 fn finish(s: Hasher) -> [u8; 32]
-    requires { ⌜ S.Ready s 0 ⌝ }
+    requires { ⌜ Ready s 0 ⌝ }
     ensures { λ r. ⌜ r ≡ S.finished s ⌝ }
 {
     let c = chunk_of(s);

@@ -18,7 +18,8 @@ use Rattle.theory_merkle.specs.Message.{prefixed, serializePrefix, serializePar
 use Rattle.theory_merkle.proofs.Message.{length-prefixed}
 use Rattle.bytes_numbers.specs.helpers.Put.{Put}
 use Rattle.bytes_numbers.proofs.Stores.{put-after, then-put}
-use Rattle.hash_serialize_parts.specs.Parts.{cut, serialized, total, questions, numberOf, Sized}
+use Rattle.hash_serialize_parts.specs.Parts.{cut, serialized, total, questions, numberOf}
+use Rattle.hash_serialize_parts.specs.helpers.Room.{Sized}
 
 -- ---- the sum of the lengths
 

@@ -1,6 +1,5 @@
 -- Parts in one message (SPECIFICATION 4.3): they lie end to end in one list of bytes, and their lengths are given beside.
 use Prim.Native.Nat.{ℕ, _+_, _*_}
-use mathlib.Core.Path.{_≡_}
 use mathlib.Core.List.{List, [], _∷_}
 use lib.Dec.{eqb}
 use lib.ListN.{length, take, drop}
@@ -31,8 +30,3 @@ numberOf ls n out = firstNo (questions ls n out)
 -- the output afterwards: the parts in one message, or as it was
 abbrev pub serializedInto : List ℕ → List ℕ → List ℕ → List ℕ
 serializedInto ls bs out = onDone (numberOf ls (length bs) (length out)) (serialized ls bs) out
-
--- what the question asks, as facts
-pub record Sized (ls : List ℕ) (n out : ℕ) : Type 0 where
-  pub sum : total ls ≡ n
-  pub size : out ≡ 8 + 8 * length ls + n

@@ -9,6 +9,7 @@ ghost use lib.Dec.{eqb};
 ghost use lib.ListN.{length};
 ghost use Prim.Native.Nat.{_+_, _*_};
 ghost use Rattle.hash_serialize_parts.specs.Parts as S;
+ghost use Rattle.hash_serialize_parts.specs.helpers.Room.{Sized};
 
 // Whether the lengths sum to n.
 fn sum_is(lengths: &[u64], n: usize) -> bool
@@ -55,7 +56,7 @@ fn number(bytes: &[u8], lengths: &[u64], out: usize) -> u32
 
 // The parts put into an output that is as long as they need.
 fn put_parts(bytes: &[u8], lengths: &[u64], out: &mut [u8])
-    requires { ⌜ S.Sized (now lengths) (length (now bytes)) (length (now out)) ⌝ }
+    requires { ⌜ Sized (now lengths) (length (now bytes)) (length (now out)) ⌝ }
     ensures { λ r. ⌜ now (out .exit) ≡ S.serialized (now (lengths .entry)) (now (bytes .entry)) ⌝ }
 {
     let mut to = put_number(out, 0, lengths.len() as u64, 8);

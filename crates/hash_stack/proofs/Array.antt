@@ -12,9 +12,8 @@ use Rattle.theory_laws.specs.Lists.{stored}
 use Rattle.theory_laws.proofs.Table.{tab-ext, length-tab}
 use Rattle.theory_blake3.specs.Compression.{cv}
 use Rattle.theory_blake3.specs.Tree.{pair, parent}
-use Rattle.theory_blake3.specs.Stack.{entry, entries, merge, fold}
+use Rattle.theory_blake3.specs.Stack.{entry, entries, merge, fold, joined, pushed, pushedDepth}
 use Rattle.theory_blake3.proofs.Compression.{cv-cv}
-use Rattle.hash_stack.specs.helpers.Push.{joined, pushed, pushedDepth}
 
 -- ---- the loops
 

@@ -13,11 +13,10 @@ use Rattle.theory_laws.proofs.Lists.{length-part}
 use Rattle.theory_blake3.specs.Compression.{cv}
 use Rattle.theory_blake3.specs.Chunk.{chunk}
 use Rattle.theory_blake3.specs.Tree.{tree}
-use Rattle.theory_blake3.specs.Stack.{stack, entries, fold}
+use Rattle.theory_blake3.specs.Stack.{stack, entries, fold, pushed, pushedDepth}
 use Rattle.theory_blake3.proofs.Compression.{cv-cv}
 use Rattle.theory_blake3.proofs.Tree.{tree-nil}
 use Rattle.theory_blake3.proofs.Stack.{push-stack, fold-tree, stack-nil}
-use Rattle.hash_stack.specs.helpers.Push.{pushed, pushedDepth}
 use Rattle.hash_stack.proofs.Array.{pushed-merge, length-cv}
 use Rattle.theory_laws.proofs.Numbers.{lt-or-le, tz-ones, ones-next}
 

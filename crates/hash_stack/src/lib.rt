@@ -8,7 +8,6 @@ ghost use Prim.Native.Nat.{ℕ, _+_, _*_, _-_, _<_, _≤_};
 ghost use Rattle.theory_laws.specs.Lists.{stored};
 ghost use Rattle.theory_blake3.specs.Stack as B;
 ghost use Rattle.hash_node.specs.helpers.Node.{outOf};
-ghost use Rattle.hash_stack.specs.helpers.Push as S;
 
 // Value i of the stack.
 fn entry(stack: &[u32; 112], i: usize) -> [u32; 8]
@@ -50,7 +49,7 @@ fn joined(
     v: [u32; 8],
 ) -> [u32; 8]
     requires { ⌜ (count ≤ depth) × (depth ≤ 14) ⌝ }
-    ensures { λ r. ⌜ r ≡ S.joined key flags count (now (stack .entry)) depth v ⌝ }
+    ensures { λ r. ⌜ r ≡ B.joined key flags count (now (stack .entry)) depth v ⌝ }
 {
     let mut u = v;
     let mut top = depth;
@@ -76,8 +75,8 @@ pub fn push(
     v: [u32; 8],
 ) -> usize
     requires { ⌜ (count ≤ depth) × (depth ≤ 14) × (depth - count < 14) ⌝ }
-    ensures { λ r. ⌜ r ≡ S.pushedDepth count depth ⌝ }
-    ensures { λ r. ⌜ now (stack .exit) ≡ S.pushed key flags count (now (stack .entry)) depth v ⌝ }
+    ensures { λ r. ⌜ r ≡ B.pushedDepth count depth ⌝ }
+    ensures { λ r. ⌜ now (stack .exit) ≡ B.pushed key flags count (now (stack .entry)) depth v ⌝ }
 {
     let u = joined(key, flags, stack, depth, count, v);
     let i = depth - count;

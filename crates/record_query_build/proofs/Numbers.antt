@@ -5,7 +5,7 @@ use mathlib.Core.List.{List}
 use borrow.Author.Tests.{eq-eqb, ne-eqb, lt-ltb, le-ltb}
 use lib.ListN.{length}
 use Rattle.theory_field.specs.Words.{words}
-use Rattle.code_level.specs.helpers.Numbers.{sizeNumber}
+use Rattle.code_level.specs.Sizes.{sizeNumber}
 use Rattle.theory_laws.proofs.Questions.{first-stops, first-passes}
 use Rattle.theory_record.specs.Widths.{present, levelLength}
 use Rattle.theory_record.specs.Sizes.{querySize}

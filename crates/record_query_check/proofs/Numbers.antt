@@ -8,8 +8,7 @@ use lib.Dec.{eqb, leb, ltb}
 use lib.ListN.{length}
 use Rattle.theory_laws.specs.Questions.{Question, _asks_, firstNo}
 use Rattle.theory_laws.proofs.Questions.{all-yes, first-stops, first-passes}
-use Rattle.code_level.specs.helpers.Numbers.{sizeNumber}
-use Rattle.theory_record.specs.Widths.{levelLength}
+use Rattle.code_level.specs.Sizes.{sizeNumber}
 use Rattle.theory_record.specs.Format.{levelForm, runCount, recordWhole, recordItems}
 use Rattle.theory_record.specs.Query.{Answer, sizeQuestions, checkLevels, queryQuestions, queryNumber, checkQuery}
 use Rattle.theory_record.proofs.Ranges.{sizes-fit}
@@ -17,23 +16,22 @@ use Rattle.theory_record.proofs.Offsets.{first-length}
 use Rattle.record_query_check.specs.helpers.Level.{Allowed, Whole}
 use Rattle.theory_record.specs.Scheme.{Scheme, lengthAt}
 
--- a position is below the length of level 0
-below-first : (n k len : ℕ) → len ≡ levelLength n k 0 → len ≡ 2 ^ (n + k)
-below-first n k len e = e ∙ first-length n k
-
 module _ (S : Scheme) (position : ℕ) (challenges roots s : List ℕ) (x : ℕ) (ex : x ≡ sizeNumber (S .n) (S .k)) where
   open Scheme S using (base, n, k)
 
-  -- what is put after question 4
+  -- what is put after question 14, after 7 and after 4
+  abbrev after14 : List Question
+  after14 = (15 asks eqb (runCount s) n) ∷ []
+
+  abbrev after7 : List Question
+  after7 = (11 asks ltb position (2 ^ (n + k))) ∷ (14 asks recordWhole levelForm s) ∷ after14
+
   abbrev after4 : List Question
   after4 =
       (5 asks eqb (length challenges) (2 * n)) ∷
       (5 asks eqb (length roots) (32 * (n + 1))) ∷
       (7 asks leb (length base) 200) ∷
-      (11 asks ltb position (2 ^ (n + k))) ∷
-      (14 asks recordWhole levelForm s) ∷
-      (15 asks eqb (runCount s) n) ∷
-      []
+      after7
 
   pub wrong-size : (x ≡ 0 → ⊥) → x ≡ queryNumber S position challenges roots s
   unfolding queryNumber sizeNumber
@@ -56,65 +54,25 @@ module _ (S : Scheme) (position : ℕ) (challenges roots s : List ℕ) (x : ℕ)
         long-base e = passes 7 (rw (eq-eqb (length challenges) (2 * n) a, eq-eqb (length roots) (32 * (n + 1)) b, lt-leb (length base) 200 e))
 
         module _ (c : length base ≤ 200) (p : ℕ) (ep : p ≡ position) (len : ℕ) (el : len ≡ lengthAt S 0) where
+          passes-7 : (r : ℕ) → r ≡ firstNo after7 → r ≡ queryNumber S position challenges roots s
+          passes-7 r g = passes r (rw (eq-eqb (length challenges) (2 * n) a, eq-eqb (length roots) (32 * (n + 1)) b, le-leb (length base) 200 c) g)
+
           pub high-position : len ≤ p → 11 ≡ queryNumber S position challenges roots s
-          high-position e =
-              passes 11
-              (rw (
-                eq-eqb (length challenges) (2 * n) a,
-                eq-eqb (length roots) (32 * (n + 1)) b,
-                le-leb (length base) 200 c,
-                ← (below-first n k len el),
-                ← ep,
-                le-ltb p len e,
-              ))
+          high-position e = passes-7 11 (rw (← (el ∙ first-length n k), ← ep, le-ltb p len e))
 
           module _ (d : p < len) (t : Bool) (et : t ≡ recordWhole levelForm s) where
             pub not-whole : not t ≡ true → 14 ≡ queryNumber S position challenges roots s
-            not-whole e =
-                passes 14
-                (rw (
-                  eq-eqb (length challenges) (2 * n) a,
-                  eq-eqb (length roots) (32 * (n + 1)) b,
-                  le-leb (length base) 200 c,
-                  ← (below-first n k len el),
-                  ← ep,
-                  lt-ltb p len d,
-                  ← et,
-                  not-true t e,
-                ))
+            not-whole e = passes-7 14 (rw (← (el ∙ first-length n k), ← ep, lt-ltb p len d, ← et, not-true t e))
 
             module _ (f : not t ≡ false) (m : ℕ) (em : m ≡ runCount s) where
+              passes-14 : (r : ℕ) → r ≡ firstNo after14 → r ≡ queryNumber S position challenges roots s
+              passes-14 r g = passes-7 r (rw (← (el ∙ first-length n k), ← ep, lt-ltb p len d, ← et, not-false t f) g)
+
               pub other-count : (m ≡ n → ⊥) → 15 ≡ queryNumber S position challenges roots s
-              other-count e =
-                  passes 15
-                  (rw (
-                    eq-eqb (length challenges) (2 * n) a,
-                    eq-eqb (length roots) (32 * (n + 1)) b,
-                    le-leb (length base) 200 c,
-                    ← (below-first n k len el),
-                    ← ep,
-                    lt-ltb p len d,
-                    ← et,
-                    not-false t f,
-                    ← em,
-                    ne-eqb m n e,
-                  ))
+              other-count e = passes-14 15 (rw (← em, ne-eqb m n e))
 
               pub none-says-no : m ≡ n → 0 ≡ queryNumber S position challenges roots s
-              none-says-no e =
-                  passes 0
-                  (rw (
-                    eq-eqb (length challenges) (2 * n) a,
-                    eq-eqb (length roots) (32 * (n + 1)) b,
-                    le-leb (length base) 200 c,
-                    ← (below-first n k len el),
-                    ← ep,
-                    lt-ltb p len d,
-                    ← et,
-                    not-false t f,
-                    ← em,
-                    eq-eqb m n e,
-                  ))
+              none-says-no e = passes-14 0 (rw (← em, eq-eqb m n e))
 
 -- ---- the answer
 

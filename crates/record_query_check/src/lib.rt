@@ -31,6 +31,7 @@ ghost use Rattle.record_query_check.specs.helpers.Level.{aNumberAt, cNum
 ghost use Rattle.record_query_check.specs.helpers.Level.{WideGroup, Allowed, Whole, PairThere, LevelThere};
 ghost use Rattle.record_query_check.specs.Answer.{answer};
 ghost use Rattle.theory_record.specs.Scheme.{scheme};
+ghost use Rattle.theory_record.specs.Lent.{schemeOf};
 
 // 0 and 0 where the record is accepted; else the number of the first question whose answer is no, and the level for 16 to 26.
 pub struct Checked {
@@ -79,7 +80,7 @@ fn a_number(
     old: Opened,
 ) -> u32
     requires { ⌜ PairThere (scheme (now base) n k) l (index q) (now s) «group_at» «path_at» root old ⌝ }
-    ensures { λ r. ⌜ r ≡ aNumberAt (scheme (now (base .entry)) n k) l (index q) (now (s .entry)) «group_at» «path_at» root (word a) (word b) ⌝ }
+    ensures { λ r. ⌜ r ≡ aNumberAt (schemeOf base n k) l (index q) (now (s .entry)) «group_at» «path_at» root (word a) (word b) ⌝ }
 {
     let first = q.first_of_pair();
     let x = opening_again(base, n, k, l, first, s, group_at, path_at, root, 16, old);
@@ -114,7 +115,7 @@ fn c_number(
     c: Word,
 ) -> u32
     requires { ⌜ Readable (scheme (now base) n k) l (now s) «group_at» «path_at» ⌝ }
-    ensures { λ r. ⌜ r ≡ cNumberAt (scheme (now (base .entry)) n k) l (index q) (now (s .entry)) «group_at» «path_at» root (word c) ⌝ }
+    ensures { λ r. ⌜ r ≡ cNumberAt (schemeOf base n k) l (index q) (now (s .entry)) «group_at» «path_at» root (word c) ⌝ }
 {
     let x = opening_number(base, n, k, l, q, s, group_at, path_at, root, 22);
     if x != 0 {
@@ -142,7 +143,7 @@ fn level_number(
     old: Opened,
 ) -> u32
     requires { ⌜ LevelThere (scheme (now base) n k) (index position) (now challenges) (now roots) l (now s) at v old ⌝ }
-    ensures { λ r. ⌜ r ≡ levelAsked (scheme (now (base .entry)) n k) (index position) (now (challenges .entry)) (now (roots .entry)) l (now (s .entry)) at ⌝ }
+    ensures { λ r. ⌜ r ≡ levelAsked (schemeOf base n k) (index position) (now (challenges .entry)) (now (roots .entry)) l (now (s .entry)) at ⌝ }
 {
     let q = pair_of(position, l);
     let a = word_at(s, at);
@@ -190,7 +191,7 @@ fn check_levels(
     s: &[u8],
 ) -> Checked
     requires { ⌜ (Allowed (scheme (now base) n k) (index position) (now challenges) (now roots)) × (Whole n (now s)) ⌝ }
-    ensures { λ r. ⌜ answer r ≡ allAsked (scheme (now (base .entry)) n k) (index position) (now (challenges .entry)) (now (roots .entry)) (now (s .entry)) ⌝ }
+    ensures { λ r. ⌜ answer r ≡ allAsked (schemeOf base n k) (index position) (now (challenges .entry)) (now (roots .entry)) (now (s .entry)) ⌝ }
 {
     let mut l: usize = 0;
     let mut at: usize = 4;
@@ -232,7 +233,7 @@ fn query_number(
     roots: &[u8],
     s: &[u8],
 ) -> u32
-    ensures { λ r. ⌜ r ≡ queryNumber (scheme (now (base .entry)) n k) (index position) (now (challenges .entry)) (now (roots .entry)) (now (s .entry)) ⌝ }
+    ensures { λ r. ⌜ r ≡ queryNumber (schemeOf base n k) (index position) (now (challenges .entry)) (now (roots .entry)) (now (s .entry)) ⌝ }
 {
     let x = size_number(n, k);
     if x != 0 {
@@ -269,7 +270,7 @@ pub fn check_query(
     roots: &[u8],
     s: &[u8],
 ) -> Checked
-    ensures { λ r. ⌜ answer r ≡ checkQuery (scheme (now (base .entry)) n k) (index position) (now (challenges .entry)) (now (roots .entry)) (now (s .entry)) ⌝ }
+    ensures { λ r. ⌜ answer r ≡ checkQuery (schemeOf base n k) (index position) (now (challenges .entry)) (now (roots .entry)) (now (s .entry)) ⌝ }
 {
     let number = query_number(base, n, k, position, challenges, roots, s);
     if number != 0 {

@@ -7,7 +7,7 @@ use lib.ListN.{drop}
 use Rattle.theory_laws.specs.Lists.{part, leValue}
 use Rattle.theory_record.specs.Format.{runCount}
 use Rattle.theory_record.proofs.Reading.{count-at}
-use Rattle.bytes_reader.specs.helpers.Windows.{windowAt}
+use Rattle.bytes_reader.specs.Windows.{windowAt}
 use Rattle.bytes_reader.proofs.Windows.{value-window}
 use Rattle.bytes_reader.specs.declared.Window.{Window}
 

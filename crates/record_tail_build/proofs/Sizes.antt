@@ -13,7 +13,7 @@ use Rattle.theory_field.specs.Words.{words}
 use Rattle.theory_field.proofs.Words.{Halves, length-words-even}
 use Rattle.theory_laws.proofs.Questions.{first-stops, first-passes}
 use Rattle.record_opening.proofs.Levels.{width-most}
-use Rattle.code_level.specs.helpers.Numbers.{sizeNumber}
+use Rattle.code_level.specs.Sizes.{sizeNumber}
 use Rattle.bytes_numbers.specs.helpers.Put.{Put}
 use Rattle.theory_record.specs.Widths.{present, levelLength, levelWidth, levelGroups, levelDepth, treeLength}
 use Rattle.theory_record.specs.Sizes.{groupSize, tailSize}

@@ -10,7 +10,7 @@ use lib.Seq.{take-all}
 use Rattle.theory_laws.specs.Questions.{Question, firstNo}
 use Rattle.theory_laws.specs.Lists.{part}
 use Rattle.theory_laws.proofs.Questions.{all-yes, first-stops, first-passes}
-use Rattle.code_level.specs.helpers.Numbers.{sizeNumber}
+use Rattle.code_level.specs.Sizes.{sizeNumber}
 use Rattle.theory_record.specs.Widths.{present, levelGroups}
 use Rattle.theory_record.specs.Format.{tailForm, runCount, recordWhole, recordItems}
 use Rattle.theory_record.specs.Query.{sizeQuestions}

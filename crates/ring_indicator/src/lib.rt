@@ -1,19 +1,19 @@
 // The indicator of ring switching, after `RingEqInd` of ring.rs (SPECIFICATION 3.3 and 3.4): its table, and its value at a point.
 ghost use mathlib.Core.Path.{_≡_};
-ghost use Prim.Native.Nat.{ℕ, _*_, _^_};
+ghost use Prim.Native.Nat.{_*_, _^_};
 ghost use lib.ListN.{length};
 ghost use Rattle.theory_laws.specs.Table.{tab, at};
 ghost use Rattle.theory_laws.specs.Questions.{onDone};
 ghost use Rattle.theory_field.specs.Field.{_⊗_};
 ghost use Rattle.theory_field.specs.Words.{words};
 ghost use Rattle.field_gf128.specs.Word.{word};
-ghost use Rattle.theory_multilinear.specs.Phi.{phi};
-ghost use Rattle.theory_multilinear.specs.Partials.{materialize, indicator};
+ghost use Rattle.theory_multilinear.specs.Partials.{materialize};
 ghost use Rattle.theory_multilinear.proofs.Tensor.{tensorStep};
 ghost use Rattle.field_equality.specs.Eq.{eqNumber};
-ghost use Rattle.field_pack.specs.Phi.{coefficients, phiTab};
+ghost use Rattle.field_pack.specs.Phi.{coefficients};
 ghost use Rattle.ring_indicator.specs.Numbers.{evalNumber};
-ghost use Rattle.ring_indicator.specs.helpers.Steps.{joinParts};
+ghost use Rattle.ring_indicator.specs.Answers.{indicatorOf};
+ghost use Rattle.ring_indicator.specs.helpers.Steps.{PhiOfEach, joinParts};
 use field_gf128::Word;
 use ring_partials::Answer;
 use ring_partials::sums;
@@ -21,7 +21,7 @@ use ring_partials::sums;
 // phi of each of m words in place, by the tables that `field_pack::phi_tab` makes.
 fn phi_each(t: &[u64; 1024], m: usize, out: &mut [u64])
     requires { ⌜ length (now out) ≡ 2 * m ⌝ }
-    ensures { λ _. ⌜ ((c : ℕ → ℕ) → words (now (t .entry)) ≡ phiTab c → words (now (out .exit)) ≡ tab m (λ v. phi c (at (words (now (out .entry))) v))) ⌝ }
+    ensures { λ _. ⌜ PhiOfEach m (now (t .entry)) (now (out .entry)) (now (out .exit)) ⌝ }
 {
     let mut v: usize = 0;
     while v < m {
@@ -91,7 +91,7 @@ fn tensor_step(t: &mut [u64], z: Word, q: Word)
 // The indicator at the point, by one step for each of its n coordinates: no table of 2^n entries is filled.
 fn tensor_eval(n: usize, z: &[u64], rb: [Word; 128], point: &[u64]) -> Word
     requires { ⌜ (length (now z) ≡ 2 * n) × (length (now point) ≡ 2 * n) ⌝ }
-    ensures { λ r. ⌜ word r ≡ indicator (coefficients rb) (words (now (z .entry))) (words (now (point .entry))) ⌝ }
+    ensures { λ r. ⌜ word r ≡ indicatorOf rb (now (z .entry)) (now (point .entry)) ⌝ }
 {
     let mut t = [0u64; 256];
     t[0] = 1;
@@ -123,7 +123,7 @@ fn eval_number(n: usize, z: usize, point: usize) -> u32
 // n is above 20, with 5 where a lent length is another.
 pub fn eval_at(n: usize, z: &[u64], rb: [Word; 128], point: &[u64]) -> Answer
     ensures { λ r. ⌜ r .number ≡ evalNumber n (length (now (z .entry))) (length (now (point .entry))) ⌝ }
-    ensures { λ r. ⌜ word (r .word) ≡ onDone (r .number) (indicator (coefficients rb) (words (now (z .entry))) (words (now (point .entry)))) 0 ⌝ }
+    ensures { λ r. ⌜ word (r .word) ≡ onDone (r .number) (indicatorOf rb (now (z .entry)) (now (point .entry))) 0 ⌝ }
 {
     let number = eval_number(n, z.len(), point.len());
     if number != 0 {

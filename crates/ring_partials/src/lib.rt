@@ -6,9 +6,10 @@ ghost use Rattle.theory_laws.specs.Table.{at};
 ghost use Rattle.theory_laws.specs.Questions.{onDone};
 ghost use Rattle.theory_field.specs.Words.{words};
 ghost use Rattle.field_gf128.specs.Word.{word};
-ghost use Rattle.theory_multilinear.specs.Partials.{partialEvals, foldPartials};
+ghost use Rattle.theory_multilinear.specs.Partials.{foldPartials};
 ghost use Rattle.field_pack.specs.Phi.{coefficients};
 ghost use Rattle.ring_partials.specs.Numbers.{partialNumber, foldNumber};
+ghost use Rattle.ring_partials.specs.Answers.{partialsOf};
 use field_gf128::Word;
 use field_words::table_len;
 
@@ -44,7 +45,7 @@ fn partial_number(n: usize, packed: usize, eq: usize, out: usize) -> u32
 // words whose bit b is set. Refuses with 4 where n is above 20, with 5 where a lent length is another; `out` then stays.
 pub fn partial_evals(n: usize, packed: &[u64], eq: &[u64], out: &mut [u64]) -> u32
     ensures { λ r. ⌜ r ≡ partialNumber n (length (now (packed .entry))) (length (now (eq .entry))) (length (now (out .entry))) ⌝ }
-    ensures { λ r. ⌜ words (now (out .exit)) ≡ onDone r (partialEvals n (words (now (packed .entry))) (words (now (eq .entry)))) (words (now (out .entry))) ⌝ }
+    ensures { λ r. ⌜ words (now (out .exit)) ≡ onDone r (partialsOf n (now (packed .entry)) (now (eq .entry))) (words (now (out .entry))) ⌝ }
 {
     let number = partial_number(n, packed.len(), eq.len(), out.len());
     if number != 0 {

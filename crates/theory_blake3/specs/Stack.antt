@@ -1,11 +1,13 @@
 -- The chaining value stack of an incremental hasher (the specification's section 5.1): what it holds of the finished chunks, how a
--- chunk's chaining value goes onto it, and how the tree is finished over it. A list's head is the stack's top.
-use Prim.Native.Nat.{ℕ, zero, suc, _+_, _*_, _^_}
+-- chunk's chaining value goes onto it, and how the tree is finished over it; and the same stack in one flat array of words. A list's head
+-- is the stack's top. Rests on parent nodes and the tree.
+use Prim.Native.Nat.{ℕ, zero, suc, _+_, _*_, _-_, _^_}
 use mathlib.Core.List.{List, [], _∷_, _++_}
 use lib.ListN.{take, drop, length}
 use lib.Dec.{leb}
 use Rattle.theory_laws.specs.Questions.{pick}
 use Rattle.theory_laws.specs.Table.{tab, at}
+use Rattle.theory_laws.specs.Lists.{stored}
 use Rattle.theory_blake3.specs.Compression.{cv}
 use Rattle.theory_blake3.specs.Tree.{parent, chunksBytes, tree}
 
@@ -38,3 +40,15 @@ entry a i = tab 8 (λ j. at a (8 * i + j))
 unfoldable pub entries : List ℕ → ℕ → List (List ℕ)
 entries a zero = []
 entries a (suc n) = entry a n ∷ entries a n
+
+-- v joined to the m values on top of the n values of the array a, one after the other
+unfoldable pub joined : List ℕ → ℕ → ℕ → List ℕ → ℕ → List ℕ → List ℕ
+joined key d zero a n v = v
+joined key d (suc m) a n v = joined key d m a (n - 1) (cv (parent key d (entry a (n - 1)) v 0))
+
+-- and put in their place: the array and the depth then. That this is `merge` is a law (hash_stack/proofs/Array)
+unfoldable pub pushed : List ℕ → ℕ → ℕ → List ℕ → ℕ → List ℕ → List ℕ
+pushed key d m a n v = stored a (8 * (n - m)) (joined key d m a n v)
+
+unfoldable pub pushedDepth : ℕ → ℕ → ℕ
+pushedDepth m n = n - m + 1

@@ -1,30 +1,26 @@
 -- Comparing as a contract says it: of the slices that a function is lent, at its entry and at its exit. Rests on comparing.
 use Prim.Native.Nat.{ℕ}
 use mathlib.Core.List.{List}
-use denote.Ref.{RefT, now}
-use denote.Triple.Both.{Both}
-use Rattle.theory_record.specs.Scheme.{scheme}
+use denote.Ref.{now}
+use Rattle.theory_record.specs.Lent.{schemeOf}
+pub use Rattle.theory_record.specs.Lent.{Slice}
 use Rattle.theory_compare.specs.Compare.{Comparison, compared, firstMessage, secondMessage}
-
--- a slice, as a contract names it: what it holds is `now (s .entry)` and then `now (s .exit)`
-abbrev pub Slice : Type 0
-Slice = Both (RefT (List ℕ)) (RefT (List ℕ))
 
 -- lent: a base domain, n and k, a position, challenges and roots, two records, and two buffers
 module _ (base : Slice) (n k position : ℕ) (challenges roots first second message message′ : Slice) where
   -- the number, and the lengths of the two messages
   abbrev pub comparedLent : Comparison
   comparedLent =
-      compared (scheme (now (base .entry)) n k) position (now (challenges .entry)) (now (roots .entry)) (now (first .entry)) (now (second .entry))
+      compared (schemeOf base n k) position (now (challenges .entry)) (now (roots .entry)) (now (first .entry)) (now (second .entry))
       (now (message .entry)) (now (message′ .entry))
 
   -- what the two buffers hold afterwards
   abbrev pub firstLeft : List ℕ
   firstLeft =
-      firstMessage (scheme (now (base .entry)) n k) position (now (challenges .entry)) (now (roots .entry)) (now (first .entry)) (now (second .entry))
+      firstMessage (schemeOf base n k) position (now (challenges .entry)) (now (roots .entry)) (now (first .entry)) (now (second .entry))
       (now (message .entry)) (now (message′ .entry))
 
   abbrev pub secondLeft : List ℕ
   secondLeft =
-      secondMessage (scheme (now (base .entry)) n k) position (now (challenges .entry)) (now (roots .entry)) (now (first .entry)) (now (second .entry))
+      secondMessage (schemeOf base n k) position (now (challenges .entry)) (now (roots .entry)) (now (first .entry)) (now (second .entry))
       (now (message .entry)) (now (message′ .entry))

@@ -1,6 +1,7 @@
 pub mod Widths
 pub mod Domain
 pub mod Scheme
+pub mod Lent
 pub mod Trees
 pub mod Profiles
 pub mod Format

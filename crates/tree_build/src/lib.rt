@@ -6,15 +6,14 @@ use tree_place::Group;
 ghost use mathlib.Core.Path.{_≡_};
 ghost use Prim.Native.Nat.{_+_, _*_, _^_, _≤_};
 ghost use lib.ListN.{length};
-ghost use Rattle.theory_laws.specs.Lists.{runs, flat, stored};
-ghost use Rattle.theory_field.specs.Words.{words};
+ghost use Rattle.theory_laws.specs.Lists.{runs, flat};
 ghost use Rattle.theory_blake3.specs.Digest.{hash};
-ghost use Rattle.theory_merkle.specs.Tree.{leaves, levelsFrom, endToEnd};
+ghost use Rattle.theory_merkle.specs.Tree.{levelsFrom, endToEnd};
 ghost use Rattle.theory_merkle.specs.Numbers.{buildNumber};
 ghost use Rattle.tree_place.specs.helpers.Yes.{BuildYes};
 ghost use Rattle.tree_by_fours.specs.helpers.Fours.{firstParents};
 ghost use Rattle.tree_build.specs.Built.{builtInto};
-ghost use Rattle.tree_build.specs.helpers.Put.{LeavesFit, ParentsFit, laterLeaves, laterParents};
+ghost use Rattle.tree_build.specs.helpers.Put.{LeavesFit, ParentsFit, allLeaves, laterLeaves, laterParents};
 
 // The leaves of a tree after those of `done` groups, one group after the other, each where it belongs in the buffer.
 fn put_leaves_from(
@@ -47,7 +46,7 @@ fn put_leaves_from(
 // The leaves of a tree, from the front of its buffer: by fours where that can be, and what is left one by one.
 fn put_leaves(tree: &mut [u8], domain: &[u8], count: usize, width: usize, values: &[u64])
     requires { ⌜ BuildYes (length (now domain)) count width (length (now values)) (length (now tree)) ⌝ }
-    ensures { λ _. ⌜ now (tree .exit) ≡ stored (now (tree .entry)) 0 (flat (leaves hash (now (domain .entry)) count width (words (now (values .entry))))) ⌝ }
+    ensures { λ _. ⌜ now (tree .exit) ≡ allLeaves (now (tree .entry)) (now (domain .entry)) count width (now (values .entry)) ⌝ }
 {
     let mut message = [0u8; tree_message::LEAF_MESSAGE];
     let done = tree_by_fours::put_leaves(tree, &mut message, domain, count, width, values);

@@ -6,13 +6,15 @@ use mathlib.Core.List.{List, _++_}
 use native.Mathlib.Omega.{arith}
 use borrow.Author.Tests.{leb-true}
 use lib.Dec.{leb}
-use lib.ListN.{length}
+use lib.ListN.{length, take}
 use Rattle.theory_laws.specs.Questions.{pick}
-use Rattle.theory_laws.specs.Lists.{stored}
+use Rattle.theory_laws.specs.Lists.{part, stored}
 use Rattle.theory_laws.proofs.Lists.{stored-append}
 use Rattle.theory_blake3.specs.Compression.{iv}
 use Rattle.bytes_numbers.specs.helpers.Put.{Put}
-use Rattle.tree_four_messages.specs.helpers.Strides.{firstBlocks}
+use Rattle.tree_digest.proofs.Messages.{prefix-is}
+use Rattle.tree_four_messages.specs.helpers.Strides.{firstBlocks, Each, Common}
+use Rattle.tree_four_messages.proofs.Whole.{prefixes-stand, kept-whole, common}
 use Rattle.tree_by_fours.specs.helpers.Fours.{byFours}
 
 -- messages that begin with P, p bytes, and have n more: h is the chaining value of P's whole blocks, and `all` of the messages, a multiple of
@@ -29,14 +31,15 @@ fours-fit : (size count : ℕ) → (byFours size count ≤ count) × (byFours si
 unfolding byFours
 fours-fit size count = go (leb size 1024) refl
   where
-    go : (b : Bool) → leb size 1024 ≡ b → (pick b (count / 4 * 4) 0 ≤ count) × (pick b (count / 4 * 4) 0 % 4 ≡ 0) × (0 < pick b (count / 4 * 4) 0 → size ≤ 1024)
+    go : (b : Bool) → leb size 1024 ≡ b → (pick b (count / 4 * 4) 0 ≤ count) × (pick b (count / 4 * 4) 0 % 4 ≡ 0)
+        × (0 < pick b (count / 4 * 4) 0 → size ≤ 1024)
     go true t = (omega arith, omega arith, λ z. leb-true size 1024 t)
     go false t = (omega arith, refl, λ z. absurd (omega arith))
 
 pub byFours-le : (r size count : ℕ) → r ≡ byFours size count → r ≤ count
 byFours-le r size count e = rw e (fours-fit size count .0)
 
-pub begun : (F P h : List ℕ) (p n all count : ℕ) → F ≡ P → length P ≡ p → h ≡ firstBlocks iv 0 (length F / 64) F → all ≡ byFours (p + n) count
+begun : (F P h : List ℕ) (p n all count : ℕ) → F ≡ P → length P ≡ p → h ≡ firstBlocks iv 0 (length F / 64) F → all ≡ byFours (p + n) count
     → Begun P h p n all count
 begun F P h p n all count e s v f =
     let q = fours-fit (p + n) count in
@@ -49,10 +52,61 @@ begun F P h p n all count e s v f =
     }
 
 -- bytes that are put first end at their length
-pub front-sized : (o : List ℕ) (n : ℕ) (bs o1 : List ℕ) (next : ℕ) → Put o 0 n bs o1 next → length bs ≡ next
+front-sized : (o : List ℕ) (n : ℕ) (bs o1 : List ℕ) (next : ℕ) → Put o 0 n bs o1 next → length bs ≡ next
 front-sized o n bs o1 next p = omega (arith, p .size, p .end)
 
+-- a walk before message i: `all` of the messages are hashed by fours, each stride begins with P, and the tree and the strides are as long as they were
+pub record Walk (P h : List ℕ) (p n all count i : ℕ) (tree₀ strides₀ tree strides : List ℕ) : Type 0 where
+  pub begun : Begun P h p n all count
+  pub passed : i ≤ all
+  pub fours : i % 4 ≡ 0
+  pub tree-long : length tree ≡ length tree₀
+  pub strides-long : length strides ≡ length strides₀
+  pub prefixes : Each p strides (λ k. P)
+
+-- it begins once P, of m bytes, is put into a buffer, and the strides and their first blocks are begun with it
+pub walk-begin : (o : List ℕ) (m : ℕ) (P o1 : List ℕ) (p : ℕ) (tree strides h : List ℕ) (n size all count : ℕ) → Put o 0 m P o1 p
+    → m ≤ length o → Each (length (take p o1)) strides (λ k. take p o1) → h ≡ firstBlocks iv 0 (length (take p o1) / 64) (take p o1)
+    → all ≡ byFours size count → size ≡ p + n → Walk P h p n all count 0 tree strides tree strides
+walk-begin o m P o1 p tree strides h n size all count put fits stand value fours same =
+    let e = prefix-is o m P o1 p put fits in
+    let s = front-sized o m P o1 p put in
+    record {
+      begun = begun (take p o1) P h p n all count e s value (fours ∙ ap (λ i. byFours i count) same);
+      passed = omega arith;
+      fours = refl;
+      tree-long = refl;
+      strides-long = refl;
+      prefixes = prefixes-stand (take p o1) P strides p e s stand;
+    }
+
+module _ {P h : List ℕ} {p n all count i : ℕ} {tree₀ strides₀ tree strides : List ℕ}
+    (w : Walk P h p n all count i tree₀ strides₀ tree strides) (more : i < all) where
+  -- four messages are left
+  pub four-left : i + 4 ≤ all
+  four-left = omega (arith, w .begun .whole, w .fours, w .passed)
+
+  module _ (rest : ℕ → List ℕ) (strides′ : List ℕ) (filled : Each (p + n) strides′ (λ k. part p (1024 * k) strides ++ rest k)) where
+    -- what they have in common, for their digests
+    pub walk-common : 0 < n → 4096 ≤ length strides′ → Common h (p / 64) (p + n) strides′
+    walk-common some room =
+        common P p n rest strides strides′ (w .begun .sized) (w .prefixes) filled h (w .begun .value) some (w .begun .fits (omega arith)) room
+
+    -- a turn
+    pub walk-turn : (tree′ : List ℕ) → length tree′ ≡ length tree₀ → length strides′ ≡ length strides₀
+        → Walk P h p n all count (i + 4) tree₀ strides₀ tree′ strides′
+    walk-turn tree′ e f =
+        record {
+          begun = w .begun;
+          passed = four-left;
+          fours = omega (arith, w .fours);
+          tree-long = e;
+          strides-long = f;
+          prefixes = kept-whole P p n rest strides strides′ (w .begun .sized) (w .prefixes) filled;
+        }
+
 -- a put is the first part of what is stored
-pub put-then : (o : List ℕ) (from n : ℕ) (a o1 : List ℕ) (next : ℕ) (b r : List ℕ) → Put o from n a o1 next → stored o from (a ++ b) ≡ r → stored o1 next b ≡ r
+pub put-then : (o : List ℕ) (from n : ℕ) (a o1 : List ℕ) (next : ℕ) (b r : List ℕ) → Put o from n a o1 next → stored o from (a ++ b) ≡ r
+    → stored o1 next b ≡ r
 put-then o from n a o1 next b r p e =
     ap₂ (λ (l : List ℕ) (i : ℕ). stored l i b) (p .bytes) (p .end ∙ ap (λ i. from + i) (sym (p .size))) ∙ sym (stored-append o from a b) ∙ e

@@ -6,14 +6,14 @@ use bytes_reader::digest_at;
 use tree_digest::node_of;
 use tree_place::Group;
 ghost use mathlib.Core.Path.{_≡_};
-ghost use Prim.Native.Nat.{_+_, _*_, _^_, _≤_, _<_};
+ghost use Prim.Native.Nat.{_+_, _*_, _≤_, _<_};
 ghost use lib.ListN.{length, drop};
 ghost use Rattle.theory_laws.specs.Lists.{runs, flat};
 ghost use Rattle.theory_blake3.specs.Digest.{hash};
 ghost use Rattle.theory_merkle.specs.Tree.{left, right, nodeDigest, climb};
 ghost use Rattle.bytes_numbers.specs.helpers.Put.{Put};
 ghost use Rattle.tree_place.specs.Place.{number};
-ghost use Rattle.tree_walk.specs.helpers.Paths.{pathFrom};
+ghost use Rattle.tree_walk.specs.helpers.Paths.{pathFrom, PathRoom};
 
 // The digests of two children of one parent.
 pub struct Siblings {
@@ -83,7 +83,7 @@ pub fn put_path(
     groups: usize,
     group: Group,
 ) -> usize
-    requires { ⌜ (groups ≡ 2 ^ depth) × (number group < groups) × (from + 64 * groups ≤ length (now trees) + 32) × (to + 32 * depth ≤ length (now out)) ⌝ }
+    requires { ⌜ PathRoom depth groups (number group) from (length (now trees)) to (length (now out)) ⌝ }
     ensures { λ r. ⌜ Put (now (out .entry)) to (32 * depth) (flat (pathFrom depth (now (trees .entry)) from groups (number group))) (now (out .exit)) r ⌝ }
 {
     let mut tree = from;

@@ -1,5 +1,5 @@
 -- `bytes_reader::byte_or_zero` meets its contract: a byte, or 0 past the end.
-use Rattle.bytes_reader.specs.helpers.Windows.{byteAt}
+use Rattle.bytes_reader.specs.Windows.{byteAt}
 use Rattle.bytes_reader.proofs.Windows.{past-end}
 use borrow.Author.Needs.{needs}
 use Rattle.bytes_reader.proofs.byte_or_zero.Statement.{statement}

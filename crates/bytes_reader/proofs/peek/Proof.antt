@@ -46,7 +46,7 @@ use denote.Triple.Table.{entered, cited}
 use denote.Triple.Walked.{says, Stays, stay-none, walkOf, goes-none, Walks, ends-at, walked, walk-meets}
 use denote.Exit.{yes}
 use denote.Triple.Clauses.{ensured, lasts}
-use Rattle.bytes_reader.specs.helpers.Windows.{windowAt}
+use Rattle.bytes_reader.specs.Windows.{windowAt}
 use Rattle.bytes_reader.specs.declared.RecordReader.{RecordReader}
 use Rattle.bytes_reader.specs.declared.Window.{Window}
 use Rattle.bytes_reader.proofs.RecordReader as T

@@ -1,5 +1,5 @@
 -- `bytes_reader::window_at` meets its contract: a whole window is loaded; of a shorter one the bytes are read one by one.
-use Rattle.bytes_reader.specs.helpers.Windows.{byteAt}
+use Rattle.bytes_reader.specs.Windows.{byteAt}
 use borrow.Author.Needs.{needs}
 use Rattle.bytes_reader.proofs.Windows.{byte-step, window-whole, window-filled}
 use native.Mathlib.Omega.{arith}

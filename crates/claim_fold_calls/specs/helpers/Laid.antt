@@ -1,28 +1,20 @@
--- What a list of fold calls leaves: levels end to end in one buffer, and the challenges of the done calls in another.
+-- How far a list of fold calls has come and what a call of it changes, in the buffers of the levels and of the challenges. Rests on the calls and on
+-- what a list of them leaves.
 use Prim.Native.Nat.{ℕ, suc, _+_, _-_, _*_, _/_, _≤_, _<_}
 use mathlib.Core.Path.{_≡_}
-use mathlib.Core.List.{List, _++_, map}
+use mathlib.Core.List.{List, _++_}
 use lib.ListN.{length, take, drop, set}
 use denote.Ref.{RefT, now}
 use denote.Triple.Both.{Both}
 use Rattle.theory_laws.specs.Questions.{onDone}
-use Rattle.theory_laws.specs.Table.{tab}
 use Rattle.theory_field.specs.Words.{words}
-use Rattle.theory_multilinear.specs.Folds.{Fold}
 use Rattle.field_gf128.specs.Word.{word}
 use Rattle.theory_record.specs.Build.{levelStart, levelsLength, levelValues}
 use Rattle.theory_claim.specs.Calls.{Call, callNumber, callFold, doneFolds, afterFolds}
-use Rattle.code_levels.specs.helpers.Levels.{laid, LevelLent}
+use Rattle.code_levels.specs.helpers.Levels.{laid, Room, LevelLent}
+use Rattle.claim_fold_calls.specs.Left.{challengesOf, Left}
 use Rattle.claim_fold_calls.specs.declared.FoldCall.{FoldCall}
 use Rattle.claim_fold_calls.specs.declared.Progress.{Progress}
-
--- m halves, all 0
-abbrev pub zeros : ℕ → List ℕ
-zeros m = tab m (λ v. 0)
-
--- the challenges of folds
-abbrev pub challengesOf : List Fold → List ℕ
-challengesOf fs = map (λ f. f .by) fs
 
 -- a call as it is read
 abbrev pub asked : FoldCall → Call
@@ -32,6 +24,10 @@ asked x = record { n = x .n; k = x .k; var = x .var; room = x .room; by = word (
 pub record CallsLent (calls challenges : ℕ) : Type 0 where
   pub calls-long : calls ≡ 4 * (calls / 4)
   pub challenges-long : challenges ≡ 2 * (calls / 4)
+
+-- lengths of all that a list of calls is lent: room for the levels and for a fold, for n challenges, and the calls
+abbrev pub CallsRoom : ℕ → ℕ → ℕ → ℕ → ℕ → ℕ → ℕ → Type 0
+CallsRoom n k levels half kept calls challenges = Room n k levels half × (kept ≡ 2 * n) × CallsLent calls challenges
 
 -- where a list of calls on the codeword c stands, of which the calls `rest` are to come: l are done, the codeword is level l and starts at
 -- the half `from`, the levels up to l are laid, the challenges of the done calls are kept, and behind both stands what was there, the words
@@ -72,15 +68,7 @@ pub record Called (n k l from : ℕ) (x : Call) (levels kept levels′ kept′ :
 abbrev pub Moved : ℕ → ℕ → Progress → Call → List ℕ → List ℕ → List ℕ → List ℕ → Progress → Type 0
 Moved n k at x levels kept levels′ kept′ at′ = Called n k (at .done) (at .from) x levels kept levels′ kept′ (at′ .done) (at′ .from)
 
--- what a list of calls on the codeword c leaves, lent the words `old` of all levels and `oldKept`: how many are done, of the first n; the levels up
--- to that one and what was behind them; the challenges of the done calls and what was behind them
-pub record Left (n k : ℕ) (c old oldKept : List ℕ) (calls : List Call) (done : ℕ) (levels kept : List ℕ) : Type 0 where
-  pub count : done ≡ length (take n (doneFolds c calls))
-  pub each : (l : ℕ) → l ≤ done → levelValues n k (words levels) l ≡ afterFolds c calls l
-  pub behind : drop (levelStart n k (suc done)) (words levels) ≡ drop (levelStart n k (suc done)) old
-  pub kept-are : words kept ≡ challengesOf (take n (doneFolds c calls)) ++ drop done oldKept
-
--- the same of calls on the codeword that stands as level 0, in two buffers at a function's entry and its exit
+-- what is left by calls on the codeword that stands as level 0, in two buffers at a function's entry and its exit
 abbrev pub CallsLeft : ℕ → ℕ → List Call → Both (RefT (List ℕ)) (RefT (List ℕ)) → Both (RefT (List ℕ)) (RefT (List ℕ)) → ℕ → Type 0
 CallsLeft n k calls levels kept done =
     let old : List ℕ = words (now (levels .entry)) in

@@ -10,7 +10,7 @@ use Rattle.theory_code.specs.Gammas.{gammas}
 use Rattle.theory_record.specs.Widths.{present, levelLength, treeLength}
 use Rattle.theory_record.specs.Accepted.{SizesFit}
 use Rattle.theory_record.specs.Sizes.{querySize, tailSize}
-use Rattle.theory_record.specs.Build.{levelsLength, treeStart, levelValues}
+use Rattle.theory_record.specs.Build.{levelsLength, treeStart, levelValues, buildTail}
 use Rattle.theory_record.specs.Trees.{treeFor}
 use Rattle.theory_record.specs.Scheme.{scheme}
 use Rattle.theory_laws.specs.Lists.{flat}
@@ -18,7 +18,7 @@ use Rattle.theory_claim.specs.Commit.{committedCodeword}
 use Rattle.theory_compare.specs.Compare.{messageBuffer}
 use Rattle.theory_compare.specs.Lent.{Slice}
 use Rattle.claim_fold_calls.specs.helpers.Laid.{CallsLent}
-use Rattle.claim_run_parts.specs.Parts.{Deposited}
+use Rattle.claim_run_parts.specs.Parts.{Deposited, lastLevel, lastTree}
 
 -- for committing: a table of 2^n words, room for the gammas, and at least for level 0 and its tree
 pub record CommitRoom (n k base table gammas levels trees : ℕ) : Type 0 where
@@ -84,3 +84,7 @@ abbrev pub DepositLeft : ℕ → ℕ → Slice → Slice → Slice → Slice →
 DepositLeft n k base table calls challenges gammas levels kept trees roots done =
     Deposited n k (now (base .entry)) (now (table .entry)) (now (calls .entry)) (now (challenges .entry)) (now (levels .entry)) (now (kept .entry))
     (now (gammas .exit)) (now (levels .exit)) (now (kept .exit)) (now (trees .exit)) (now (roots .exit)) done
+
+-- a buffer after the tail record of the last level and its tree was built into it
+abbrev pub tailLent : ℕ → ℕ → Slice → Slice → Slice → List ℕ
+tailLent n k levels trees out = buildTail present n k (lastLevel n k (now (levels .entry))) (lastTree n k (now (trees .entry))) (now (out .entry))

@@ -18,19 +18,15 @@ fold-front-requires c κs = search needs
 level-length-requires : tie.Need-level-length-requires
 level-length-requires c κs = search needs
 
-mul-to : tie.Need-mul-to
-mul-to c =
-    let start : tie.Start = search in
-    let sized : tie.After-level-length = search in
-    let w = within (start .pre .0) (sized .level-length .ensures) in
-    search needs
-
 add-to : tie.Need-add-to
 add-to c =
     let start : tie.Start = search in
     let sized : tie.After-level-length = search in
     let w = within (start .pre .0) (sized .level-length .ensures) in
     search needs
+
+mul-to : tie.Need-mul-to
+mul-to c = let sum = add-to c in search needs
 
 add-lay : tie.Need-add-lay
 add-lay c = search needs

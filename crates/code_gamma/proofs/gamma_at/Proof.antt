@@ -3,7 +3,7 @@ use mathlib.Core.Path.{refl, ap, _∙_}
 use mathlib.Core.List.{List}
 use Prim.Native.Nat.{ℕ}
 use Rattle.theory_laws.specs.Lists.{part, leValue}
-use Rattle.hash_chunk.specs.helpers.State.{finished}
+use Rattle.hash_chunk.specs.State.{finished}
 use Rattle.hash_chunk.proofs.Feed.{fits-after}
 use Rattle.code_gamma.specs.helpers.Prefix.{gammaRest}
 use Rattle.code_gamma.proofs.Messages.{length-gammaRest}

@@ -1,4 +1,4 @@
-use Rattle.code_level.specs.helpers.Numbers.{sizeNumber}
+use Rattle.code_level.specs.Sizes.{sizeNumber}
 use Rattle.theory_laws.proofs.Questions.{asks}
 use Rattle.code_level.proofs.size_number.Statement.{statement}
 use Rattle.code_level.proofs.size_number.Tie as tie

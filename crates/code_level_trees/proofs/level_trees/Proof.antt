@@ -25,182 +25,113 @@ abbrev μ-loop : tie.MeasureT-loop
 
 level-length-requires : tie.Need-level-length-requires Inv-loop μ-loop
 level-length-requires c κs =
-    let start = c .before .before .before .before in
-    let p = start .pre in
-    (p .0 .small, omega arith)
+    let start : tie.Start Inv-loop μ-loop = search in
+    (start .pre .0 .small, omega arith)
 
 mul-from : tie.Need-mul-from Inv-loop μ-loop
 mul-from c =
-    let p = (let given = c .before .before in let start = given .before .before .before in start .pre) in
-    let w = first-room _ _ (c .level-length .ensures) (p .0 .levels-long) in
+    let start : tie.Start Inv-loop μ-loop = search in
+    let w = first-room _ _ (c .level-length .ensures) (start .pre .0 .levels-long) in
     search needs
 
 tree-bytes-requires : tie.Need-tree-bytes-requires Inv-loop μ-loop
 tree-bytes-requires c κs =
-    let given = c .before .before in
-    let start = given .before .before .before in
-    let p = start .pre in
-    (p .0 .small, omega arith)
+    let start : tie.Start Inv-loop μ-loop = search in
+    (start .pre .0 .small, omega arith)
 
 put-root-requires : tie.Need-put-root-requires Inv-loop μ-loop
 put-root-requires c κs =
-    let measured = c .before .before in
-    let given = measured .before .before .before in
-    let start = given .before .before .before in
-    let p = start .pre in
-    let t = first-tree-room _ _ (measured .tree-bytes .ensures) (p .0 .trees-long) in
-    (t .1, t .0, omega (arith, p .1))
+    let start : tie.Start Inv-loop μ-loop = search in
+    let measured : tie.After-tree-bytes Inv-loop μ-loop = search in
+    let t = first-tree-room _ _ (measured .tree-bytes .ensures) (start .pre .0 .trees-long) in
+    (t .1, t .0, omega (arith, start .pre .1))
 
 loop-holds : tie.Need-loop-holds Inv-loop μ-loop
 loop-holds c =
-    let rooted = c .before .before in
-    let measured = rooted .before .before .before in
-    let sized = measured .before in
-    let given = sized .before .before in
-    let start = given .before .before .before in
+    let start : tie.Start Inv-loop μ-loop = search in
+    let sized : tie.After-level-length Inv-loop μ-loop = search in
+    let measured : tie.After-tree-bytes Inv-loop μ-loop = search in
+    let rooted : tie.After-put-root Inv-loop μ-loop = search in
     let p = start .pre in
     begun _ _ _ _ (sized .level-length .ensures) (measured .tree-bytes .ensures) (p .0 .trees-long) (p .1) (rooted .put-root .kept .0) (p .2)
     (rooted .put-root .ensures)
 
 put-tree-requires : tie.Need-put-tree-requires Inv-loop μ-loop
 put-tree-requires c κs =
-    let loop = c .before .before in
-    let rooted = loop .before .before .before in
-    let measured = rooted .before .before .before in
-    let given = measured .before .before .before in
-    let start = given .before .before .before in
+    let start : tie.Start Inv-loop μ-loop = search in
+    let turn : tie.In-loop Inv-loop μ-loop = search in
     let p = start .pre in
-    let g = loop .loop .inv in
+    let g = turn .before .loop .inv in
     record {
       room = record { small = p .0 .small; base-le = p .0 .base-le; levels-long = p .0 .levels-long; trees-long = g .trees-long };
-      within = c .before .loop-test .taken;
+      within = turn .loop-test .taken;
       from= = g .from=;
       at= = g .at=;
     }
 
 level-length-requires-2 : tie.Need-level-length-requires-2 Inv-loop μ-loop
 level-length-requires-2 c κs =
-    let passed = c .before .before .before in
-    let loop = passed .before .before in
-    let rooted = loop .before .before .before in
-    let sized = rooted .before .before .before .before in
-    let given = sized .before .before in
-    let start = given .before .before .before in
-    let p = start .pre in
-    (p .0 .small, passed .before .loop-test .taken)
-
-mul-from-2 : tie.Need-mul-from-2 Inv-loop μ-loop
-mul-from-2 c =
-    let p =
-    (let passed = c .before .before .before .before in
-    let loop = passed .before .before in
-    let rooted = loop .before .before .before in
-    let sized = rooted .before .before .before .before in
-    let given = sized .before .before in
-    let start = given .before .before .before in
-    start .pre) in
-    let g = (let grown = c .before .before .before in let loop = grown .before .before .before in loop .loop .inv) in
-    let w =
-    (let grown = c .before .before .before in
-    level-room _ _ _ (grown .before .before .loop-test .taken) (g .from=) (c .level-length2 .ensures) (p .0 .levels-long)) in
-    search needs
+    let start : tie.Start Inv-loop μ-loop = search in
+    let turn : tie.In-loop Inv-loop μ-loop = search in
+    (start .pre .0 .small, turn .loop-test .taken)
 
 add-from : tie.Need-add-from Inv-loop μ-loop
 add-from c =
-    let p =
-    (let passed = c .before .before .before .before in
-    let loop = passed .before .before in
-    let rooted = loop .before .before .before in
-    let sized = rooted .before .before .before .before in
-    let given = sized .before .before in
-    let start = given .before .before .before in
-    start .pre) in
-    let g = (let grown = c .before .before .before in let loop = grown .before .before .before in loop .loop .inv) in
-    let w =
-    (let grown = c .before .before .before in
-    level-room _ _ _ (grown .before .before .loop-test .taken) (g .from=) (c .level-length2 .ensures) (p .0 .levels-long)) in
+    let start : tie.Start Inv-loop μ-loop = search in
+    let turn : tie.In-loop Inv-loop μ-loop = search in
+    let g = turn .before .loop .inv in
+    let w = level-room _ _ _ (turn .loop-test .taken) (g .from=) (c .level-length2 .ensures) (start .pre .0 .levels-long) in
     search needs
+
+mul-from-2 : tie.Need-mul-from-2 Inv-loop μ-loop
+mul-from-2 c = let sum = add-from c in search needs
 
 tree-bytes-requires-2 : tie.Need-tree-bytes-requires-2 Inv-loop μ-loop
 tree-bytes-requires-2 c κs =
-    let grown = c .before .before .before in
-    let loop = grown .before .before .before in
-    let passed = loop .before .before .before .before in
-    let given = passed .before .before .before .before in
-    let start = given .before .before .before .before in
-    let p = start .pre in
-    (p .0 .small, grown .before .before .loop-test .taken)
+    let start : tie.Start Inv-loop μ-loop = search in
+    let turn : tie.In-loop Inv-loop μ-loop = search in
+    (start .pre .0 .small, turn .loop-test .taken)
 
 add-at : tie.Need-add-at Inv-loop μ-loop
 add-at c =
-    let g = (let grown = c .before .before .before .before in let loop = grown .before .before .before in loop .loop .inv) in
+    let g = (let turn : tie.In-loop Inv-loop μ-loop = search in turn .before .loop .inv) in
     let w =
-    (let given = c .before .before in
-    tree-room _ _ _ (given .before .before .before .before .loop-test .taken) (g .at=) (c .tree-bytes2 .ensures) (g .trees-long)) in
+    (let turn : tie.In-loop Inv-loop μ-loop = search in
+    tree-room _ _ _ (turn .loop-test .taken) (g .at=) (c .tree-bytes2 .ensures) (g .trees-long)) in
     search needs
 
 put-root-requires-2 : tie.Need-put-root-requires-2 Inv-loop μ-loop
 put-root-requires-2 c κs =
-    let measured = c .before .before in
-    let given = measured .before .before in
-    let grown = given .before .before in
-    let loop = grown .before .before .before in
-    let g = loop .loop .inv in
-    let t = tree-room _ _ _ (grown .before .before .loop-test .taken) (g .at=) (measured .tree-bytes2 .ensures) (g .trees-long) in
-    (omega arith, search needs, omega (arith, g .place=, g .roots-long, grown .before .before .loop-test .taken))
+    let turn : tie.In-loop Inv-loop μ-loop = search in
+    let measured : tie.After-tree-bytes2 Inv-loop μ-loop = search in
+    let g = turn .before .loop .inv in
+    let t = tree-room _ _ _ (turn .loop-test .taken) (g .at=) (measured .tree-bytes2 .ensures) (g .trees-long) in
+    (omega arith, search needs, omega (arith, g .place=, g .roots-long, turn .loop-test .taken))
 
 add-l : tie.Need-add-l Inv-loop μ-loop
 add-l c =
-    let g =
-    (let passed = c .before .before .before in
-    let sized = passed .before .before .before in
-    let grown = sized .before .before .before in
-    let loop = grown .before .before .before in
-    loop .loop .inv) in
+    let turn : tie.In-loop Inv-loop μ-loop = search in
+    let g = turn .before .loop .inv in
     search needs
 
 loop-less : tie.Need-loop-less Inv-loop μ-loop
-loop-less c =
-    let rooted = c .before .before in
-    let measured = rooted .before .before .before in
-    let given = measured .before .before in
-    let grown = given .before .before in
-    let loop = grown .before .before .before in
-    let g = loop .loop .inv in
-    omega (arith, grown .before .before .loop-test .taken)
+loop-less c = let turn : tie.In-loop Inv-loop μ-loop = search in omega (arith, turn .loop-test .taken)
 
 loop-again : tie.Need-loop-again Inv-loop μ-loop
 loop-again c =
-    let rooted = c .before .before in
-    let measured = rooted .before .before .before in
-    let sized = measured .before in
-    let grown = sized .before .before .before in
-    let loop = grown .before .before .before in
-    let g = loop .loop .inv in
-    grown-more _ _ _ _ g (grown .before .before .loop-test .taken) (sized .level-length2 .ensures) (measured .tree-bytes2 .ensures)
+    let turn : tie.In-loop Inv-loop μ-loop = search in
+    let grown : tie.After-put-tree Inv-loop μ-loop = search in
+    let sized : tie.After-level-length2 Inv-loop μ-loop = search in
+    let measured : tie.After-tree-bytes2 Inv-loop μ-loop = search in
+    let rooted : tie.After-put-root2 Inv-loop μ-loop = search in
+    grown-more _ _ _ _ (turn .before .loop .inv) (turn .loop-test .taken) (sized .level-length2 .ensures) (measured .tree-bytes2 .ensures)
     (grown .put-tree .ensures) (grown .put-tree .kept .1 .1 .1 .1 .1 .1 .0) (rooted .put-root2 .kept .0) (rooted .put-root2 .ensures)
 
 same-length : tie.Need-same-length Inv-loop μ-loop
-same-length c =
-    let loop = c .before in
-    let rooted = loop .before .before .before in
-    let measured = rooted .before .before .before in
-    let given = measured .before .before .before in
-    let start = given .before .before .before in
-    let p = start .pre in
-    let g = loop .loop .inv in
-    g .trees-long ∙ sym (p .0 .trees-long)
+same-length c = let start : tie.Start Inv-loop μ-loop = search in c .before .loop .inv .trees-long ∙ sym (start .pre .0 .trees-long)
 
 same-length-2 : tie.Need-same-length-2 Inv-loop μ-loop
-same-length-2 c =
-    let loop = c .before in
-    let rooted = loop .before .before .before in
-    let measured = rooted .before .before .before in
-    let given = measured .before .before .before in
-    let start = given .before .before .before in
-    let p = start .pre in
-    let g = loop .loop .inv in
-    g .roots-long ∙ sym (p .1)
+same-length-2 c = let start : tie.Start Inv-loop μ-loop = search in c .before .loop .inv .roots-long ∙ sym (start .pre .1)
 
 returns : tie.Need-returns Inv-loop μ-loop
 returns c = let g = c .before .loop .inv in (all-trees _ _ _ _ g (c .loop-test .left), all-roots _ _ _ _ g (c .loop-test .left))

@@ -42,6 +42,10 @@ NodeNoted before at domain level g d sibling after e =
 abbrev pub nodesInto : List ℕ → ℕ → List ℕ → ℕ → List ℕ → List ℕ → ℕ → ℕ → List ℕ
 nodesInto out from domain group leaf s path depth = stored out from (flat (nodesOf domain 0 group leaf (runs 32 depth (drop path s))))
 
+-- there is room for them, of an s and a buffer so long
+abbrev pub NodesRoom : ℕ → ℕ → ℕ → ℕ → ℕ → ℕ → Type 0
+NodesRoom domain s path depth from out = (domain ≤ 255) × (path + 32 * depth ≤ s) × (from + (136 + domain) * depth ≤ out)
+
 -- a buffer with all messages of a way at its front
 abbrev pub chainInto : List ℕ → List ℕ → ℕ → ℕ → ℕ → List ℕ → ℕ → ℕ → ℕ → List ℕ
 chainInto out domain count width place s from path depth =

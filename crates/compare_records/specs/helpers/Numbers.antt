@@ -1,4 +1,4 @@
--- The questions put to a comparison in two parts, what is lent and the records, and its answer. Rests on comparing.
+-- The questions put to a comparison in two parts, what is lent and the records. Rests on comparing.
 use Prim.Native.Nat.{ℕ, _+_, _*_, _^_}
 use mathlib.Core.Bool.{not}
 use mathlib.Core.List.{List, [], _∷_, _++_}
@@ -8,8 +8,7 @@ use Rattle.theory_laws.specs.Questions.{Question, _asks_, firstNo}
 use Rattle.theory_laws.specs.Lists.{same}
 use Rattle.theory_record.specs.Query.{sizeQuestions}
 use Rattle.theory_compare.specs.Lent.{Slice}
-use Rattle.theory_compare.specs.Compare.{accepts, Comparison, messageBuffer}
-use Rattle.compare_records.specs.declared.Compared.{Compared}
+use Rattle.theory_compare.specs.Compare.{accepts, messageBuffer}
 use Rattle.theory_record.specs.Scheme.{scheme}
 
 -- 5, 7 and 11, of lengths
@@ -42,7 +41,3 @@ recordsNumber base n k position challenges roots first second = firstNo (recordQ
 abbrev pub recordsLent : Slice → ℕ → ℕ → ℕ → Slice → Slice → Slice → Slice → ℕ
 recordsLent base n k position challenges roots first second =
     recordsNumber (now (base .entry)) n k position (now (challenges .entry)) (now (roots .entry)) (now (first .entry)) (now (second .entry))
-
--- the answer, as comparing has it
-abbrev pub comparison : Compared → Comparison
-comparison r = record { number = r .number; first = r .first; second = r .second }

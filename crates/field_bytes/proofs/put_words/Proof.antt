@@ -1,11 +1,12 @@
 -- `put_words` meets its contract. The loop's invariant: storing the words that are left gives the final buffer.
-use Rattle.field_bytes.proofs.Puts.{wordBytes, wordsLeft, words-begin, words-step, words-put}
+use Rattle.field_bytes.proofs.Puts.{wordsLeft, words-begin, words-step, words-put}
 use Prim.Native.Nat.{_-_, _≤_, _+_, _*_}
 use mathlib.Core.Path.{_≡_, refl}
 use lib.ListN.{length}
 use Rattle.theory_laws.specs.Lists.{stored}
 use Rattle.theory_field.specs.Words.{words}
 use Rattle.theory_field.proofs.Words.{words-there}
+use Rattle.field_bytes.specs.Words.{wordBytes}
 use denote.Ref.{now}
 use native.Mathlib.Omega.{arith}
 use borrow.Author.Needs.{needs}

@@ -5,6 +5,7 @@ use mathlib.Core.List.{List}
 use lib.ListN.{length}
 use Rattle.theory_laws.specs.Xor.{_⊕_}
 use Rattle.theory_laws.specs.Table.{tab, at}
+use Rattle.theory_blake3.specs.Compression.{compress, cv}
 
 -- the n words of lane l
 unfoldable pub lane : ℕ → List ℕ → ℕ → List ℕ
@@ -13,6 +14,10 @@ lane n s l = tab n (λ i. at s (4 * i + l))
 -- lane k of s is f k, for each of the four
 abbrev pub Each : ℕ → List ℕ → (ℕ → List ℕ) → Type 0
 Each n s f = (k : ℕ) → k < 4 → lane n s k ≡ f k
+
+-- lane k's chaining value after one more block, of the chaining values h, the blocks m and a counter for each lane
+abbrev pub compressed : List ℕ → List ℕ → List ℕ → ℕ → ℕ → ℕ → List ℕ
+compressed h m counters len flags k = cv (compress (lane 8 h k) (lane 16 m k) (at counters k) len flags)
 
 -- the chaining value that a state gives: its two halves added
 unfoldable pub value : List ℕ → List ℕ

@@ -3,7 +3,7 @@ use mathlib.Core.Path.{_≡_, refl}
 use Prim.Native.Nat.{_≤_}
 use native.Mathlib.Omega.{arith}
 use borrow.Author.Needs.{needs}
-use Rattle.hash_stack.specs.helpers.Push as S
+use Rattle.theory_blake3.specs.Stack as S
 use Rattle.hash_stack.proofs.Array.{joined-turn, joined-end}
 use Rattle.hash_stack.proofs.joined.Statement.{statement}
 use Rattle.hash_stack.proofs.joined.Tie as tie

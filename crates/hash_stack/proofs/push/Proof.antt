@@ -1,7 +1,7 @@
 -- `stack::push` meets its contract.
 use mathlib.Core.Path.{refl, ap, _∙_}
 use Rattle.theory_laws.specs.Lists.{stored}
-use Rattle.hash_stack.specs.helpers.Push as S
+use Rattle.theory_blake3.specs.Stack as S
 use borrow.Author.Needs.{needs}
 use Rattle.hash_stack.proofs.push.Statement.{statement}
 use Rattle.hash_stack.proofs.push.Tie as tie

@@ -5,7 +5,7 @@ use native.Mathlib.Omega.{arith}
 use lib.ListN.{length}
 use Rattle.theory_field.specs.Words.{words}
 use Rattle.theory_field.proofs.Words.{length-words-even}
-use Rattle.field_equality.specs.Eq.{Sizes}
+use Rattle.field_equality.specs.helpers.Sizes.{Sizes}
 use Rattle.field_equality.proofs.Growing.{sizes}
 use Rattle.field_pack.specs.Phi.{coefficients}
 use Rattle.ring_indicator.proofs.Materialized.{materialized}

@@ -6,7 +6,7 @@ use lib.ListN.{drop}
 use Rattle.theory_laws.specs.Lists.{runs, flat, stored}
 use Rattle.theory_field.specs.Words.{words}
 use Rattle.theory_blake3.specs.Digest.{hash}
-use Rattle.theory_merkle.specs.Tree.{leavesFrom, parents}
+use Rattle.theory_merkle.specs.Tree.{leaves, leavesFrom, parents}
 use Rattle.tree_place.specs.helpers.Yes.{BuildYes}
 use Rattle.tree_message.specs.helpers.Buffers.{leafBuffer}
 use Rattle.tree_four_messages.specs.helpers.Strides.{stride}
@@ -21,6 +21,10 @@ pub record LeavesFit (domain count width values tree first message : ℕ) : Type
 abbrev pub laterLeaves : List ℕ → List ℕ → ℕ → ℕ → ℕ → List ℕ → List ℕ
 laterLeaves tree domain count width first values =
     stored tree (32 * first) (flat (leavesFrom hash domain count width first (runs width (count / width - first) (drop (width * first) (words values)))))
+
+-- all leaves, from the front of the buffer
+abbrev pub allLeaves : List ℕ → List ℕ → ℕ → ℕ → List ℕ → List ℕ
+allLeaves tree domain count width values = stored tree 0 (flat (leaves hash domain count width (words values)))
 
 -- parents of a level's 2 × half digests, which start at byte `from`, can be put right after them, from parent `first` on
 pub record ParentsFit (domain tree from half first message : ℕ) : Type 0 where

@@ -1,35 +1,42 @@
 -- `tree_by_fours::put_leaves` meets its contract.
 -- The loop's invariant: storing the leaves of the groups that are left gives the final buffer, and the messages' prefixes are kept.
 use denote.Ref.{now}
-use Prim.Native.Nat.{_≤_, _-_, _+_, _*_, _/_, _%_}
-use mathlib.Core.Path.{_≡_, refl, sym, _∙_, ap}
+use Prim.Native.Nat.{_-_, _+_, _*_, _/_, _≤_}
+use mathlib.Core.Path.{_≡_, sym, _∙_}
 use native.Mathlib.Omega.{arith}
-use lib.ListN.{length, drop}
+use lib.ListN.{drop}
 use borrow.Author.Needs.{needs}
 use Rattle.theory_laws.specs.Lists.{runs, flat, stored}
 use Rattle.theory_field.specs.Words.{words}
 use Rattle.theory_blake3.specs.Digest.{hash}
 use Rattle.theory_merkle.specs.Message.{leafPrefix}
 use Rattle.theory_merkle.specs.Tree.{leavesFrom}
-use Rattle.tree_digest.proofs.Messages.{message-length, prefix-is}
-use Rattle.tree_four_messages.specs.helpers.Strides.{Each}
+use Rattle.tree_digest.proofs.Messages.{message-length}
 use Rattle.tree_four_messages.proofs.Values.{group-length}
-use Rattle.tree_four_messages.proofs.Whole.{prefixes-stand, kept-whole, common}
-use Rattle.tree_by_fours.specs.helpers.Fours.{byFours}
-use Rattle.tree_by_fours.proofs.Walk.{Begun, begun, front-sized}
+use Rattle.tree_by_fours.proofs.Walk.{Walk, walk-begin, four-left, walk-common, walk-turn}
 use Rattle.tree_by_fours.proofs.Leaves.{four-room, leaves-none, leaves-begin, leaves-turn, leaves-end}
 use Rattle.tree_by_fours.proofs.put_leaves.Statement.{statement}
 use Rattle.tree_by_fours.proofs.put_leaves.Tie as tie
 
 abbrev Inv-loop : tie.InvT-loop
 Inv-loop tree₀ messages₀ domain count width values all prefix h blocks size from₀ to₀ g₀ tree messages from to g =
-    (g ≤ all) × (g % 4 ≡ 0) × (from ≡ 2 * (width * g)) × (to ≡ 32 * g) × (length tree ≡ length tree₀) × (length messages ≡ length messages₀)
-    × Begun (leafPrefix domain count width) h prefix (24 + 16 * width) all (count / width) × Each prefix messages (λ k. leafPrefix domain count width)
+    (from ≡ 2 * (width * g)) × (to ≡ 32 * g)
+    × Walk (leafPrefix domain count width) h prefix (24 + 16 * width) all (count / width) g tree₀ messages₀ tree messages
     × (stored tree to (flat (leavesFrom hash domain count width g (runs width (all - g) (drop (width * g) (words values)))))
     ≡ stored tree₀ 0 (flat (leavesFrom hash domain count width 0 (runs width all (words values)))))
 
 abbrev μ-loop : tie.MeasureT-loop
 μ-loop tree₀ messages₀ domain count width values all prefix h blocks size from₀ to₀ g₀ tree messages from to g = all - g
+
+-- where the function began, seen from a turn
+abbrev start-of : tie.In-loop Inv-loop μ-loop → tie.Start Inv-loop μ-loop
+start-of c = search
+
+-- the four groups of a turn are within the values
+four-fit : (c : tie.In-loop Inv-loop μ-loop) → let a = start-of c .args in a .width * c .before .loop .g + 4 * a .width ≤ a .count
+four-fit c =
+    let walk = c .before .loop .inv .2 in
+    four-room _ _ _ (start-of c .pre .0 .shaped .shape) (omega (arith, four-left walk (c .loop-test .taken), walk .begun .within))
 
 add-by-fours : tie.Need-add-by-fours Inv-loop μ-loop
 add-by-fours c = search needs
@@ -75,22 +82,14 @@ add-size-2 c = search needs
 
 loop-holds : tie.Need-loop-holds Inv-loop μ-loop
 loop-holds c =
-    let start : tie.Start Inv-loop μ-loop = search in
     let after-leaf-prefix : tie.After-leaf-prefix Inv-loop μ-loop = search in
-    let after-by-fours = after-leaf-prefix .before .before .before in
-    let p = after-leaf-prefix .leaf-prefix .ensures in
-    let a = start .args in
-    let e = prefix-is _ _ _ _ _ p (omega arith) in
-    let s = front-sized _ _ _ _ _ p in (
-      search needs,
-      refl,
+    let after-by-fours : tie.After-by-fours Inv-loop μ-loop = search in
+    let after-begin : tie.After-begin Inv-loop μ-loop = search in
+    let p = after-leaf-prefix .leaf-prefix .ensures in (
       search needs,
       search needs,
-      refl,
-      refl,
-      begun _ _ _ _ _ _ _ e s (c .before .before .begin .ensures .1)
-          (after-by-fours .by-fours .ensures ∙ ap (λ i. byFours i (a .count / a .width)) (omega (arith, p .end))),
-      prefixes-stand _ _ _ _ e s (c .before .before .begin .ensures .0),
+      walk-begin _ _ _ _ _ _ _ _ _ _ _ _ p (omega arith) (after-begin .begin .ensures .0) (after-begin .begin .ensures .1)
+          (after-by-fours .by-fours .ensures) (omega (arith, p .end)),
       leaves-begin _ _ _ _ _ _,
     )
 
@@ -98,23 +97,13 @@ mul-end : tie.Need-mul-end Inv-loop μ-loop
 mul-end c = search needs
 
 add-end : tie.Need-add-end Inv-loop μ-loop
-add-end c =
-    let start : tie.Start Inv-loop μ-loop = search in
-    omega (
-      arith,
-      four-room _ _ (c .before .loop .g) (start .pre .0 .shaped .shape)
-          (omega (arith, c .before .loop .inv .6 .whole, c .before .loop .inv .6 .within)),
-    )
+add-end c = omega (arith, four-fit c)
 
 numbered-requires : tie.Need-numbered-requires Inv-loop μ-loop
 numbered-requires c κs = search needs
 
 mul-put-leaf-rests : tie.Need-mul-put-leaf-rests Inv-loop μ-loop
-mul-put-leaf-rests c =
-    let start : tie.Start Inv-loop μ-loop = search in
-    let at-loop : tie.At-loop Inv-loop μ-loop = search in
-    let q = at-loop .loop in
-    omega (arith, four-room _ _ (q .g) (start .pre .0 .shaped .shape) (omega (arith, q .inv .6 .whole, q .inv .6 .within)))
+mul-put-leaf-rests c = let w = (let in-loop : tie.In-loop Inv-loop μ-loop = search in four-fit in-loop) in omega arith
 
 sub-put-leaf-rests : tie.Need-sub-put-leaf-rests Inv-loop μ-loop
 sub-put-leaf-rests c = search needs
@@ -123,68 +112,59 @@ part-put-leaf-rests-start : tie.Need-part-put-leaf-rests-start Inv-loop μ-loop
 part-put-leaf-rests-start c = search needs
 
 part-put-leaf-rests-end : tie.Need-part-put-leaf-rests-end Inv-loop μ-loop
-part-put-leaf-rests-end c =
-    let start : tie.Start Inv-loop μ-loop = search in
-    let at-loop : tie.At-loop Inv-loop μ-loop = search in
-    let q = at-loop .loop in
-    omega (arith, four-room _ _ (q .g) (start .pre .0 .shaped .shape) (omega (arith, q .inv .6 .whole, q .inv .6 .within)))
+part-put-leaf-rests-end c = let w = (let in-loop : tie.In-loop Inv-loop μ-loop = search in four-fit in-loop) in omega arith
 
 put-leaf-rests-requires : tie.Need-put-leaf-rests-requires Inv-loop μ-loop
 put-leaf-rests-requires c κs =
     let start : tie.Start Inv-loop μ-loop = search in
+    let in-loop : tie.In-loop Inv-loop μ-loop = search in
     let after-numbered : tie.After-numbered Inv-loop μ-loop = search in
-    let at-loop = after-numbered .before .before in
-    let q = at-loop .loop in
+    let q = in-loop .before .loop in
+    let walk = q .inv .2 in
     let a = start .args in
     let y = start .pre .0 in
-    let r = four-room _ _ (q .g) (y .shaped .shape) (omega (arith, q .inv .6 .whole, q .inv .6 .within)) in
     record {
-      halves = group-length (now (a .values)) (q .from) (8 * a .width) (omega (arith, y .values-is));
-      chunk = q .inv .6 .fits (omega arith);
+      halves = group-length (now (a .values)) (q .from) (8 * a .width) (omega (arith, four-fit in-loop, y .values-is, q .inv .0));
+      chunk = walk .begun .fits (omega arith);
       strides = omega arith;
-      numbers = omega (arith, after-numbered .numbered .ensures, q .inv .6 .within, y .shaped .groups-le);
+      numbers =
+          omega (arith, after-numbered .numbered .ensures, four-left walk (in-loop .loop-test .taken), walk .begun .within, y .shaped .groups-le);
     }
 
 put-digests-requires : tie.Need-put-digests-requires Inv-loop μ-loop
 put-digests-requires c κs =
     let start : tie.Start Inv-loop μ-loop = search in
-    let at-loop : tie.At-loop Inv-loop μ-loop = search in
-    let q = at-loop .loop in
-    let y = start .pre .0 in (
-      common _ _ _ _ _ _ (q .inv .6 .sized) (q .inv .7) (c .before .before .before .before .put-leaf-rests .ensures) _ (q .inv .6 .value) (omega arith)
-          (q .inv .6 .fits (omega arith)) (omega arith),
-      omega (arith, q .inv .6 .whole, q .inv .6 .within, y .tree-is),
+    let in-loop : tie.In-loop Inv-loop μ-loop = search in
+    let after-put-leaf-rests : tie.After-put-leaf-rests Inv-loop μ-loop = search in
+    let walk = in-loop .before .loop .inv .2 in
+    let more = in-loop .loop-test .taken in (
+      walk-common walk more _ _ (after-put-leaf-rests .put-leaf-rests .ensures) (omega arith) (omega (arith, walk .strides-long, start .pre .1)),
+      omega (arith, in-loop .before .loop .inv .1, four-left walk more, walk .begun .within, walk .tree-long, start .pre .0 .tree-is),
     )
 
 add-g : tie.Need-add-g Inv-loop μ-loop
 add-g c =
     let start : tie.Start Inv-loop μ-loop = search in
     let at-loop : tie.At-loop Inv-loop μ-loop = search in
-    omega (arith, at-loop .loop .inv .6 .within, start .pre .0 .shaped .groups-le)
+    omega (arith, at-loop .loop .inv .2 .begun .within, start .pre .0 .shaped .groups-le)
 
 loop-less : tie.Need-loop-less Inv-loop μ-loop
 loop-less c = search needs
 
 loop-again : tie.Need-loop-again Inv-loop μ-loop
 loop-again c =
-    let after-by-fours : tie.After-by-fours Inv-loop μ-loop = search in
+    let in-loop : tie.In-loop Inv-loop μ-loop = search in
     let after-put-leaf-rests : tie.After-put-leaf-rests Inv-loop μ-loop = search in
     let after-numbered : tie.After-numbered Inv-loop μ-loop = search in
-    let at-loop = after-numbered .before .before in
-    let q = at-loop .loop in
-    let z = q .inv .6 .sized in
+    let inv = in-loop .before .loop .inv in
+    let walk = inv .2 in
+    let more = in-loop .loop-test .taken in
     let f = rw (after-numbered .numbered .ensures) at (after-put-leaf-rests .put-leaf-rests .ensures) in
-    let p = c .before .before .put-digests .ensures in
-    let in-all : q .g + 4 ≤ after-by-fours .by-fours .result = omega (arith, q .inv .6 .whole) in (
-      in-all,
-      omega arith,
+    let p = c .before .before .put-digests .ensures in (
       omega arith,
       omega (arith, p .end),
-      search needs,
-      search needs,
-      q .inv .6,
-      kept-whole _ _ _ _ _ _ z (q .inv .7) f,
-      leaves-turn _ _ _ _ _ _ (q .inv .2) _ _ _ z (q .inv .7) f _ _ _ _ _ _ in-all p (q .inv .8),
+      walk-turn walk more _ _ f _ (search needs) (search needs),
+      leaves-turn _ _ _ _ _ _ (inv .0) _ _ _ (walk .begun .sized) (walk .prefixes) f _ _ _ _ _ _ (four-left walk more) p (inv .3),
     )
 
 same-length : tie.Need-same-length Inv-loop μ-loop
@@ -196,7 +176,7 @@ same-length-2 c = search needs
 returns-2 : tie.Need-returns-2 Inv-loop μ-loop
 returns-2 c =
     let after-by-fours : tie.After-by-fours Inv-loop μ-loop = search in
-    (after-by-fours .by-fours .ensures, leaves-end _ _ _ _ _ _ _ _ _ (c .loop-test .left) (c .before .loop .inv .8))
+    (after-by-fours .by-fours .ensures, leaves-end _ _ _ _ _ _ _ _ _ (c .loop-test .left) (c .before .loop .inv .3))
 
 pub put-leaves-spec : {M : Type 1} → statement M
 put-leaves-spec =

@@ -4,7 +4,7 @@ use mathlib.Core.List.{_++_}
 use Prim.Native.Nat.{ℕ}
 use Rattle.theory_laws.specs.Lists.{leBytes}
 use Rattle.theory_laws.proofs.Lists.{length-leBytes}
-use Rattle.hash_chunk.specs.helpers.State.{fed}
+use Rattle.hash_chunk.specs.State.{fed}
 use Rattle.hash_chunk.proofs.Feed.{fits-after, fed-then}
 use Rattle.theory_merkle.specs.Message.{prefixed}
 use borrow.Author.Needs.{needs}

@@ -7,7 +7,7 @@ use lib.Dec.{lit≤}
 use Rattle.theory_laws.specs.Lists.{leBytes}
 use Rattle.theory_laws.proofs.Lists.{length-leBytes}
 use Rattle.hash_chunk.specs.declared.state.ChunkState.{ChunkState}
-use Rattle.hash_chunk.specs.helpers.State.{started, fed}
+use Rattle.hash_chunk.specs.State.{started, fed}
 use Rattle.hash_chunk.proofs.Feed.{fed-then}
 use Rattle.theory_merkle.specs.Message.{prefixed}
 use Rattle.theory_code.specs.Gammas.{gammaLabel}

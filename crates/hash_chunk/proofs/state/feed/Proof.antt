@@ -6,7 +6,7 @@ use native.Mathlib.Omega.{arith}
 use borrow.Author.Needs.{needs}
 use lib.ListN.{length, drop, drop-of-length-le}
 use denote.Ref.{now}
-use Rattle.hash_chunk.specs.helpers.State as S
+use Rattle.hash_chunk.specs.State as S
 use Rattle.hash_chunk.proofs.Feed.{Roomed, roomed-full, roomed-not, feed-turn}
 use Rattle.hash_chunk.proofs.state.feed.Statement.{statement}
 use Rattle.hash_chunk.proofs.state.feed.Tie as tie

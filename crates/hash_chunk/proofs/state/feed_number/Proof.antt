@@ -1,6 +1,6 @@
 -- `chunk::state::feed_number` meets its contract.
 use mathlib.Core.Path.{ap, _∙_}
-use Rattle.hash_chunk.specs.helpers.State as S
+use Rattle.hash_chunk.specs.State as S
 use borrow.Author.Needs.{needs}
 use Rattle.hash_chunk.proofs.state.feed_number.Statement.{statement}
 use Rattle.hash_chunk.proofs.state.feed_number.Tie as tie

@@ -3,7 +3,7 @@ use mathlib.Core.Path.{refl, ap, sym, _∙_}
 use native.Mathlib.Omega.{arith}
 use Rattle.theory_laws.specs.Lists.{leBytes}
 use Rattle.theory_laws.proofs.Lists.{length-leBytes}
-use Rattle.hash_chunk.specs.helpers.State as S
+use Rattle.hash_chunk.specs.State as S
 use Rattle.hash_chunk.proofs.Feed.{fits-after, fed-then}
 use borrow.Author.Needs.{needs}
 use Rattle.hash_chunk.proofs.state.feed_word.Statement.{statement}

@@ -2,7 +2,7 @@
 use mathlib.Core.Path.{ap, _∙_}
 use Rattle.theory_blake3.specs.Compression.{cv}
 use Rattle.theory_blake3.specs.Digest.{bytesOfWords32}
-use Rattle.hash_chunk.specs.helpers.State as S
+use Rattle.hash_chunk.specs.State as S
 use borrow.Author.Needs.{needs}
 use Rattle.hash_chunk.proofs.state.finish.Statement.{statement}
 use Rattle.hash_chunk.proofs.state.finish.Tie as tie

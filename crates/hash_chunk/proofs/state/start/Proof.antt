@@ -1,6 +1,6 @@
 -- `chunk::state::start` meets its contract.
 use mathlib.Core.Path.{refl}
-use Rattle.hash_chunk.specs.helpers.State as S
+use Rattle.hash_chunk.specs.State as S
 use Rattle.hash_chunk.proofs.state.start.Statement.{statement}
 use Rattle.hash_chunk.proofs.state.start.Tie as tie
 

@@ -9,13 +9,14 @@ use denote.Ref.{now}
 use Rattle.theory_laws.specs.Lists.{part}
 use Rattle.theory_laws.proofs.Lists.{length-part}
 use Rattle.hash_hasher.specs.Hasher as S
+use Rattle.hash_hasher.specs.helpers.Counts.{Counts}
 use Rattle.hash_hasher.proofs.Absorb.{Roomed, roomed-full, roomed-not, lent-fits, lent-fed, counts-same, absorb-turn, absorb-counts}
 use Rattle.hash_hasher.proofs.hasher.absorb.Statement.{statement}
 use Rattle.hash_hasher.proofs.hasher.absorb.Tie as tie
 
 abbrev Inv-loop : tie.InvT-loop
 Inv-loop input s₀ i₀ s i =
-    (i ≤ length input) × (S.Counts s (length input - i)) × (S.absorbed s (drop i input) ≡ S.absorbed s₀ input)
+    (i ≤ length input) × (Counts s (length input - i)) × (S.absorbed s (drop i input) ≡ S.absorbed s₀ input)
 
 abbrev μ-loop : tie.MeasureT-loop
 μ-loop input s₀ i₀ s i = length input - i

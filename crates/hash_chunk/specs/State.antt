@@ -1,6 +1,7 @@
--- What the functions over a chunk's state do, for every state. That feeding a new state gives the chunk of the specification, and
--- the digest where it is the whole message, are laws (proofs/Stands).
-use Prim.Native.Nat.{ℕ, _+_, _*_, _≤_}
+-- A chunk that is fed byte by byte in a state by value, for every state: how it starts, what a byte changes, and its last block. Rests on the
+-- chunk's blocks. That feeding a new state gives the chunk of the specification, and the digest where it is the whole message, are laws
+-- (proofs/Stands).
+use Prim.Native.Nat.{ℕ, _+_}
 use mathlib.Core.List.{List, [], _∷_}
 use lib.Dec.{eqb}
 use lib.ListN.{take, set, replicate}
@@ -50,8 +51,3 @@ lastOf s x = last (s .flags) (s .h) (startFlag (s .blocks)) (s .counter) (take (
 -- the digest of a message that is this chunk alone
 unfoldable pub finished : ChunkState → List ℕ
 finished s = bytesOfWords32 (cv (lastOf s rootNode))
-
--- there is room in the chunk for n bytes more
-pub record Fits (s : ChunkState) (n : ℕ) : Type 0 where
-  pub within : s .fill ≤ 64
-  pub small : 64 * s .blocks + s .fill + n ≤ 1024

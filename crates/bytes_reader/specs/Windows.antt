@@ -1,4 +1,4 @@
--- What is read at a place of bytes.
+-- What is read at a place of bytes: a window of 32, with zeros past the end, and how many bytes are left there.
 use Prim.Native.Nat.{ℕ, _+_, _-_}
 use mathlib.Core.List.{List}
 use lib.ListN.{length, getD}
