@@ -14,5 +14,6 @@ pub fn fold_into(var: usize, r: Word, src: &[u64], out: &mut [u64])
     ensures { λ _. ⌜ words (now (out .exit)) ≡ foldList var (word r) (words (now (src .entry))) ⌝ }
 {
     let mut multiples = [0u64; 8192];
+    field_runs::align(&mut multiples, src);
     field_runs::fold(out, src, var as u64, r, &mut multiples);
 }

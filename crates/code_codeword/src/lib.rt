@@ -133,6 +133,7 @@ fn encode_blocks(n: usize, k: usize, table: &[u64], gammas: &[u64], out: &mut [u
     ensures { λ _. ⌜ words (now (out .exit)) ≡ C.encode n k (words (now (gammas .entry))) (words (now (table .entry))) ⌝ }
 {
     let mut multiples = [0u64; 8192];
+    field_runs::align(&mut multiples, table);
     let size = table.len();
     let count = power(k);
     let mut eps = 0;
