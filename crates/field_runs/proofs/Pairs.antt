@@ -1,5 +1,5 @@
 -- The pairs at bit i, run by run, as the loops over pairs go: where a run's pairs have their places, what a run done leaves, and that
--- a run ends within the slice.
+-- a run ends within the slice. And the places of one pair, as code computes them.
 use mathlib.Core.Path.{_≡_, sym, ap, ap₂, _∙_, subst}
 use mathlib.Core.List.{List}
 use Prim.Native.Nat.{ℕ, zero, suc, _+_, _*_, _/_, _%_, _^_, _≤_, _<_}
@@ -9,7 +9,7 @@ use native.Mathlib.Omega.{arith}
 use lib.Pow.{pow-mono}
 use Rattle.theory_laws.specs.Table.{at}
 use Rattle.theory_laws.specs.Places.{ins}
-use Rattle.theory_laws.proofs.Places.{ins-at, fits-block}
+use Rattle.theory_laws.proofs.Places.{ins-at, ins-lt, ins-hi, fits-block}
 use Rattle.theory_laws.proofs.Numbers.{pow-below}
 use Rattle.theory_laws.proofs.Updates.{updated, updated-turn}
 use Rattle.theory_multilinear.specs.Fold.{line, foldAt}
@@ -79,7 +79,14 @@ module _ (i half q : ℕ) (stride : half ≡ 2 ^ i) (F : First i q) where
       (steps-take (Done m i d t) _ q half l
       (λ j k o D. pass-step m i d t (q + j) k h (omega arith) D (q + q + j) (q + q + half + j) (low j o) (high j o)) done)
 
--- ---- the runs of a slice
+-- ---- the pairs of a slice
+
+-- lo and hi are the places of pair q, and both words are in the slice
+pub record Pair (i halves q lo hi : ℕ) : Type 0 where
+  pub first : lo ≡ ins i 0 q
+  pub second : hi ≡ ins i 1 q
+  pub inside : 2 * hi + 1 < halves
+  pub order : lo ≤ hi
 
 module _ (i halves : ℕ) (p : Paired i halves) (fits : halves < 2 ^ 64) where
   -- the code may shift by i
@@ -92,3 +99,15 @@ module _ (i halves : ℕ) (p : Paired i halves) (fits : halves < 2 ^ 64) where
   -- a run that begins within the slice ends within it
   pub run-within : (q : ℕ) → First i q → q < halves / 4 → q + 1 * 2 ^ i % 2 ^ 64 ≤ halves / 4
   run-within q F h = omega (arith, stride, p .size, F .is, fits-block i (p .m) (F .run) (p .has) (omega (arith, p .size, F .is)))
+
+  -- the places of pair q, where its first is computed by itself
+  pub pair : (q lo : ℕ) → 4 * q + 4 ≤ halves → ((j : ℕ) → 1 * 2 ^ i % 2 ^ 64 ≡ 2 ^ j → lo ≡ ins j 0 q)
+      → Pair i halves q lo (lo + 1 * 2 ^ i % 2 ^ 64)
+  pair q lo h e =
+      let second : lo + 1 * 2 ^ i % 2 ^ 64 ≡ ins i 1 q = omega (arith, e i stride, stride, ins-hi i q) in
+      record {
+        first = e i stride;
+        second = second;
+        inside = omega (arith, second, p .size, ins-lt i (p .m) 1 q (p .has) (omega arith) (omega (arith, p .size)));
+        order = omega arith;
+      }

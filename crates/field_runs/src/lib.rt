@@ -3,9 +3,10 @@
 // constant: so the compiler makes a loop for each kernel, with the lookups written out in it.
 ghost use mathlib.Core.Path.{_≡_};
 ghost use mathlib.Core.List.{map};
-ghost use Prim.Native.Nat.{_+_, _*_, _%_, _<_, _≤_};
+ghost use Prim.Native.Nat.{ℕ, _+_, _*_, _%_, _^_, _<_, _≤_};
 ghost use lib.ListN.{length, set};
 ghost use Rattle.theory_laws.specs.Table.{at};
+ghost use Rattle.theory_laws.specs.Places.{ins};
 ghost use Rattle.theory_field.specs.Field.{_⊗_};
 ghost use Rattle.theory_field.specs.Words.{words};
 ghost use Rattle.field_gf128.specs.Word.{word};
@@ -83,6 +84,14 @@ pub fn axpy(y: &mut [u64], x: &[u64], r: Word, t: &mut [u64])
 }
 
 // ---- pair by pair. At bit i the pairs come in runs of 2^i: pair q + j of the run from q on has the places q + q + j and 2^i further on.
+
+// The first place of pair q, where the places of a pair are `half` apart: q with a bit 0 put in there. For the crates above that take pairs one by one.
+pub fn first(q: usize, half: usize) -> usize
+    requires { ⌜ (0 < half) × (q + q < 2 ^ 64) ⌝ }
+    ensures { λ r. ⌜ ((i : ℕ) → half ≡ 2 ^ i → r ≡ ins i 0 q) ⌝ }
+{
+    q + q - (q & (half - 1))
+}
 
 // a + r × (a + b).
 fn line_at(t: &[u64], bits: u64, r: Word, a: Word, b: Word) -> Word
