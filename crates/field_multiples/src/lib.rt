@@ -92,12 +92,12 @@ fn half(t: &[u64], b: u64, n: usize, j: usize, h: u64) -> Word
     p
 }
 
-// The product with w, n windows to each half.
+// The product with w, n windows to each half. The high half comes first: the compiler then leaves both in plain registers.
 fn windows(t: &[u64], b: u64, n: usize, w: Word) -> Word
     requires { ⌜ (b < 64) × (b * n ≡ 64) × (2 * ((n + n) * 2 ^ b) ≤ length (now t)) ⌝ }
     ensures { λ p. ⌜ ((r : ℕ) → Multiples b ((n + n) * 2 ^ b) r (words (now (t .entry))) → word p ≡ r ⊗ word w) ⌝ }
 {
-    field_gf128::add(half(t, b, n, 0, w.lo), half(t, b, n, n, w.hi))
+    field_gf128::add(half(t, b, n, n, w.hi), half(t, b, n, 0, w.lo))
 }
 
 // The kernel that is quickest for n products by r, and its table. The bound is where the times cross, the filling counted.

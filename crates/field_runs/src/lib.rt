@@ -147,15 +147,16 @@ pub fn fold(out: &mut [u64], src: &[u64], i: u64, r: Word, t: &mut [u64])
     }
 }
 
-// d × (a + b) added to the words a and b at two places.
+// d × (a + b) added to the words a and b at two places. They are read again where they are stored, and not kept meanwhile.
 fn add_to_pair(s: &mut [u64], lo: usize, hi: usize, t: &[u64], bits: u64, d: Word)
-    requires { ⌜ (2 * lo + 1 < length (now s)) × (2 * hi + 1 < length (now s)) × Ready bits (word d) (now t) ⌝ }
+    requires { ⌜ (lo < hi) × (2 * hi + 1 < length (now s)) × Ready bits (word d) (now t) ⌝ }
     ensures { λ _. ⌜ words (now (s .exit)) ≡ turn lo hi (word d) (words (now (s .entry))) ⌝ }
 {
+    let sum = field_gf128::add(field_words::get(s, lo), field_words::get(s, hi));
+    let p = field_multiples::times(t, bits, d, sum);
     let a = field_words::get(s, lo);
-    let b = field_words::get(s, hi);
-    let p = field_multiples::times(t, bits, d, field_gf128::add(a, b));
     field_words::put(s, lo, field_gf128::add(a, p));
+    let b = field_words::get(s, hi);
     field_words::put(s, hi, field_gf128::add(b, p));
 }
 
