@@ -108,8 +108,8 @@ fn shift_block(
     }
 }
 
-// Block eps of the codeword: block 0 is the table.
-fn encode_block(
+// Block eps of the codeword: block 0 is the table. A helper for this crate and for those above: it requires the sizes that are asked for.
+pub fn encode_block(
     n: usize,
     k: usize,
     eps: usize,

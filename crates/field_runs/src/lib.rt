@@ -48,7 +48,7 @@ pub fn axpy(y: &mut [u64], x: &[u64], r: Word, t: &mut [u64])
 }
 
 // The first place of pair q, where the places of a pair are `half` apart: q with a bit 0 put in there.
-fn first(q: usize, half: usize) -> usize
+pub fn first(q: usize, half: usize) -> usize
     requires { ⌜ (0 < half) × (q + q < 2 ^ 64) ⌝ }
     ensures { λ r. ⌜ ((i : ℕ) → half ≡ 2 ^ i → r ≡ ins i 0 q) ⌝ }
 {

@@ -22,14 +22,14 @@ use Rattle.tree_by_fours.proofs.put_leaves.Statement.{statement}
 use Rattle.tree_by_fours.proofs.put_leaves.Tie as tie
 
 abbrev Inv-loop : tie.InvT-loop
-Inv-loop tree₀ messages₀ domain count width values all prefix h blocks size from₀ to₀ g₀ tree messages from to g =
-    (g ≤ all) × (g % 4 ≡ 0) × (from ≡ 2 * (width * g)) × (to ≡ 32 * g) × (length tree ≡ length tree₀) × (length messages ≡ length messages₀)
-    × Begun (leafPrefix domain count width) h prefix (24 + 16 * width) all (count / width) × Each prefix messages (λ k. leafPrefix domain count width)
-    × (stored tree to (flat (leavesFrom hash domain count width g (runs width (all - g) (drop (width * g) (words values)))))
-    ≡ stored tree₀ 0 (flat (leavesFrom hash domain count width 0 (runs width all (words values)))))
+Inv-loop out₀ messages₀ domain count width first groups values all prefix h blocks size from₀ to₀ g₀ out messages from to g =
+    (g ≤ all) × (g % 4 ≡ 0) × (from ≡ 2 * (width * g)) × (to ≡ 32 * g) × (length out ≡ length out₀) × (length messages ≡ length messages₀)
+    × Begun (leafPrefix domain count width) h prefix (24 + 16 * width) all groups × Each prefix messages (λ k. leafPrefix domain count width)
+    × (stored out to (flat (leavesFrom hash domain count width (first + g) (runs width (all - g) (drop (width * g) (words values)))))
+    ≡ stored out₀ 0 (flat (leavesFrom hash domain count width first (runs width all (words values)))))
 
 abbrev μ-loop : tie.MeasureT-loop
-μ-loop tree₀ messages₀ domain count width values all prefix h blocks size from₀ to₀ g₀ tree messages from to g = all - g
+μ-loop out₀ messages₀ domain count width first groups values all prefix h blocks size from₀ to₀ g₀ out messages from to g = all - g
 
 add-by-fours : tie.Need-add-by-fours Inv-loop μ-loop
 add-by-fours c = search needs
@@ -40,14 +40,11 @@ mul-by-fours c = search needs
 add-by-fours-2 : tie.Need-add-by-fours-2 Inv-loop μ-loop
 add-by-fours-2 c = search needs
 
-div-by-fours : tie.Need-div-by-fours Inv-loop μ-loop
-div-by-fours c = search needs
-
 by-fours-requires : tie.Need-by-fours-requires Inv-loop μ-loop
 by-fours-requires c κs = search needs
 
 returns : tie.Need-returns Inv-loop μ-loop
-returns c = (sym (c .if1 .taken) ∙ c .before .by-fours .ensures, leaves-none _ _ _ _ _)
+returns c = (sym (c .if1 .taken) ∙ c .before .by-fours .ensures, leaves-none _ _ _ _ _ _)
 
 slice-aggregate-leaf-prefix : tie.Need-slice-aggregate-leaf-prefix Inv-loop μ-loop
 slice-aggregate-leaf-prefix c = search needs
@@ -89,9 +86,9 @@ loop-holds c =
       refl,
       refl,
       begun _ _ _ _ _ _ _ e s (c .before .before .begin .ensures .1)
-          (after-by-fours .by-fours .ensures ∙ ap (λ i. byFours i (a .count / a .width)) (omega (arith, p .end))),
+          (after-by-fours .by-fours .ensures ∙ ap (λ i. byFours i (a .groups)) (omega (arith, p .end))),
       prefixes-stand _ _ _ _ e s (c .before .before .begin .ensures .0),
-      leaves-begin _ _ _ _ _ _,
+      leaves-begin _ _ _ _ _ _ _,
     )
 
 mul-end : tie.Need-mul-end Inv-loop μ-loop
@@ -100,11 +97,14 @@ mul-end c = search needs
 add-end : tie.Need-add-end Inv-loop μ-loop
 add-end c =
     let start : tie.Start Inv-loop μ-loop = search in
-    omega (
-      arith,
-      four-room _ _ (c .before .loop .g) (start .pre .0 .shaped .shape)
-          (omega (arith, c .before .loop .inv .6 .whole, c .before .loop .inv .6 .within)),
-    )
+    let q = c .before .loop in
+    omega (arith, four-room (start .args .groups) (start .args .width) (q .g) (omega (arith, q .inv .6 .whole, q .inv .6 .within)))
+
+add-numbered : tie.Need-add-numbered Inv-loop μ-loop
+add-numbered c =
+    let start : tie.Start Inv-loop μ-loop = search in
+    let at-loop : tie.At-loop Inv-loop μ-loop = search in
+    omega (arith, at-loop .loop .inv .6 .within, start .pre .0 .within, start .pre .0 .shaped .groups-le)
 
 numbered-requires : tie.Need-numbered-requires Inv-loop μ-loop
 numbered-requires c κs = search needs
@@ -114,7 +114,7 @@ mul-put-leaf-rests c =
     let start : tie.Start Inv-loop μ-loop = search in
     let at-loop : tie.At-loop Inv-loop μ-loop = search in
     let q = at-loop .loop in
-    omega (arith, four-room _ _ (q .g) (start .pre .0 .shaped .shape) (omega (arith, q .inv .6 .whole, q .inv .6 .within)))
+    omega (arith, four-room (start .args .groups) (start .args .width) (q .g) (omega (arith, q .inv .6 .whole, q .inv .6 .within)))
 
 sub-put-leaf-rests : tie.Need-sub-put-leaf-rests Inv-loop μ-loop
 sub-put-leaf-rests c = search needs
@@ -127,7 +127,7 @@ part-put-leaf-rests-end c =
     let start : tie.Start Inv-loop μ-loop = search in
     let at-loop : tie.At-loop Inv-loop μ-loop = search in
     let q = at-loop .loop in
-    omega (arith, four-room _ _ (q .g) (start .pre .0 .shaped .shape) (omega (arith, q .inv .6 .whole, q .inv .6 .within)))
+    omega (arith, four-room (start .args .groups) (start .args .width) (q .g) (omega (arith, q .inv .6 .whole, q .inv .6 .within)))
 
 put-leaf-rests-requires : tie.Need-put-leaf-rests-requires Inv-loop μ-loop
 put-leaf-rests-requires c κs =
@@ -137,12 +137,12 @@ put-leaf-rests-requires c κs =
     let q = at-loop .loop in
     let a = start .args in
     let y = start .pre .0 in
-    let r = four-room _ _ (q .g) (y .shaped .shape) (omega (arith, q .inv .6 .whole, q .inv .6 .within)) in
+    let r = four-room (a .groups) (a .width) (q .g) (omega (arith, q .inv .6 .whole, q .inv .6 .within)) in
     record {
-      halves = group-length (now (a .values)) (q .from) (8 * a .width) (omega (arith, y .values-is));
+      halves = group-length (now (a .values)) (q .from) (8 * a .width) (omega (arith, y .values-are));
       chunk = q .inv .6 .fits (omega arith);
       strides = omega arith;
-      numbers = omega (arith, after-numbered .numbered .ensures, q .inv .6 .within, y .shaped .groups-le);
+      numbers = omega (arith, after-numbered .numbered .ensures, q .inv .6 .within, y .within, y .shaped .groups-le);
     }
 
 put-digests-requires : tie.Need-put-digests-requires Inv-loop μ-loop
@@ -153,14 +153,14 @@ put-digests-requires c κs =
     let y = start .pre .0 in (
       common _ _ _ _ _ _ (q .inv .6 .sized) (q .inv .7) (c .before .before .before .before .put-leaf-rests .ensures) _ (q .inv .6 .value) (omega arith)
           (q .inv .6 .fits (omega arith)) (omega arith),
-      omega (arith, q .inv .6 .whole, q .inv .6 .within, y .tree-is),
+      omega (arith, q .inv .6 .whole, q .inv .6 .within, y .room),
     )
 
 add-g : tie.Need-add-g Inv-loop μ-loop
 add-g c =
     let start : tie.Start Inv-loop μ-loop = search in
     let at-loop : tie.At-loop Inv-loop μ-loop = search in
-    omega (arith, at-loop .loop .inv .6 .within, start .pre .0 .shaped .groups-le)
+    omega (arith, at-loop .loop .inv .6 .within, start .pre .0 .within, start .pre .0 .shaped .groups-le)
 
 loop-less : tie.Need-loop-less Inv-loop μ-loop
 loop-less c = search needs
@@ -184,7 +184,7 @@ loop-again c =
       search needs,
       q .inv .6,
       kept-whole _ _ _ _ _ _ z (q .inv .7) f,
-      leaves-turn _ _ _ _ _ _ (q .inv .2) _ _ _ z (q .inv .7) f _ _ _ _ _ _ in-all p (q .inv .8),
+      leaves-turn _ _ _ _ _ _ _ (q .inv .2) _ _ _ z (q .inv .7) f _ _ _ _ _ _ in-all p (q .inv .8),
     )
 
 same-length : tie.Need-same-length Inv-loop μ-loop
@@ -196,7 +196,7 @@ same-length-2 c = search needs
 returns-2 : tie.Need-returns-2 Inv-loop μ-loop
 returns-2 c =
     let after-by-fours : tie.After-by-fours Inv-loop μ-loop = search in
-    (after-by-fours .by-fours .ensures, leaves-end _ _ _ _ _ _ _ _ _ (c .loop-test .left) (c .before .loop .inv .8))
+    (after-by-fours .by-fours .ensures, leaves-end _ _ _ _ _ _ _ _ _ _ (c .loop-test .left) (c .before .loop .inv .8))
 
 pub put-leaves-spec : {M : Type 1} → statement M
 put-leaves-spec =
@@ -207,7 +207,6 @@ put-leaves-spec =
     add-by-fours
     mul-by-fours
     add-by-fours-2
-    div-by-fours
     by-fours-requires
     returns
     slice-aggregate-leaf-prefix
@@ -221,6 +220,7 @@ put-leaves-spec =
     loop-holds
     mul-end
     add-end
+    add-numbered
     numbered-requires
     mul-put-leaf-rests
     sub-put-leaf-rests
