@@ -127,6 +127,39 @@ static uint32_t tree(const size_t *v) {
     return dequmlo_tree(BYTES(DOMAIN, v[0]), v[1], v[2], values, 2 * v[1], BYTES(TREE, bytes_of_tree(v[1], v[2])));
 }
 
+/* n, k, block. The same block as in the codeword that was committed. */
+static uint32_t codeword_block(const size_t *v) {
+    size_t n = v[0], k = v[1], words = (size_t)1 << n;
+    uint32_t number = dequmlo_codeword_block(n, k, v[2], WORDS(TABLE, words), WORDS(GAMMAS, k * n), WORDS(HALF, words));
+    if (number == 0 && n == 20) MUST(memcmp(halves_of(HALF, words), halves_of(LEVELS, levels_words(n, k)) + 2 * words * v[2], 16 * words) == 0);
+    return number;
+}
+
+/* n, k, variable, first entry, entries. By 1 the last pair folds to the last word. */
+static uint32_t fold_part(const size_t *v) {
+    size_t n = v[0], k = v[1], words = level_words(n, k, 0);
+    const uint64_t *codeword = halves_of(LEVELS, levels_words(n, k));
+    uint32_t number = dequmlo_fold_part(n, k, v[2], word(1), v[3], codeword, 2 * words, WORDS(HALF, v[4]));
+    if (number == 0 && v[4] > 0 && v[3] + v[4] == words / 2) MUST(memcmp(halves_of(HALF, 1), codeword + 2 * words - 2, 16) == 0);
+    return number;
+}
+
+/* bytes of the domain, count, width, first group, groups. The same leaves as in the tree above. */
+static uint32_t tree_leaves(const size_t *v) {
+    const uint64_t *values = halves_of(LEVELS, levels_words(20, 4));
+    uint32_t number = dequmlo_tree_leaves(BYTES(DOMAIN, v[0]), v[1], v[2], v[3], values, 2 * v[1], BYTES(LEVEL_TREE, 32 * v[4]));
+    if (number == 0) MUST(memcmp(bytes_of(LEVEL_TREE, 32 * v[4]), bytes_of(TREE, bytes_of_tree(v[1], v[2])) + 32 * v[3], 32 * v[4]) == 0);
+    return number;
+}
+
+/* bytes of the domain, level, parents. The parents of its first leaves stand after all of them. */
+static uint32_t tree_parents(const size_t *v) {
+    const uint8_t *leaves = bytes_of(TREE, bytes_of_tree((size_t)1 << 24, 512));
+    uint32_t number = dequmlo_tree_parents(BYTES(DOMAIN, v[0]), v[1], leaves, 64 * v[2], BYTES(LEVEL_TREE, 32 * v[2]));
+    if (number == 0 && v[1] == 0) MUST(memcmp(bytes_of(LEVEL_TREE, 32 * v[2]), leaves + ((size_t)32 << 15), 32 * v[2]) == 0);
+    return number;
+}
+
 /* count, width, place, digests of the path */
 static uint32_t open(const size_t *v) {
     return dequmlo_open(v[0], v[1], v[2], BYTES(TREE, bytes_of_tree(v[0], v[1])), BYTES(PATH, 32 * v[3]));
@@ -296,6 +329,22 @@ static const row rows[] = {
     {CALL(fold), {1, 0, 1}, 6},
     {CALL(fold), {0, 0, 0}, 6},
 
+    {CALL(codeword_block), {0, 0, 0}, 0},
+    {CALL(codeword_block), {20, 4, 15}, 0},
+    {CALL(codeword_block), {20, 4, 16}, 11},
+    {CALL(codeword_block), {0, 0, 1}, 11},
+    {CALL(codeword_block), {21, 4, 15}, 4},
+    {CALL(codeword_block), {20, 5, 15}, 4},
+
+    {CALL(fold_part), {20, 4, 19, MOST / 2 - 1, 1}, 0},
+    {CALL(fold_part), {20, 4, 0, 0, MOST / 2}, 0},
+    {CALL(fold_part), {20, 4, 19, MOST / 2, 0}, 0},
+    {CALL(fold_part), {20, 4, 19, MOST / 2, 1}, 11},
+    {CALL(fold_part), {20, 4, 19, MOST / 2 + 1, 0}, 11},
+    {CALL(fold_part), {20, 4, 20, 0, 1}, 6},
+    {CALL(fold_part), {21, 4, 20, 0, 1}, 4},
+    {CALL(fold_part), {20, 5, 19, 0, 1}, 4},
+
     {CALL(tree), {0, 1, 1}, 0},
     {CALL(tree), {255, 512, 512}, 0},
     {CALL(tree), {255, MOST, 512}, 0},
@@ -305,6 +354,21 @@ static const row rows[] = {
     {CALL(tree), {255, MOST, 1024}, 9},
     {CALL(tree), {255, MOST, 0}, 9},
     {CALL(tree), {255, 256, 512}, 10},
+
+    {CALL(tree_leaves), {255, MOST, 512, 0, MOST / 512}, 0},
+    {CALL(tree_leaves), {255, MOST, 512, LAST / 512, 1}, 0},
+    {CALL(tree_leaves), {255, MOST, 512, MOST / 512, 0}, 0},
+    {CALL(tree_leaves), {255, MOST, 512, MOST / 512, 1}, 11},
+    {CALL(tree_leaves), {255, MOST, 512, MOST / 512 + 1, 0}, 11},
+    {CALL(tree_leaves), {256, MOST, 512, 0, 1}, 7},
+    {CALL(tree_leaves), {255, 2 * MOST, 512, 0, 1}, 8},
+    {CALL(tree_leaves), {255, MOST, 1024, 0, 1}, 9},
+    {CALL(tree_leaves), {255, 256, 512, 0, 0}, 10},
+
+    {CALL(tree_parents), {255, 0, MOST / 1024}, 0},
+    {CALL(tree_parents), {0, (size_t)-1, 1}, 0},
+    {CALL(tree_parents), {255, 0, 0}, 0},
+    {CALL(tree_parents), {256, 0, 1}, 7},
 
     {CALL(open), {MOST, 512, LAST, 15}, 0},
     {CALL(open), {2 * MOST, 512, LAST, 16}, 8},

@@ -85,6 +85,8 @@ l_of nnnwW
 encode nnwwW
 fold nnnwwW
 gamma_message nnbnn
+codeword_block nnnwwW
+fold_part nnnwnwW
 ";
     let operation = request::read(s, table, kept, &mut bytes, &mut words);
     respond(line, operation, &bytes, &words);

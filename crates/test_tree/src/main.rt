@@ -67,6 +67,8 @@ build bnnwB
 open nnnbB
 root_of_path bnnnwbd
 leaf_message bnnnw
+leaves bnnnwB
+parents bnbB
 ";
     let operation = request::read(s, table, kept, &mut bytes, &mut words);
     respond(line, operation, &bytes, &words);

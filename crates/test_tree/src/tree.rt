@@ -47,6 +47,8 @@ pub fn answer(
             y,
         ),
         5 => leaf_message(n.0, n.1, n.2, a, s),
+        6 => one(tree_parts::leaves(s, n.0, n.1, n.2, a, y)),
+        7 => one(tree_parts::parents(s, n.0, t, y)),
         _ => no_room(),
     }
 }
