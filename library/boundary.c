@@ -100,6 +100,20 @@ static answer run_tree_leaves(const call *c, const lent *b) {
 
 static answer run_tree_parents(const call *c, const lent *b) { return plain(dequmlo_tree_parents(AT(0), c->numbers[0], AT(1), AT(2))); }
 
+static answer run_gammas(const call *c, const lent *b) { return plain(dequmlo_gammas(c->numbers[0], c->numbers[1], AT(0), WORDS(1))); }
+
+static answer run_next_part(const call *c, const lent *b) {
+    return plain(dequmlo_next_part(c->numbers[0], c->numbers[1], c->numbers[2], c->word, c->numbers[3], WORDS(0), WORDS(1)));
+}
+
+static answer run_level_leaves(const call *c, const lent *b) {
+    return plain(dequmlo_level_leaves(c->numbers[0], c->numbers[1], c->numbers[2], AT(0), c->numbers[3], WORDS(1), AT(2)));
+}
+
+static answer run_level_parents(const call *c, const lent *b) {
+    return plain(dequmlo_level_parents(c->numbers[0], c->numbers[1], c->numbers[2], AT(0), c->numbers[3], AT(1), AT(2)));
+}
+
 static answer run_open(const call *c, const lent *b) {
     return plain(dequmlo_open(c->numbers[0], c->numbers[1], c->numbers[2], AT(0), AT(1)));
 }
@@ -446,6 +460,67 @@ int main(void) {
     count(&parents, 0, 255, 0);
     count(&parents, 0, 256, 7);
     for (size_t i = 1; i < 3; i++) counts(&parents, 0, 256, i, parents.slice[i].count - 1, 5);
+
+    call gammas = {"gammas", run_gammas, {N, K}, 2, {reads(domain, 1, base, 0), writes(scratch, 8, 2 * K * N)}, 0, {0, 0}};
+    lengths(&gammas);
+    sizes(&gammas, 0, 1, 0);
+    count(&gammas, 0, 200, 0);
+    count(&gammas, 0, 201, 7);
+    counts(&gammas, 0, 201, 1, 2 * K * N - 1, 5);
+
+    /* Level 1 has 8 entries, level 2 has 4; the part is 3 of these. */
+    call next_part = {"next_part", run_next_part, {N, K, 1, 1}, 2, {reads(all_levels, 8, words, 5), writes_any(scratch, 8, 6)}, 0, {3, 4}};
+    lengths(&next_part);
+    sizes(&next_part, 0, 1, 1);
+    number(&next_part, 2, 0, 5);
+    number(&next_part, 2, N, 4);
+    number(&next_part, 2, (size_t)-1, 4);
+    number(&next_part, 3, 2, 11);
+    number(&next_part, 3, (size_t)-1, 11);
+    number_first(&next_part, 3, 4, 1, 0, 0);
+    number_first(&next_part, 3, 5, 1, 0, 11);
+    for (size_t i = 0; i < 2; i++) {
+        number_first(&next_part, 2, N, i, next_part.slice[i].count - 1, 4);
+        number_first(&next_part, 3, 2, i, next_part.slice[i].count - 1, 5);
+    }
+
+    /* Level 1's tree has 4 leaves; the part is 2 of them. */
+    call level_leaves = {"level_leaves", run_level_leaves, {N, K, 1, 2}, 3,
+                         {reads(domain, 1, base, 0), reads(all_levels, 8, words, 5), writes_any(scratch, 1, 64)}, 0, {0, 0}};
+    lengths(&level_leaves);
+    sizes(&level_leaves, 0, 1, 1);
+    number(&level_leaves, 2, 0, 5);
+    number(&level_leaves, 2, N + 1, 4);
+    number(&level_leaves, 2, (size_t)-1, 4);
+    number(&level_leaves, 3, 3, 11);
+    number(&level_leaves, 3, (size_t)-1, 11);
+    number_first(&level_leaves, 3, 4, 2, 0, 0);
+    number_first(&level_leaves, 3, 5, 2, 0, 11);
+    number_first(&level_leaves, 3, 3, 0, 201, 7);
+    count(&level_leaves, 0, 200, 0);
+    count(&level_leaves, 0, 201, 7);
+    for (size_t i = 1; i < 3; i++) {
+        number_first(&level_leaves, 2, N + 1, i, level_leaves.slice[i].count - 1, 4);
+        number_first(&level_leaves, 3, 3, i, level_leaves.slice[i].count - 1, 5);
+        counts(&level_leaves, 0, 201, i, level_leaves.slice[i].count - 1, 5);
+    }
+
+    call level_parents = {"level_parents", run_level_parents, {N, K, 1, 0}, 3,
+                          {reads(domain, 1, base, 0), reads(all_trees, 1, 128, 5), writes(scratch, 1, 64)}, 0, {0, 0}};
+    lengths(&level_parents);
+    sizes(&level_parents, 0, 1, 1);
+    number(&level_parents, 2, N, 0);
+    number(&level_parents, 2, N + 1, 4);
+    number(&level_parents, 2, (size_t)-1, 4);
+    number(&level_parents, 3, (size_t)-1, 0);
+    counts(&level_parents, 1, 0, 2, 0, 0);
+    counts(&level_parents, 1, 96, 2, 48, 5);
+    count(&level_parents, 0, 200, 0);
+    count(&level_parents, 0, 201, 7);
+    for (size_t i = 1; i < 3; i++) {
+        number_first(&level_parents, 2, N + 1, i, level_parents.slice[i].count - 1, 4);
+        counts(&level_parents, 0, 201, i, level_parents.slice[i].count - 1, 5);
+    }
 
     /* Level 0's tree has two groups of 8. */
     call open = {"open", run_open, {words, 8, POSITION}, 2, {reads(tree0, 1, tree_bytes(words), 5), writes(scratch, 1, 32)}, 0, {0, 0}};

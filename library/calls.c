@@ -92,6 +92,40 @@ static void parts(size_t n, size_t k, size_t each) {
     unsealed(&s);
 }
 
+/* Every level and its tree in parts of this many entries or digests are those of the fixture; the gammas too. */
+static void level_parts(size_t n, size_t k, size_t each) {
+    seal s = sealed(n, k, 0, n + k);
+    const uint8_t *base = (const uint8_t *)s.base, *trees = s.trees;
+    const uint64_t *level = s.levels;
+    size_t length = strlen(s.base);
+    uint64_t *next = (uint64_t *)room(8 * level_words(n, k, 0)), *gammas = (uint64_t *)room(16 * k * n + 1);
+    uint8_t *tree = (uint8_t *)room(trees_bytes(n, k));
+    MUST(dequmlo_gammas(n, k, base, length, gammas, 2 * k * n) == 0 && memcmp(gammas, s.gammas, 16 * k * n) == 0);
+    for (size_t l = 0; l <= n; l++) {
+        size_t words = level_words(n, k, l), size = tree_bytes(words), groups = (size / 32 + 1) / 2, height = 0;
+        for (size_t first = 0, m; first < groups; first += m) {
+            m = groups - first < each ? groups - first : each;
+            MUST(dequmlo_level_leaves(n, k, l, base, length, first, level, 2 * words, tree + 32 * first, 32 * m) == 0);
+        }
+        uint8_t *below = tree;
+        for (size_t half = groups / 2; half > 0; height++, below += 64 * half, half /= 2)
+            for (size_t first = 0, m; first < half; first += m) {
+                m = half - first < each ? half - first : each;
+                MUST(dequmlo_level_parents(n, k, l, base, length, height, below + 64 * first, 64 * m, below + 64 * half + 32 * first, 32 * m) == 0);
+            }
+        MUST(memcmp(tree, trees, size) == 0);
+        for (size_t first = 0, m; l < n && first < words / 2; first += m) {
+            dequmlo_word r = {s.challenges[2 * l], s.challenges[2 * l + 1]};
+            m = words / 2 - first < each ? words / 2 - first : each;
+            MUST(dequmlo_next_part(n, k, l, r, first, level, 2 * words, next + 2 * first, 2 * m) == 0);
+        }
+        level += 2 * words, trees += size;
+        MUST(l == n || memcmp(next, level, 8 * words) == 0);
+    }
+    free(next), free(gammas), free(tree);
+    unsealed(&s);
+}
+
 /* The domain of every level, as the fixture writes it. */
 static void domains(void) {
     const uint8_t *base = (const uint8_t *)"dequmlo/test";
@@ -187,6 +221,9 @@ int main(void) {
     parts(6, 2, 5);
     parts(8, 3, 64);
     parts(8, 3, 100000);
+    level_parts(1, 0, 1);
+    level_parts(3, 1, 3);
+    level_parts(8, 4, 100);
     records();
     ring();
     parameters();

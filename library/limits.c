@@ -212,6 +212,38 @@ static uint32_t level_tree(const size_t *v) {
     return number;
 }
 
+/* n, k, bytes of the base domain */
+static uint32_t gammas(const size_t *v) { return dequmlo_gammas(v[0], v[1], BYTES(DOMAIN, v[2]), WORDS(GAMMAS, v[0] * v[1])); }
+
+/* n, k, level, first entry, entries. The same entries as among all levels. */
+static uint32_t next_part(const size_t *v) {
+    size_t n = v[0], k = v[1], l = v[2], words = level_words(n, k, l);
+    const uint64_t *level = halves_of(LEVELS, levels_words(n, k)) + 2 * words_before(n, k, l);
+    const uint64_t *challenge = halves_of(CHALLENGES, 20) + 2 * (l < 20 ? l : 0);
+    dequmlo_word r = {challenge[0], challenge[1]};
+    uint32_t number = dequmlo_next_part(n, k, l, r, v[3], level, 2 * words, WORDS(HALF, v[4]));
+    if (number == 0) MUST(memcmp(halves_of(HALF, v[4]), level + 2 * words + 2 * v[3], 16 * v[4]) == 0);
+    return number;
+}
+
+/* bytes of the base domain, n, k, level, first group, groups. The same leaves as among all trees. */
+static uint32_t level_leaves(const size_t *v) {
+    size_t n = v[1], k = v[2], l = v[3], words = level_words(n, k, l);
+    const uint64_t *level = halves_of(LEVELS, levels_words(n, k)) + 2 * words_before(n, k, l);
+    uint32_t number = dequmlo_level_leaves(n, k, l, BYTES(DOMAIN, v[0]), v[4], level, 2 * words, BYTES(LEVEL_TREE, 32 * v[5]));
+    if (number == 0)
+        MUST(memcmp(bytes_of(LEVEL_TREE, 32 * v[5]), bytes_of(TREES, trees_bytes(n, k)) + bytes_before(n, k, l) + 32 * v[4], 32 * v[5]) == 0);
+    return number;
+}
+
+/* bytes of the base domain, n, k, level, parents. Those of level 0's leaves stand after all of them. */
+static uint32_t level_parents(const size_t *v) {
+    const uint8_t *leaves = bytes_of(TREES, trees_bytes(20, 4));
+    uint32_t number = dequmlo_level_parents(v[1], v[2], v[3], BYTES(DOMAIN, v[0]), 0, leaves, 64 * v[4], BYTES(LEVEL_TREE, 32 * v[4]));
+    if (number == 0 && v[3] == 0) MUST(memcmp(bytes_of(LEVEL_TREE, 32 * v[4]), leaves + ((size_t)32 << 21), 32 * v[4]) == 0);
+    return number;
+}
+
 /* n, k, position */
 static uint32_t build_query(const size_t *v) {
     size_t n = v[0], k = v[1];
@@ -414,6 +446,38 @@ static const row rows[] = {
     {CALL(level_tree), {200, 21, 4, 21}, 4},
     {CALL(level_tree), {200, 20, 5, 20}, 4},
     {CALL(level_tree), {201, 20, 4, 20}, 7},
+
+    {CALL(gammas), {0, 0, 0}, 0},
+    {CALL(gammas), {20, 4, 200}, 0},
+    {CALL(gammas), {21, 4, 200}, 4},
+    {CALL(gammas), {20, 5, 200}, 4},
+    {CALL(gammas), {20, 4, 201}, 7},
+
+    {CALL(next_part), {20, 4, 0, 0, MOST / 2}, 0},
+    {CALL(next_part), {20, 4, 19, 15, 1}, 0},
+    {CALL(next_part), {20, 4, 19, 16, 0}, 0},
+    {CALL(next_part), {20, 4, 19, 16, 1}, 11},
+    {CALL(next_part), {20, 4, 19, 17, 0}, 11},
+    {CALL(next_part), {20, 4, 20, 0, 1}, 4},
+    {CALL(next_part), {0, 4, 0, 0, 1}, 4},
+    {CALL(next_part), {21, 4, 0, 0, 1}, 4},
+    {CALL(next_part), {20, 5, 0, 0, 1}, 4},
+
+    {CALL(level_leaves), {200, 20, 4, 0, 0, MOST / 8}, 0},
+    {CALL(level_leaves), {200, 20, 4, 20, 1, 1}, 0},
+    {CALL(level_leaves), {200, 20, 4, 20, 2, 0}, 0},
+    {CALL(level_leaves), {200, 20, 4, 20, 2, 1}, 11},
+    {CALL(level_leaves), {200, 20, 4, 21, 0, 1}, 4},
+    {CALL(level_leaves), {200, 0, 4, 0, 0, 1}, 4},
+    {CALL(level_leaves), {200, 20, 5, 0, 0, 1}, 4},
+    {CALL(level_leaves), {201, 20, 4, 0, 0, 1}, 7},
+
+    {CALL(level_parents), {200, 20, 4, 0, MOST / 16}, 0},
+    {CALL(level_parents), {200, 20, 4, 20, 1}, 0},
+    {CALL(level_parents), {200, 20, 4, 21, 1}, 4},
+    {CALL(level_parents), {200, 0, 4, 0, 1}, 4},
+    {CALL(level_parents), {200, 20, 5, 0, 1}, 4},
+    {CALL(level_parents), {201, 20, 4, 0, 1}, 7},
 
     {CALL(build_query), {20, 4, LAST}, 0},
     {CALL(build_query), {20, 4, MOST}, 11},

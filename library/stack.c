@@ -36,6 +36,10 @@ static void codeword_block(void) {
     MUST(dequmlo_codeword_block(s.n, s.k, 1, s.table, block, s.gammas, 2 * s.k * s.n, words, block) == 0);
 }
 static void fold_part(void) { MUST(dequmlo_fold_part(s.n, s.k, 0, s.claim, 1, s.levels, 2 * level_words(s.n, s.k, 0), words, 1000) == 0); }
+static void gammas(void) { MUST(dequmlo_gammas(s.n, s.k, BASE, s.gammas, 2 * s.k * s.n) == 0); }
+static void next_part(void) { MUST(dequmlo_next_part(s.n, s.k, 0, s.claim, 1, s.levels, 2 * level_words(s.n, s.k, 0), words, 1000) == 0); }
+static void level_leaves(void) { MUST(dequmlo_level_leaves(s.n, s.k, 0, BASE, 1, s.levels, 2048, bytes, 32 * 100) == 0); }
+static void level_parents(void) { MUST(dequmlo_level_parents(s.n, s.k, 0, BASE, 0, s.trees, 128 * 32, bytes, 64 * 32) == 0); }
 static void tree_leaves(void) { MUST(dequmlo_tree_leaves(BASE, 1024, 512, 1, s.levels, 2048, bytes, 32) == 0); }
 static void tree_parents(void) { MUST(dequmlo_tree_parents(BASE, 0, s.trees, 128 * 32, bytes, 64 * 32) == 0); }
 static void open(void) { MUST(dequmlo_open(1024, 8, 5, s.trees, tree_bytes(1024), bytes, 32 * depth_of(1024)) == 0); }
@@ -92,6 +96,10 @@ int main(void) {
         {"level_domain", level_domain},
         {"level_tree", level_tree},
         {"tree", tree},
+        {"gammas", gammas},
+        {"next_part", next_part},
+        {"level_leaves", level_leaves},
+        {"level_parents", level_parents},
         {"codeword_block", codeword_block},
         {"fold_part", fold_part},
         {"tree_leaves", tree_leaves},

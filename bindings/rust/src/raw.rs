@@ -151,6 +151,49 @@ extern "C" {
         tree: *mut u8,
         tree_length: usize,
     ) -> u32;
+    pub fn dequmlo_gammas(
+        n: usize,
+        k: usize,
+        base: *const u8,
+        base_length: usize,
+        gammas: *mut u64,
+        gammas_length: usize,
+    ) -> u32;
+    pub fn dequmlo_next_part(
+        n: usize,
+        k: usize,
+        level: usize,
+        r: Word,
+        first: usize,
+        values: *const u64,
+        values_length: usize,
+        out: *mut u64,
+        out_length: usize,
+    ) -> u32;
+    pub fn dequmlo_level_leaves(
+        n: usize,
+        k: usize,
+        level: usize,
+        base: *const u8,
+        base_length: usize,
+        first: usize,
+        values: *const u64,
+        values_length: usize,
+        out: *mut u8,
+        out_length: usize,
+    ) -> u32;
+    pub fn dequmlo_level_parents(
+        n: usize,
+        k: usize,
+        level: usize,
+        base: *const u8,
+        base_length: usize,
+        height: usize,
+        children: *const u8,
+        children_length: usize,
+        out: *mut u8,
+        out_length: usize,
+    ) -> u32;
     pub fn dequmlo_codeword_block(
         n: usize,
         k: usize,

@@ -8,10 +8,9 @@ ghost use Rattle.theory_laws.specs.Questions.{onDone};
 ghost use Rattle.theory_field.specs.Words.{words};
 ghost use Rattle.field_gf128.specs.Word.{word};
 ghost use Rattle.theory_code.specs.Questions.{blockNumber, foldPartNumber};
-ghost use Rattle.code_codeword.specs.Answers.{blockOf};
-ghost use Rattle.code_codeword.specs.helpers.Sizes.{EncodeSizes};
 ghost use Rattle.code_parts.specs.Parts.{blockOfCodeword, partOfFold};
 ghost use Rattle.code_parts.specs.helpers.FoldPart.{PartFits, sumsOf, withFirsts};
+use code_codeword::encode_block;
 use code_codeword::sizes::holds;
 use code_codeword::sizes::power;
 use field_gf128::Word;
@@ -52,15 +51,6 @@ fn block_number(n: usize, k: usize, eps: usize, table: usize, gammas: usize, out
     0
 }
 
-// The block, once the questions are answered, with room for the products of its passes.
-fn put_block(n: usize, k: usize, eps: usize, table: &[u64], gammas: &[u64], out: &mut [u64])
-    requires { ⌜ EncodeSizes n k (length (now table)) (length (now gammas)) × (length (now out) ≡ 2 * 2 ^ n) ⌝ }
-    ensures { λ _. ⌜ words (now (out .exit)) ≡ blockOf n k (words (now (gammas .entry))) eps (words (now (table .entry))) ⌝ }
-{
-    let mut multiples = [0u64; 8192];
-    code_codeword::encode_block(n, k, eps, table, gammas, out, &mut multiples);
-}
-
 // Block eps of the codeword of a table of 2^n words: entries eps × 2^n to eps × 2^n + 2^n − 1 of what `encode` makes. It refuses n past 20 or
 // k past 4 with 4, lengths that are not theirs with 5, and a block that is not below 2^k with 11.
 pub fn codeword_block(
@@ -74,11 +64,13 @@ pub fn codeword_block(
     ensures { λ r. ⌜ r ≡ blockNumber n k eps (length (now (table .entry))) (length (now (gammas .entry))) (length (now (out .entry))) ⌝ }
     ensures { λ r. ⌜ words (now (out .exit)) ≡ onDone r (blockOfCodeword n k (now (gammas .entry)) eps (now (table .entry))) (words (now (out .entry))) ⌝ }
 {
+    // Room for the products of the block's passes, made before the questions are put: docs/DECISIONS.md, 66.
+    let mut multiples = [0u64; 8192];
     let number = block_number(n, k, eps, table.len(), gammas.len(), out.len());
     if number != 0 {
         return number;
     }
-    put_block(n, k, eps, table, gammas, out);
+    encode_block(n, k, eps, table, gammas, out, &mut multiples);
     0
 }
 

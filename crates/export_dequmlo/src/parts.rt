@@ -1,16 +1,33 @@
 // Parts of the work, each into a buffer of its own, for callers that divide it over threads: a block of the codeword, entries of a fold, leaves and
-// parents of a tree. Consecutive parts end to end are what the whole leaves (theory_laws/proofs/Parts).
+// parents of a tree; the same of a level of a commitment; and the gammas, which come before the blocks. Consecutive parts end to end are what the whole leaves (theory_laws/proofs/Parts).
 use field_gf128::Word;
 ghost use mathlib.Core.Path.{_≡_};
-ghost use Prim.Native.Nat.{_/_};
+ghost use Prim.Native.Nat.{_*_, _/_};
 ghost use lib.ListN.{length};
+ghost use Rattle.theory_laws.specs.Lists.{part, flat};
 ghost use Rattle.theory_laws.specs.Questions.{onDone};
 ghost use Rattle.theory_field.specs.Words.{words};
 ghost use Rattle.field_gf128.specs.Word.{word};
-ghost use Rattle.theory_code.specs.Questions.{blockNumber, foldPartNumber};
+ghost use Rattle.theory_blake3.specs.Digest.{hash};
+ghost use Rattle.theory_code.specs.Gammas as G;
+ghost use Rattle.theory_code.specs.Questions.{deriveNumber, blockNumber, foldPartNumber};
 ghost use Rattle.theory_merkle.specs.Numbers.{leavesNumber, parentsNumber};
+ghost use Rattle.theory_record.specs.Widths.{present};
+ghost use Rattle.theory_record.specs.Domain.{levelDomain};
+ghost use Rattle.theory_record.specs.Trees.{treeFor};
+ghost use Rattle.theory_record.specs.Scheme.{scheme};
 ghost use Rattle.code_parts.specs.Parts.{blockOfCodeword, partOfFold};
-ghost use Rattle.tree_parts.specs.Parts.{leavesInto, parentsInto};
+ghost use Rattle.tree_parts.specs.Parts.{leavesInto, parentsOf, parentsInto};
+ghost use Rattle.code_level_parts.specs.Numbers.{nextPartNumber, levelLeavesNumber, levelParentsNumber};
+
+// The gammas of a base domain: 4, 5, 7.
+#[no_mangle]
+pub extern "C" fn dequmlo_gammas(n: usize, k: usize, base: &[u8], gammas: &mut [u64]) -> u32
+    ensures { λ r. ⌜ r ≡ deriveNumber n k (length (now (base .entry))) (length (now (gammas .entry))) ⌝ }
+    ensures { λ r. ⌜ words (now (gammas .exit)) ≡ onDone r (G.gammas hash (now (base .entry)) n k) (words (now (gammas .entry))) ⌝ }
+{
+    code_gamma::derive(n, k, base, gammas)
+}
 
 // Block eps of the codeword of a table of 2^n words: 4, 5, 11.
 #[no_mangle]
@@ -73,4 +90,55 @@ pub extern "C" fn dequmlo_tree_parents(
     ensures { λ _. ⌜ now (out .exit) ≡ parentsInto (now (domain .entry)) level (now (children .entry)) (now (out .entry)) ⌝ }
 {
     tree_parts::parents(domain, level, children, out)
+}
+
+// Entries of the level after a level, from entry `first` on, by its challenge: 4, 5, 11.
+#[no_mangle]
+pub extern "C" fn dequmlo_next_part(
+    n: usize,
+    k: usize,
+    level: usize,
+    r: Word,
+    first: usize,
+    values: &[u64],
+    out: &mut [u64],
+) -> u32
+    ensures { λ a. ⌜ a ≡ nextPartNumber n k level first (length (now (values .entry))) (length (now (out .entry))) ⌝ }
+    ensures { λ a. ⌜ words (now (out .exit)) ≡ onDone a (partOfFold (length (now (out .entry)) / 2) first 0 (word r) (now (values .entry))) (words (now (out .entry))) ⌝ }
+{
+    code_level_parts::next_part(n, k, level, r, first, values, out)
+}
+
+// The leaves of a level's tree from group `first` on: 4, 5, 7, 11.
+#[no_mangle]
+pub extern "C" fn dequmlo_level_leaves(
+    n: usize,
+    k: usize,
+    level: usize,
+    base: &[u8],
+    first: usize,
+    values: &[u64],
+    out: &mut [u8],
+) -> u32
+    ensures { λ r. ⌜ r ≡ levelLeavesNumber present n k level (length (now (base .entry))) first (length (now (values .entry))) (length (now (out .entry))) ⌝ }
+    ensures { λ r. ⌜ now (out .exit) ≡ onDone r (part (length (now (out .entry))) (32 * first) (flat (treeFor (scheme (now (base .entry)) n k) level (words (now (values .entry)))))) (now (out .entry)) ⌝ }
+{
+    code_level_parts::level_leaves(n, k, level, base, first, values, out)
+}
+
+// The parents of digests of a level's tree, two by two: 4, 5, 7.
+#[no_mangle]
+pub extern "C" fn dequmlo_level_parents(
+    n: usize,
+    k: usize,
+    level: usize,
+    base: &[u8],
+    height: usize,
+    children: &[u8],
+    out: &mut [u8],
+) -> u32
+    ensures { λ r. ⌜ r ≡ levelParentsNumber n k level (length (now (base .entry))) (length (now (children .entry))) (length (now (out .entry))) ⌝ }
+    ensures { λ r. ⌜ now (out .exit) ≡ onDone r (parentsOf (levelDomain (now (base .entry)) level) height (now (children .entry))) (now (out .entry)) ⌝ }
+{
+    code_level_parts::level_parents(n, k, level, base, height, children, out)
 }
