@@ -98,7 +98,19 @@ leaves-yes n k l base first values out z h =
     sym (yes-all (sizeQuestions n k
     ++ ((4 asks leb l n) ∷ (5 asks eqb values (2 * levelLength n k l)) ∷ (5 asks eqb (out % 32) 0) ∷ (7 asks leb base 200)
     ∷ (11 asks leb (first + out / 32) (levelGroups present n k l)) ∷ []))
-    (fit-sizes n k z (le-leb l n (h .level-le), (eq-eqb _ _ (h .values-are), (eq-eqb _ _ (h .whole), (le-leb _ _ (h .base-le), (le-leb _ _ (h .within), tt)))))))
+    (fit-sizes n k z (
+      le-leb l n (h .level-le),
+      (
+        eq-eqb _ _ (h .values-are),
+        (
+          eq-eqb _ _ (h .whole),
+          (
+            le-leb _ _ (h .base-le),
+            (le-leb _ _ (h .within), tt),
+          ),
+        ),
+      ),
+    )))
 
 leaves-allowed : (n k l domain first values out : ℕ) → n + k ≤ 24 → domain ≤ 255 → values ≡ 2 * levelLength n k l → out % 32 ≡ 0
     → first + out / 32 ≤ levelGroups present n k l → leavesNumber domain (levelLength n k l) (levelWidth present n k l) first values out ≡ 0

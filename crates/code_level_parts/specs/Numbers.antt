@@ -12,7 +12,8 @@ unfoldable pub nextPartNumber : ℕ → ℕ → ℕ → ℕ → ℕ → ℕ → 
 nextPartNumber n k l first values out =
     firstNo
     (sizeQuestions n k
-    ++ ((4 asks ltb l n) ∷ (5 asks eqb values (2 * levelLength n k l)) ∷ (5 asks eqb (out % 2) 0) ∷ (11 asks leb (first + out / 2) (levelLength n k (suc l))) ∷ []))
+    ++ ((4 asks ltb l n) ∷ (5 asks eqb values (2 * levelLength n k l)) ∷ (5 asks eqb (out % 2) 0)
+    ∷ (11 asks leb (first + out / 2) (levelLength n k (suc l))) ∷ []))
 
 -- leaves of level l's tree from group `first` on, lent level l. 4: level l is one of the levels; 7: a base domain is at most 200 bytes;
 -- 11: the groups end within the level's

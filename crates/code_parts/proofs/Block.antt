@@ -17,5 +17,11 @@ pub block-part : (n k eps : ℕ) (g t : List ℕ) → eps < 2 ^ k → blockOf n 
 unfolding blockOf encode
 block-part n k eps g t h =
     let F : ℕ → ℕ → ℕ = λ e. block (shift n k g e) (at t) in
-    let within : eps * 2 ^ n + 2 ^ n ≤ 2 ^ (n + k) = omega (arith, suc-mul eps (2 ^ n), mul-le-mul-right (2 ^ n) h, mul-comm (2 ^ k) (2 ^ n), pow-add 2 n k) in
+    let within : eps * 2 ^ n + 2 ^ n ≤ 2 ^ (n + k) = omega (
+      arith,
+      suc-mul eps (2 ^ n),
+      mul-le-mul-right (2 ^ n) h,
+      mul-comm (2 ^ k) (2 ^ n),
+      pow-add 2 n k,
+    ) in
     sym (part-tab (2 ^ n) (eps * 2 ^ n) (2 ^ (n + k)) (inBlocks n F) within ∙ tab-ext (2 ^ n) (λ v b. inBlocks-at n eps v F b))

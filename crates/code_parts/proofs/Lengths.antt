@@ -36,7 +36,8 @@ block-sizes n k eps table gammas out number e z =
 pub part-fits : (n k var first src out number : ℕ) → number ≡ foldPartNumber n k var first src out → number ≡ 0 → PartFits var first src out
 unfolding foldPartNumber
 part-fits n k var first src out number e z =
-    let y = all-yes (sized n k (lent src (2 ^ (n + k)) ∷ (5 asks eqb (out % 2) 0) ∷ (6 asks ltb var n) ∷ (11 asks leb (first + out / 2) (2 ^ (n + k) / 2)) ∷ []))
+    let y = all-yes (sized n k (lent src (2 ^ (n + k)) ∷ (5 asks eqb (out % 2) 0) ∷ (6 asks ltb var n)
+    ∷ (11 asks leb (first + out / 2) (2 ^ (n + k) / 2)) ∷ []))
     tt (sym e ∙ z) in
     let h = ltb-true var n (y .1 .1 .1 .1 .0) in
     let es = eqb-true src (2 * 2 ^ (n + k)) (y .1 .1 .0) in

@@ -1,5 +1,6 @@
-// Parts of the work, each into a buffer of its own, for callers that divide it over threads: a block of the codeword, entries of a fold, leaves and
-// parents of a tree; the same of a level of a commitment; and the gammas, which come before the blocks. Consecutive parts end to end are what the whole leaves (theory_laws/proofs/Parts).
+// Parts of the work, each into a buffer of its own, for callers that divide it over threads: a block of the codeword, entries of a fold,
+// leaves and parents of a tree; the same of a level of a commitment; and the gammas, which come before the blocks. Consecutive parts end to
+// end are what the whole leaves (theory_laws/proofs/Parts).
 use field_gf128::Word;
 ghost use mathlib.Core.Path.{_≡_};
 ghost use Prim.Native.Nat.{_*_, _/_};

@@ -98,5 +98,6 @@ module _ (domain : List ℕ) where
       let bottom : flat ps ≡ flat ds = parts-one whole 0 ps are ∙ ap (λ (m : ℕ). part m 0 whole) n ∙ sym (all-leaves domain count width ws) in
       let up : LevelsInParts (depthOf count width) 0 (flat ds) ls = subst (λ (x : List ℕ). LevelsInParts (depthOf count width) 0 x ls) bottom made in
       ap (λ (x : List ℕ). x ++ flat ls) bottom
-      ∙ levels-joined (depthOf count width) 0 ds ls (leaves-long hash domain count width length-hash ws) (length-leaves hash domain count width ws ∙ shape .groups) up
+      ∙ levels-joined (depthOf count width) 0 ds ls (leaves-long hash domain count width length-hash ws)
+      (length-leaves hash domain count width ws ∙ shape .groups) up
       ∙ ap flat (is-tree domain count width ws)

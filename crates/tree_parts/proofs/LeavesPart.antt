@@ -52,7 +52,8 @@ module _ (domain : List ℕ) where
         ap (λ k. leavesFrom hash domain count width 0 (runs width k ws)) (sym s)
         ∙ leaves-split hash domain count width 0 i (m + rest) ws
         ∙ rw (z, let y : 0 + i ≡ i = omega arith in y)
-        (ap (λ (x : List (List ℕ)). leavesFrom hash domain count width 0 (runs width i ws) ++ x) (leaves-split hash domain count width i m rest (drop (width * i) ws)))
+        (ap (λ (x : List (List ℕ)). leavesFrom hash domain count width 0 (runs width i ws) ++ x)
+        (leaves-split hash domain count width i m rest (drop (width * i) ws)))
 
     pub leaves-part : (i m : ℕ) → i + m ≤ count / width
         → flat (from-group i m) ≡ part (32 * m) (32 * i) (flat (treeOf hash domain count width ws))
@@ -87,7 +88,8 @@ module _ (domain : List ℕ) where
       let m : ℕ = length out / 32 in
       let l : List ℕ = drop (width * first) (words values) in
       let n : 32 * m ≡ length out = omega arith in
-      let lent : runs width m (words (take (2 * (width * first) + 2 * (width * m) - 2 * (width * first)) (drop (2 * (width * first)) values))) ≡ runs width m l =
+      let lent : runs width m (words (take (2 * (width * first) + 2 * (width * m) - 2 * (width * first)) (drop (2 * (width * first)) values)))
+      ≡ runs width m l =
       ap (runs width m) (group-words values (2 * (width * first)) (2 * (width * m)) (width * m) (width * first) refl refl) ∙ runs-take width m l in
       e ∙ ap (λ (xs : List (List ℕ)). stored out 0 (flat (leavesFrom hash domain count width first xs))) lent
       ∙ stored-all out (flat (from-group count width (words values) first m)) (length-from count width (words values) first m ∙ n)

@@ -25,14 +25,16 @@ module _ (domain : List ℕ) (level : ℕ) where
       ∙ ap (λ k. 32 * k) (length-parents hash domain level m (runs 32 (2 * m) l) (length-runs 32 (2 * m) l))
 
   -- the parents of what is lent are those of where it begins
-  some-lent : (m from : ℕ) (children : List ℕ) → someParents domain level m (take (from + 64 * m - from) (drop from children)) ≡ someParents domain level m (drop from children)
+  some-lent : (m from : ℕ) (children : List ℕ)
+      → someParents domain level m (take (from + 64 * m - from) (drop from children)) ≡ someParents domain level m (drop from children)
   some-lent m from children =
       let e : from + 64 * m - from ≡ 32 * (2 * m) = omega arith in
       ap (λ (xs : List (List ℕ)). flat (parents hash domain level xs)) (rw e (runs-take 32 (2 * m) (drop from children)))
 
   -- ---- a few, made right after their children
 
-  pub some-made : (m : ℕ) (children both both1 both2 : List ℕ) → length children ≡ 64 * m → 96 * m ≤ length both → both1 ≡ stored both 0 children
+  pub some-made : (m : ℕ) (children both both1 both2 : List ℕ) → length children ≡ 64 * m → 96 * m ≤ length both
+      → both1 ≡ stored both 0 children
       → both2 ≡ stored both1 (0 + 64 * m) (someParents domain level m (drop 0 both1))
       → take (64 * m + 32 * m - 64 * m) (drop (64 * m) both2) ≡ someParents domain level m children
   unfolding part
@@ -65,13 +67,15 @@ module _ (domain : List ℕ) (level : ℕ) where
       let first : List (List ℕ) = parents hash domain level (runs 32 (2 * m) l) in
       let more : List (List ℕ) = parents hash domain level (runs 32 (2 * b) (drop (from + 64 * m) children)) in
       let split : someParents domain level (all - done) l ≡ flat first ++ flat more =
-      ap (λ k. someParents domain level k l) s ∙ ap flat (parents-split hash domain level 32 m b l) ∙ flat-append first (parents hash domain level (runs 32 (2 * b) (drop (32 * (2 * m)) l)))
+      ap (λ k. someParents domain level k l) s ∙ ap flat (parents-split hash domain level 32 m b l)
+      ∙ flat-append first (parents hash domain level (runs 32 (2 * b) (drop (32 * (2 * m)) l)))
       ∙ ap (λ (x : List ℕ). flat first ++ someParents domain level b x) (drop-drop (32 * (2 * m)) from children ∙ ap (λ k. drop k children) j) in
       put-then out to (32 * m) (flat first) out′ next (flat more) r (rw (some-lent m from children) at put) (ap (stored out to) (sym split) ∙ e)
 
   -- after the last
   pub parents-made : (all done to : ℕ) (children out out₀ l : List ℕ) → all ≤ done → all ≡ length out₀ / 32 → length children % 64 ≡ 0
-      → length out₀ ≡ length children / 2 → stored out to (someParents domain level (all - done) l) ≡ stored out₀ 0 (someParents domain level all children)
+      → length out₀ ≡ length children / 2
+      → stored out to (someParents domain level (all - done) l) ≡ stored out₀ 0 (someParents domain level all children)
       → out ≡ parentsOf domain level children
   parents-made all done to children out out₀ l h a pairs half e =
       let n : 2 * all ≡ length children / 32 = omega arith in

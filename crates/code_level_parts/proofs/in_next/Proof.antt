@@ -23,7 +23,8 @@ returns c =
     let after-level-length : tie.After-level-length = search in
     let after-ends-within : tie.After-ends-within = search in
     let a = start .args in
-    after-ends-within .ends-within .ensures ∙ ap (leb (a .first + a .m)) (after-level-length .level-length .ensures ∙ ap (levelLength (a .n) (a .k)) (add-one (a .l)))
+    after-ends-within .ends-within .ensures
+    ∙ ap (leb (a .first + a .m)) (after-level-length .level-length .ensures ∙ ap (levelLength (a .n) (a .k)) (add-one (a .l)))
 
 pub in-next-spec : {M : Type 1} → statement M
 in-next-spec =
