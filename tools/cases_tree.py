@@ -1,4 +1,4 @@
-"""Lines for test_tree: the hash and trees."""
+"""Lines for test_record, data/tree: the hash and trees."""
 import itertools
 import pathlib
 
