@@ -176,6 +176,57 @@ uint32_t dequmlo_level_domain(const uint8_t *base, size_t base_length, size_t le
 uint32_t dequmlo_level_tree(size_t n, size_t k, size_t level, const uint8_t *base, size_t base_length, const uint64_t *values,
                             size_t values_length, uint8_t *tree, size_t tree_length);
 
+/* ---- parts, for callers that divide the work over threads: each call writes a part of what another function writes whole, into a buffer of its
+   own, and takes at most 96 KiB of stack. Consecutive parts, end to end, are the whole, however it is divided (docs/LINKING.md). */
+
+/* The gammas of a base domain, by which the blocks are made: k * n words, gamma (j, i) at j * n + i. `dequmlo_commit` makes the same.
+   Refuses: 4 (n, k), 5 (a length), 7 (a base domain of more than 200 bytes). */
+uint32_t dequmlo_gammas(size_t n, size_t k, const uint8_t *base, size_t base_length, uint64_t *gammas, size_t gammas_length);
+
+/* Block eps of the codeword of a table: words eps * 2^n to eps * 2^n + 2^n - 1 of the codeword that `dequmlo_commit` makes by these gammas.
+   - table: 2^n words. gammas: k * n words. out: 2^n words.
+   Refuses: 4 (n, k), 5 (a length), 11 (eps is not below 2^k). */
+uint32_t dequmlo_codeword_block(size_t n, size_t k, size_t eps, const uint64_t *table, size_t table_length, const uint64_t *gammas,
+                                size_t gammas_length, uint64_t *out, size_t out_length);
+
+/* Entries of a fold, from entry `first` on, as many as `out` has words: a part of what `dequmlo_fold` makes.
+   - codeword: all 2^(n+k) words. out: any number of words.
+   Refuses: 4 (n, k), 5 (a length), 6 (var is not below n), 11 (the entries do not end within the fold). */
+uint32_t dequmlo_fold_part(size_t n, size_t k, size_t var, dequmlo_word r, size_t first, const uint64_t *codeword, size_t codeword_length,
+                           uint64_t *out, size_t out_length);
+
+/* Leaves of a tree, from group `first` on, as many as `out` has digests: a part of the first count / width digests that `dequmlo_tree` makes.
+   - values: all `count` words. out: any number of digests.
+   Refuses: 7, 8, 9, 10 as for a tree, 11 (the groups do not end within the tree's), 5 (a length). */
+uint32_t dequmlo_tree_leaves(const uint8_t *domain, size_t domain_length, size_t count, size_t width, size_t first, const uint64_t *values,
+                             size_t values_length, uint8_t *out, size_t out_length);
+
+/* The parents of digests of one level of a tree, two by two: a part of the level above. The parents of the leaves are level 0.
+   - children: any even number of digests. out: half as many.
+   Refuses: 5 (a length), 7 (a domain of more than 255 bytes). */
+uint32_t dequmlo_tree_parents(const uint8_t *domain, size_t domain_length, size_t level, const uint8_t *children, size_t children_length,
+                              uint8_t *out, size_t out_length);
+
+/* Entries of level `level` + 1, from entry `first` on, as many as `out` has words: level `level` folded at variable 0 by its challenge.
+   - n, k: those of the commitment; n is from 1. level: below n.
+   - values: all 2^(n+k-level) words of level `level`. out: any number of words.
+   Refuses: 4 (n is not from 1 to 20, k, or level is not below n), 5 (a length), 11 (the entries do not end within the next level). */
+uint32_t dequmlo_next_part(size_t n, size_t k, size_t level, dequmlo_word r, size_t first, const uint64_t *values, size_t values_length,
+                           uint64_t *out, size_t out_length);
+
+/* Leaves of a level's tree, from group `first` on, as many as `out` has digests, at the level's width under the level's domain: a part of the
+   leaves that `dequmlo_level_tree` makes.
+   - n, k, base: those of the commitment; n is from 1. level: from 0 to n. values: all words of the level. out: any number of digests.
+   Refuses: 4 (n is not from 1 to 20, k, or level is above n), 5 (a length), 7 (the base domain), 11 (the groups do not end within the level's). */
+uint32_t dequmlo_level_leaves(size_t n, size_t k, size_t level, const uint8_t *base, size_t base_length, size_t first, const uint64_t *values,
+                              size_t values_length, uint8_t *out, size_t out_length);
+
+/* The parents of digests of one height of a level's tree, two by two; those of the leaves are at height 0.
+   - children: any even number of digests. out: half as many.
+   Refuses: 4 (n is not from 1 to 20, k, or level is above n), 5 (a length), 7 (the base domain). */
+uint32_t dequmlo_level_parents(size_t n, size_t k, size_t level, const uint8_t *base, size_t base_length, size_t height, const uint8_t *children,
+                               size_t children_length, uint8_t *out, size_t out_length);
+
 /* ---- records. Challenges are n words, roots are n + 1 digests, level 0's first. */
 
 /* Builds the query record at a position from all levels and their trees, each end to end, level 0 first: 2^k * (2^(n+1) - 1) words, and

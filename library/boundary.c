@@ -86,6 +86,34 @@ static answer run_tree(const call *c, const lent *b) {
     return plain(dequmlo_tree(AT(0), c->numbers[0], c->numbers[1], WORDS(1), AT(2)));
 }
 
+static answer run_codeword_block(const call *c, const lent *b) {
+    return plain(dequmlo_codeword_block(c->numbers[0], c->numbers[1], c->numbers[2], WORDS(0), WORDS(1), WORDS(2)));
+}
+
+static answer run_fold_part(const call *c, const lent *b) {
+    return plain(dequmlo_fold_part(c->numbers[0], c->numbers[1], c->numbers[2], c->word, c->numbers[3], WORDS(0), WORDS(1)));
+}
+
+static answer run_tree_leaves(const call *c, const lent *b) {
+    return plain(dequmlo_tree_leaves(AT(0), c->numbers[0], c->numbers[1], c->numbers[2], WORDS(1), AT(2)));
+}
+
+static answer run_tree_parents(const call *c, const lent *b) { return plain(dequmlo_tree_parents(AT(0), c->numbers[0], AT(1), AT(2))); }
+
+static answer run_gammas(const call *c, const lent *b) { return plain(dequmlo_gammas(c->numbers[0], c->numbers[1], AT(0), WORDS(1))); }
+
+static answer run_next_part(const call *c, const lent *b) {
+    return plain(dequmlo_next_part(c->numbers[0], c->numbers[1], c->numbers[2], c->word, c->numbers[3], WORDS(0), WORDS(1)));
+}
+
+static answer run_level_leaves(const call *c, const lent *b) {
+    return plain(dequmlo_level_leaves(c->numbers[0], c->numbers[1], c->numbers[2], AT(0), c->numbers[3], WORDS(1), AT(2)));
+}
+
+static answer run_level_parents(const call *c, const lent *b) {
+    return plain(dequmlo_level_parents(c->numbers[0], c->numbers[1], c->numbers[2], AT(0), c->numbers[3], AT(1), AT(2)));
+}
+
 static answer run_open(const call *c, const lent *b) {
     return plain(dequmlo_open(c->numbers[0], c->numbers[1], c->numbers[2], AT(0), AT(1)));
 }
@@ -234,6 +262,12 @@ static slice writes(const void *content, size_t element, size_t count) {
     return s;
 }
 
+/* A buffer that may have any number of items: none are refused nothing. */
+static slice writes_any(const void *content, size_t element, size_t count) {
+    slice s = {content, element, count, 1, 5, 5, 0};
+    return s;
+}
+
 /* Content for a buffer that is written, with room to spare. */
 static uint8_t scratch[1 << 16];
 
@@ -365,6 +399,128 @@ int main(void) {
     number(&tree, 1, (size_t)-1, 9);
     number(&tree, 1, 2 * words, 10);
     number(&tree, 1, 4, 5);
+
+    call block = {"codeword_block", run_codeword_block, {N, K, 1}, 3,
+                  {reads(table, 8, 2 << N, 5), reads(scratch, 8, 2 * K * N, 5), writes(scratch, 8, 2 << N)}, 0, {0, 0}};
+    lengths(&block);
+    sizes(&block, 0, 1, 0);
+    number(&block, 0, N + 1, 5);
+    number(&block, 2, 0, 0);
+    number(&block, 2, 1 << K, 11);
+    number(&block, 2, (size_t)-1, 11);
+    for (size_t i = 0; i < 3; i++) number_first(&block, 2, 1 << K, i, block.slice[i].count - 1, 5);
+
+    /* The fold has 8 entries; the part is 3 of them. */
+    call fold_part = {"fold_part", run_fold_part, {N, K, 0, 2}, 2, {reads(all_levels, 8, 2 * words, 5), writes_any(scratch, 8, 6)}, 0, {3, 4}};
+    lengths(&fold_part);
+    sizes(&fold_part, 0, 1, 0);
+    number(&fold_part, 2, N - 1, 0);
+    number(&fold_part, 2, N, 6);
+    number(&fold_part, 2, (size_t)-1, 6);
+    number(&fold_part, 3, words / 2 - 3, 0);
+    number(&fold_part, 3, words / 2 - 2, 11);
+    number(&fold_part, 3, (size_t)-1, 11);
+    number_first(&fold_part, 3, words / 2, 1, 0, 0);
+    number_first(&fold_part, 3, words / 2 + 1, 1, 0, 11);
+    number_first(&fold_part, 3, (size_t)-1, 0, 2 * words - 1, 5);
+    number_first(&fold_part, 2, N, 1, 2 * words, 6);
+    count(&fold_part, 1, words - 2, 11);
+
+    /* The tree has 8 leaves; the part is 3 of them. */
+    call leaves = {"tree_leaves", run_tree_leaves, {words, 2, 4}, 3,
+                   {reads(domain, 1, base, 0), reads(all_levels, 8, 2 * words, 5), writes_any(scratch, 1, 96)}, 0, {0, 0}};
+    lengths(&leaves);
+    count(&leaves, 0, 255, 0);
+    count(&leaves, 0, 256, 7);
+    number(&leaves, 0, 0, 8);
+    number(&leaves, 0, words - 1, 8);
+    number(&leaves, 0, (size_t)1 << 25, 8);
+    number(&leaves, 0, (size_t)-1, 8);
+    number(&leaves, 0, 2 * words, 5);
+    number(&leaves, 1, 0, 9);
+    number(&leaves, 1, 3, 9);
+    number(&leaves, 1, 1024, 9);
+    number(&leaves, 1, (size_t)-1, 9);
+    number(&leaves, 1, 2 * words, 10);
+    number(&leaves, 1, 4, 11);
+    number(&leaves, 2, words / 2 - 3, 0);
+    number(&leaves, 2, words / 2 - 2, 11);
+    number(&leaves, 2, (size_t)-1, 11);
+    number_first(&leaves, 2, words / 2, 2, 0, 0);
+    number_first(&leaves, 2, words / 2 + 1, 2, 0, 11);
+    for (size_t i = 1; i < 3; i++) number_first(&leaves, 2, words / 2, i, leaves.slice[i].count - 1, 11);
+
+    /* Two pairs of digests, at any level. */
+    call parents = {"tree_parents", run_tree_parents, {0}, 3, {reads(domain, 1, base, 0), reads(all_trees, 1, 128, 5), writes(scratch, 1, 64)}, 0, {0, 0}};
+    lengths(&parents);
+    number(&parents, 0, (size_t)-1, 0);
+    counts(&parents, 1, 0, 2, 0, 0);
+    counts(&parents, 1, 64, 2, 32, 0);
+    counts(&parents, 1, 96, 2, 48, 5);
+    count(&parents, 0, 255, 0);
+    count(&parents, 0, 256, 7);
+    for (size_t i = 1; i < 3; i++) counts(&parents, 0, 256, i, parents.slice[i].count - 1, 5);
+
+    call gammas = {"gammas", run_gammas, {N, K}, 2, {reads(domain, 1, base, 0), writes(scratch, 8, 2 * K * N)}, 0, {0, 0}};
+    lengths(&gammas);
+    sizes(&gammas, 0, 1, 0);
+    count(&gammas, 0, 200, 0);
+    count(&gammas, 0, 201, 7);
+    counts(&gammas, 0, 201, 1, 2 * K * N - 1, 5);
+
+    /* Level 1 has 8 entries, level 2 has 4; the part is 3 of these. */
+    call next_part = {"next_part", run_next_part, {N, K, 1, 1}, 2, {reads(all_levels, 8, words, 5), writes_any(scratch, 8, 6)}, 0, {3, 4}};
+    lengths(&next_part);
+    sizes(&next_part, 0, 1, 1);
+    number(&next_part, 2, 0, 5);
+    number(&next_part, 2, N, 4);
+    number(&next_part, 2, (size_t)-1, 4);
+    number(&next_part, 3, 2, 11);
+    number(&next_part, 3, (size_t)-1, 11);
+    number_first(&next_part, 3, 4, 1, 0, 0);
+    number_first(&next_part, 3, 5, 1, 0, 11);
+    for (size_t i = 0; i < 2; i++) {
+        number_first(&next_part, 2, N, i, next_part.slice[i].count - 1, 4);
+        number_first(&next_part, 3, 2, i, next_part.slice[i].count - 1, 5);
+    }
+
+    /* Level 1's tree has 4 leaves; the part is 2 of them. */
+    call level_leaves = {"level_leaves", run_level_leaves, {N, K, 1, 2}, 3,
+                         {reads(domain, 1, base, 0), reads(all_levels, 8, words, 5), writes_any(scratch, 1, 64)}, 0, {0, 0}};
+    lengths(&level_leaves);
+    sizes(&level_leaves, 0, 1, 1);
+    number(&level_leaves, 2, 0, 5);
+    number(&level_leaves, 2, N + 1, 4);
+    number(&level_leaves, 2, (size_t)-1, 4);
+    number(&level_leaves, 3, 3, 11);
+    number(&level_leaves, 3, (size_t)-1, 11);
+    number_first(&level_leaves, 3, 4, 2, 0, 0);
+    number_first(&level_leaves, 3, 5, 2, 0, 11);
+    number_first(&level_leaves, 3, 3, 0, 201, 7);
+    count(&level_leaves, 0, 200, 0);
+    count(&level_leaves, 0, 201, 7);
+    for (size_t i = 1; i < 3; i++) {
+        number_first(&level_leaves, 2, N + 1, i, level_leaves.slice[i].count - 1, 4);
+        number_first(&level_leaves, 3, 3, i, level_leaves.slice[i].count - 1, 5);
+        counts(&level_leaves, 0, 201, i, level_leaves.slice[i].count - 1, 5);
+    }
+
+    call level_parents = {"level_parents", run_level_parents, {N, K, 1, 0}, 3,
+                          {reads(domain, 1, base, 0), reads(all_trees, 1, 128, 5), writes(scratch, 1, 64)}, 0, {0, 0}};
+    lengths(&level_parents);
+    sizes(&level_parents, 0, 1, 1);
+    number(&level_parents, 2, N, 0);
+    number(&level_parents, 2, N + 1, 4);
+    number(&level_parents, 2, (size_t)-1, 4);
+    number(&level_parents, 3, (size_t)-1, 0);
+    counts(&level_parents, 1, 0, 2, 0, 0);
+    counts(&level_parents, 1, 96, 2, 48, 5);
+    count(&level_parents, 0, 200, 0);
+    count(&level_parents, 0, 201, 7);
+    for (size_t i = 1; i < 3; i++) {
+        number_first(&level_parents, 2, N + 1, i, level_parents.slice[i].count - 1, 4);
+        counts(&level_parents, 0, 201, i, level_parents.slice[i].count - 1, 5);
+    }
 
     /* Level 0's tree has two groups of 8. */
     call open = {"open", run_open, {words, 8, POSITION}, 2, {reads(tree0, 1, tree_bytes(words), 5), writes(scratch, 1, 32)}, 0, {0, 0}};

@@ -57,6 +57,75 @@ static void trees(void) {
     MUST(d.number == 0 && memcmp(d.bytes, tree + 192, 32) == 0);
 }
 
+/* Blocks are those of the codeword; a fold and level 0's tree, divided into parts of this many entries or digests, are those made whole. */
+static void parts(size_t n, size_t k, size_t each) {
+    seal s = sealed(n, k, 0, n + k);
+    size_t words = level_words(n, k, 0), width = dequmlo_fold_tree_width(words), groups = words / width, size = tree_bytes(words), block = (size_t)2 << n;
+    uint64_t *folded = (uint64_t *)room(8 * words), *made = (uint64_t *)room(16 * words);
+    uint8_t *tree = (uint8_t *)room(size), domain[64];
+    size_t length = dequmlo_level_domain_length((const uint8_t *)s.base, strlen(s.base), 0).length;
+    MUST(dequmlo_level_domain((const uint8_t *)s.base, strlen(s.base), 0, domain, length) == 0);
+    for (size_t eps = 0; eps < (size_t)1 << k; eps++)
+        MUST(dequmlo_codeword_block(n, k, eps, s.table, block, s.gammas, 2 * k * n, made + eps * block, block) == 0);
+    MUST(memcmp(made, s.levels, 16 * words) == 0);
+    for (size_t var = 0; var < n; var++) {
+        MUST(dequmlo_fold(n, k, var, s.claim, s.levels, 2 * words, folded, words).number == 0);
+        memset(made, 0x5a, 8 * words);
+        for (size_t first = 0, m; first < words / 2; first += m) {
+            m = words / 2 - first < each ? words / 2 - first : each;
+            MUST(dequmlo_fold_part(n, k, var, s.claim, first, s.levels, 2 * words, made + 2 * first, 2 * m) == 0);
+        }
+        MUST(memcmp(made, folded, 8 * words) == 0);
+    }
+    for (size_t first = 0, m; first < groups; first += m) {
+        m = groups - first < each ? groups - first : each;
+        MUST(dequmlo_tree_leaves(domain, length, words, width, first, s.levels, 2 * words, tree + 32 * first, 32 * m) == 0);
+    }
+    uint8_t *below = tree;
+    for (size_t level = 0, half = groups / 2; half > 0; level++, below += 64 * half, half /= 2)
+        for (size_t first = 0, m; first < half; first += m) {
+            m = half - first < each ? half - first : each;
+            MUST(dequmlo_tree_parents(domain, length, level, below + 64 * first, 64 * m, below + 64 * half + 32 * first, 32 * m) == 0);
+        }
+    MUST(memcmp(tree, s.trees, size) == 0);
+    free(folded), free(made), free(tree);
+    unsealed(&s);
+}
+
+/* Every level and its tree in parts of this many entries or digests are those of the fixture; the gammas too. */
+static void level_parts(size_t n, size_t k, size_t each) {
+    seal s = sealed(n, k, 0, n + k);
+    const uint8_t *base = (const uint8_t *)s.base, *trees = s.trees;
+    const uint64_t *level = s.levels;
+    size_t length = strlen(s.base);
+    uint64_t *next = (uint64_t *)room(8 * level_words(n, k, 0)), *gammas = (uint64_t *)room(16 * k * n + 1);
+    uint8_t *tree = (uint8_t *)room(trees_bytes(n, k));
+    MUST(dequmlo_gammas(n, k, base, length, gammas, 2 * k * n) == 0 && memcmp(gammas, s.gammas, 16 * k * n) == 0);
+    for (size_t l = 0; l <= n; l++) {
+        size_t words = level_words(n, k, l), size = tree_bytes(words), groups = (size / 32 + 1) / 2, height = 0;
+        for (size_t first = 0, m; first < groups; first += m) {
+            m = groups - first < each ? groups - first : each;
+            MUST(dequmlo_level_leaves(n, k, l, base, length, first, level, 2 * words, tree + 32 * first, 32 * m) == 0);
+        }
+        uint8_t *below = tree;
+        for (size_t half = groups / 2; half > 0; height++, below += 64 * half, half /= 2)
+            for (size_t first = 0, m; first < half; first += m) {
+                m = half - first < each ? half - first : each;
+                MUST(dequmlo_level_parents(n, k, l, base, length, height, below + 64 * first, 64 * m, below + 64 * half + 32 * first, 32 * m) == 0);
+            }
+        MUST(memcmp(tree, trees, size) == 0);
+        for (size_t first = 0, m; l < n && first < words / 2; first += m) {
+            dequmlo_word r = {s.challenges[2 * l], s.challenges[2 * l + 1]};
+            m = words / 2 - first < each ? words / 2 - first : each;
+            MUST(dequmlo_next_part(n, k, l, r, first, level, 2 * words, next + 2 * first, 2 * m) == 0);
+        }
+        level += 2 * words, trees += size;
+        MUST(l == n || memcmp(next, level, 8 * words) == 0);
+    }
+    free(next), free(gammas), free(tree);
+    unsealed(&s);
+}
+
 /* The domain of every level, as the fixture writes it. */
 static void domains(void) {
     const uint8_t *base = (const uint8_t *)"dequmlo/test";
@@ -147,6 +216,14 @@ int main(void) {
     levels(3, 1);
     levels(6, 2);
     levels(11, 0);
+    parts(1, 0, 1);
+    parts(3, 1, 3);
+    parts(6, 2, 5);
+    parts(8, 3, 64);
+    parts(8, 3, 100000);
+    level_parts(1, 0, 1);
+    level_parts(3, 1, 3);
+    level_parts(8, 4, 100);
     records();
     ring();
     parameters();

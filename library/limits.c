@@ -127,6 +127,39 @@ static uint32_t tree(const size_t *v) {
     return dequmlo_tree(BYTES(DOMAIN, v[0]), v[1], v[2], values, 2 * v[1], BYTES(TREE, bytes_of_tree(v[1], v[2])));
 }
 
+/* n, k, block. The same block as in the codeword that was committed. */
+static uint32_t codeword_block(const size_t *v) {
+    size_t n = v[0], k = v[1], words = (size_t)1 << n;
+    uint32_t number = dequmlo_codeword_block(n, k, v[2], WORDS(TABLE, words), WORDS(GAMMAS, k * n), WORDS(HALF, words));
+    if (number == 0 && n == 20) MUST(memcmp(halves_of(HALF, words), halves_of(LEVELS, levels_words(n, k)) + 2 * words * v[2], 16 * words) == 0);
+    return number;
+}
+
+/* n, k, variable, first entry, entries. By 1 the last pair folds to the last word. */
+static uint32_t fold_part(const size_t *v) {
+    size_t n = v[0], k = v[1], words = level_words(n, k, 0);
+    const uint64_t *codeword = halves_of(LEVELS, levels_words(n, k));
+    uint32_t number = dequmlo_fold_part(n, k, v[2], word(1), v[3], codeword, 2 * words, WORDS(HALF, v[4]));
+    if (number == 0 && v[4] > 0 && v[3] + v[4] == words / 2) MUST(memcmp(halves_of(HALF, 1), codeword + 2 * words - 2, 16) == 0);
+    return number;
+}
+
+/* bytes of the domain, count, width, first group, groups. The same leaves as in the tree above. */
+static uint32_t tree_leaves(const size_t *v) {
+    const uint64_t *values = halves_of(LEVELS, levels_words(20, 4));
+    uint32_t number = dequmlo_tree_leaves(BYTES(DOMAIN, v[0]), v[1], v[2], v[3], values, 2 * v[1], BYTES(LEVEL_TREE, 32 * v[4]));
+    if (number == 0) MUST(memcmp(bytes_of(LEVEL_TREE, 32 * v[4]), bytes_of(TREE, bytes_of_tree(v[1], v[2])) + 32 * v[3], 32 * v[4]) == 0);
+    return number;
+}
+
+/* bytes of the domain, level, parents. The parents of its first leaves stand after all of them. */
+static uint32_t tree_parents(const size_t *v) {
+    const uint8_t *leaves = bytes_of(TREE, bytes_of_tree((size_t)1 << 24, 512));
+    uint32_t number = dequmlo_tree_parents(BYTES(DOMAIN, v[0]), v[1], leaves, 64 * v[2], BYTES(LEVEL_TREE, 32 * v[2]));
+    if (number == 0 && v[1] == 0) MUST(memcmp(bytes_of(LEVEL_TREE, 32 * v[2]), leaves + ((size_t)32 << 15), 32 * v[2]) == 0);
+    return number;
+}
+
 /* count, width, place, digests of the path */
 static uint32_t open(const size_t *v) {
     return dequmlo_open(v[0], v[1], v[2], BYTES(TREE, bytes_of_tree(v[0], v[1])), BYTES(PATH, 32 * v[3]));
@@ -176,6 +209,38 @@ static uint32_t level_tree(const size_t *v) {
     const uint64_t *level = halves_of(LEVELS, levels_words(n, k)) + 2 * words_before(n, k, l);
     uint32_t number = dequmlo_level_tree(n, k, l, BYTES(DOMAIN, v[0]), level, 2 * words, BYTES(LEVEL_TREE, size));
     if (number == 0) MUST(memcmp(bytes_of(LEVEL_TREE, size), bytes_of(TREES, trees_bytes(n, k)) + bytes_before(n, k, l), size) == 0);
+    return number;
+}
+
+/* n, k, bytes of the base domain */
+static uint32_t gammas(const size_t *v) { return dequmlo_gammas(v[0], v[1], BYTES(DOMAIN, v[2]), WORDS(GAMMAS, v[0] * v[1])); }
+
+/* n, k, level, first entry, entries. The same entries as among all levels. */
+static uint32_t next_part(const size_t *v) {
+    size_t n = v[0], k = v[1], l = v[2], words = level_words(n, k, l);
+    const uint64_t *level = halves_of(LEVELS, levels_words(n, k)) + 2 * words_before(n, k, l);
+    const uint64_t *challenge = halves_of(CHALLENGES, 20) + 2 * (l < 20 ? l : 0);
+    dequmlo_word r = {challenge[0], challenge[1]};
+    uint32_t number = dequmlo_next_part(n, k, l, r, v[3], level, 2 * words, WORDS(HALF, v[4]));
+    if (number == 0) MUST(memcmp(halves_of(HALF, v[4]), level + 2 * words + 2 * v[3], 16 * v[4]) == 0);
+    return number;
+}
+
+/* bytes of the base domain, n, k, level, first group, groups. The same leaves as among all trees. */
+static uint32_t level_leaves(const size_t *v) {
+    size_t n = v[1], k = v[2], l = v[3], words = level_words(n, k, l);
+    const uint64_t *level = halves_of(LEVELS, levels_words(n, k)) + 2 * words_before(n, k, l);
+    uint32_t number = dequmlo_level_leaves(n, k, l, BYTES(DOMAIN, v[0]), v[4], level, 2 * words, BYTES(LEVEL_TREE, 32 * v[5]));
+    if (number == 0)
+        MUST(memcmp(bytes_of(LEVEL_TREE, 32 * v[5]), bytes_of(TREES, trees_bytes(n, k)) + bytes_before(n, k, l) + 32 * v[4], 32 * v[5]) == 0);
+    return number;
+}
+
+/* bytes of the base domain, n, k, level, parents. Those of level 0's leaves stand after all of them. */
+static uint32_t level_parents(const size_t *v) {
+    const uint8_t *leaves = bytes_of(TREES, trees_bytes(20, 4));
+    uint32_t number = dequmlo_level_parents(v[1], v[2], v[3], BYTES(DOMAIN, v[0]), 0, leaves, 64 * v[4], BYTES(LEVEL_TREE, 32 * v[4]));
+    if (number == 0 && v[3] == 0) MUST(memcmp(bytes_of(LEVEL_TREE, 32 * v[4]), leaves + ((size_t)32 << 21), 32 * v[4]) == 0);
     return number;
 }
 
@@ -296,6 +361,22 @@ static const row rows[] = {
     {CALL(fold), {1, 0, 1}, 6},
     {CALL(fold), {0, 0, 0}, 6},
 
+    {CALL(codeword_block), {0, 0, 0}, 0},
+    {CALL(codeword_block), {20, 4, 15}, 0},
+    {CALL(codeword_block), {20, 4, 16}, 11},
+    {CALL(codeword_block), {0, 0, 1}, 11},
+    {CALL(codeword_block), {21, 4, 15}, 4},
+    {CALL(codeword_block), {20, 5, 15}, 4},
+
+    {CALL(fold_part), {20, 4, 19, MOST / 2 - 1, 1}, 0},
+    {CALL(fold_part), {20, 4, 0, 0, MOST / 2}, 0},
+    {CALL(fold_part), {20, 4, 19, MOST / 2, 0}, 0},
+    {CALL(fold_part), {20, 4, 19, MOST / 2, 1}, 11},
+    {CALL(fold_part), {20, 4, 19, MOST / 2 + 1, 0}, 11},
+    {CALL(fold_part), {20, 4, 20, 0, 1}, 6},
+    {CALL(fold_part), {21, 4, 20, 0, 1}, 4},
+    {CALL(fold_part), {20, 5, 19, 0, 1}, 4},
+
     {CALL(tree), {0, 1, 1}, 0},
     {CALL(tree), {255, 512, 512}, 0},
     {CALL(tree), {255, MOST, 512}, 0},
@@ -305,6 +386,21 @@ static const row rows[] = {
     {CALL(tree), {255, MOST, 1024}, 9},
     {CALL(tree), {255, MOST, 0}, 9},
     {CALL(tree), {255, 256, 512}, 10},
+
+    {CALL(tree_leaves), {255, MOST, 512, 0, MOST / 512}, 0},
+    {CALL(tree_leaves), {255, MOST, 512, LAST / 512, 1}, 0},
+    {CALL(tree_leaves), {255, MOST, 512, MOST / 512, 0}, 0},
+    {CALL(tree_leaves), {255, MOST, 512, MOST / 512, 1}, 11},
+    {CALL(tree_leaves), {255, MOST, 512, MOST / 512 + 1, 0}, 11},
+    {CALL(tree_leaves), {256, MOST, 512, 0, 1}, 7},
+    {CALL(tree_leaves), {255, 2 * MOST, 512, 0, 1}, 8},
+    {CALL(tree_leaves), {255, MOST, 1024, 0, 1}, 9},
+    {CALL(tree_leaves), {255, 256, 512, 0, 0}, 10},
+
+    {CALL(tree_parents), {255, 0, MOST / 1024}, 0},
+    {CALL(tree_parents), {0, (size_t)-1, 1}, 0},
+    {CALL(tree_parents), {255, 0, 0}, 0},
+    {CALL(tree_parents), {256, 0, 1}, 7},
 
     {CALL(open), {MOST, 512, LAST, 15}, 0},
     {CALL(open), {2 * MOST, 512, LAST, 16}, 8},
@@ -350,6 +446,38 @@ static const row rows[] = {
     {CALL(level_tree), {200, 21, 4, 21}, 4},
     {CALL(level_tree), {200, 20, 5, 20}, 4},
     {CALL(level_tree), {201, 20, 4, 20}, 7},
+
+    {CALL(gammas), {0, 0, 0}, 0},
+    {CALL(gammas), {20, 4, 200}, 0},
+    {CALL(gammas), {21, 4, 200}, 4},
+    {CALL(gammas), {20, 5, 200}, 4},
+    {CALL(gammas), {20, 4, 201}, 7},
+
+    {CALL(next_part), {20, 4, 0, 0, MOST / 2}, 0},
+    {CALL(next_part), {20, 4, 19, 15, 1}, 0},
+    {CALL(next_part), {20, 4, 19, 16, 0}, 0},
+    {CALL(next_part), {20, 4, 19, 16, 1}, 11},
+    {CALL(next_part), {20, 4, 19, 17, 0}, 11},
+    {CALL(next_part), {20, 4, 20, 0, 1}, 4},
+    {CALL(next_part), {0, 4, 0, 0, 1}, 4},
+    {CALL(next_part), {21, 4, 0, 0, 1}, 4},
+    {CALL(next_part), {20, 5, 0, 0, 1}, 4},
+
+    {CALL(level_leaves), {200, 20, 4, 0, 0, MOST / 8}, 0},
+    {CALL(level_leaves), {200, 20, 4, 20, 1, 1}, 0},
+    {CALL(level_leaves), {200, 20, 4, 20, 2, 0}, 0},
+    {CALL(level_leaves), {200, 20, 4, 20, 2, 1}, 11},
+    {CALL(level_leaves), {200, 20, 4, 21, 0, 1}, 4},
+    {CALL(level_leaves), {200, 0, 4, 0, 0, 1}, 4},
+    {CALL(level_leaves), {200, 20, 5, 0, 0, 1}, 4},
+    {CALL(level_leaves), {201, 20, 4, 0, 0, 1}, 7},
+
+    {CALL(level_parents), {200, 20, 4, 0, MOST / 16}, 0},
+    {CALL(level_parents), {200, 20, 4, 20, 1}, 0},
+    {CALL(level_parents), {200, 20, 4, 21, 1}, 4},
+    {CALL(level_parents), {200, 0, 4, 0, 1}, 4},
+    {CALL(level_parents), {200, 20, 5, 0, 1}, 4},
+    {CALL(level_parents), {201, 20, 4, 0, 1}, 7},
 
     {CALL(build_query), {20, 4, LAST}, 0},
     {CALL(build_query), {20, 4, MOST}, 11},

@@ -31,6 +31,17 @@ static void fold_levels(void) {
 static void level_domain(void) { MUST(dequmlo_level_domain(BASE, 8, bytes, strlen(s.base) + 8) == 0); }
 static void level_tree(void) { MUST(dequmlo_level_tree(s.n, s.k, 0, BASE, s.levels, 2048, bytes, tree_bytes(1024)) == 0); }
 static void tree(void) { MUST(dequmlo_tree(BASE, 1024, 512, s.levels, 2048, bytes, 96) == 0); }
+static void codeword_block(void) {
+    size_t block = (size_t)2 << s.n;
+    MUST(dequmlo_codeword_block(s.n, s.k, 1, s.table, block, s.gammas, 2 * s.k * s.n, words, block) == 0);
+}
+static void fold_part(void) { MUST(dequmlo_fold_part(s.n, s.k, 0, s.claim, 1, s.levels, 2 * level_words(s.n, s.k, 0), words, 1000) == 0); }
+static void gammas(void) { MUST(dequmlo_gammas(s.n, s.k, BASE, s.gammas, 2 * s.k * s.n) == 0); }
+static void next_part(void) { MUST(dequmlo_next_part(s.n, s.k, 0, s.claim, 1, s.levels, 2 * level_words(s.n, s.k, 0), words, 1000) == 0); }
+static void level_leaves(void) { MUST(dequmlo_level_leaves(s.n, s.k, 0, BASE, 1, s.levels, 2048, bytes, 32 * 100) == 0); }
+static void level_parents(void) { MUST(dequmlo_level_parents(s.n, s.k, 0, BASE, 0, s.trees, 128 * 32, bytes, 64 * 32) == 0); }
+static void tree_leaves(void) { MUST(dequmlo_tree_leaves(BASE, 1024, 512, 1, s.levels, 2048, bytes, 32) == 0); }
+static void tree_parents(void) { MUST(dequmlo_tree_parents(BASE, 0, s.trees, 128 * 32, bytes, 64 * 32) == 0); }
 static void open(void) { MUST(dequmlo_open(1024, 8, 5, s.trees, tree_bytes(1024), bytes, 32 * depth_of(1024)) == 0); }
 static void root(void) { MUST(dequmlo_root_of_path(BASE, 1024, 512, 5, s.levels, 1024, s.trees, 32).number == 0); }
 static void build_query(void) {
@@ -85,6 +96,14 @@ int main(void) {
         {"level_domain", level_domain},
         {"level_tree", level_tree},
         {"tree", tree},
+        {"gammas", gammas},
+        {"next_part", next_part},
+        {"level_leaves", level_leaves},
+        {"level_parents", level_parents},
+        {"codeword_block", codeword_block},
+        {"fold_part", fold_part},
+        {"tree_leaves", tree_leaves},
+        {"tree_parents", tree_parents},
         {"open", open},
         {"root_of_path", root},
         {"build_query", build_query},

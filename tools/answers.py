@@ -250,6 +250,24 @@ def fold(n, k, var, r, values, out):
 
 
 @operation
+def codeword_block(n, k, eps, table, gammas, out):
+    sized = in_range(n, k) and halves(table) == 2 << n and halves(gammas) == 2 * n * k and out == 2 << n
+    number = no((4, in_range(n, k)), (5, sized), (11, in_range(n, k) and eps < 1 << k))
+    if number:
+        return [number], []
+    return [0], [packed(encode(n, k, ints(table), ints(gammas))[eps << n : eps + 1 << n])]
+
+
+@operation
+def fold_part(n, k, var, r, first, values, out):
+    sized = in_range(n, k) and halves(values) == 2 << n + k and out % 2 == 0
+    number = no((4, in_range(n, k)), (5, sized), (6, var < n), (11, in_range(n, k) and first + out // 2 <= (1 << n + k) // 2))
+    if number:
+        return [number], []
+    return [0], [packed(fold_at(ints(values), var, ints(r)[0])[first : first + out // 2])]
+
+
+@operation
 def gamma_message_(n, k, base, j, i):
     return [0, len(gamma_message(base, n, k, j, i))], []
 
@@ -367,6 +385,22 @@ def build(domain, count, width, values, out):
     questions = [(7, len(domain) <= 255), *shaped(count, width)]
     number = no(*questions) or no((5, halves(values) == 2 * count and out == 32 * (2 * (count // width) - 1)))
     return done(number, *([b"".join(tree(domain, width, ints(values)))] if number == 0 else []))
+
+
+@operation
+def leaves(domain, count, width, first, values, out):
+    questions = [(7, len(domain) <= 255), *shaped(count, width)]
+    number = no(*questions) or no((11, first + out // 32 <= count // width), (5, halves(values) == 2 * count), (5, out % 32 == 0))
+    if number:
+        return [number], []
+    return [0], [b"".join(tree(domain, width, ints(values)))[32 * first : 32 * first + out]]
+
+
+@operation
+def parents(domain, level, children, out):
+    number = no((5, len(children) % 64 == 0), (5, out == len(children) // 2), (7, len(domain) <= 255))
+    pairs = [children[i : i + 64] for i in range(0, len(children), 64)]
+    return done(number, *([b"".join(blake3(node_message(domain, level, pair[:32], pair[32:])) for pair in pairs)] if number == 0 else []))
 
 
 @operation

@@ -121,6 +121,17 @@ def code(some):
     for n, k in [(0, 0), (0, 4), (3, 2), (4, 1)]:
         yield "encode %d %d %s %s %d" % (n, k, hex_words(some(1 << n)), hex_words(some(n * k)), 2 << n + k)
     yield from ["# n and k at their largest, of lengths that are not theirs", "encode 20 4 0x80 0x80 160", "fold 20 4 0 2 0x80 160"]
+    yield "# the parts of a codeword and of folds, and the questions put to them in order"
+    table, gammas = hex_words(some(8)), hex_words(some(6))
+    yield from ["codeword_block 3 2 %d %s %s 16" % (eps, table, gammas) for eps in range(5)]
+    yield from ["codeword_block 0 0 0 7 - 2", "codeword_block 0 0 1 7 - 2", "codeword_block 21 0 0 7 - 2", "codeword_block 1 5 0 5,9 3 4"]
+    yield from ["codeword_block 1 1 1 5,9 7 4", "codeword_block 1 1 2 5,9 7 3", "codeword_block 1 1 2 5,h9 7 4", "codeword_block 1 1 2 5,9 - 4"]
+    yield from ["codeword_block 21 5 40 5 7 4", "codeword_block 20 4 16 0x80 0x80 160"]
+    for var, first, entries in [(0, 0, 8), (0, 3, 2), (1, 0, 3), (1, 3, 5), (2, 1, 6), (2, 7, 1), (2, 8, 0), (0, 8, 0)]:
+        yield "fold_part 3 1 %d 2 %d ~w9x16 %d" % (var, first, 2 * entries)
+    yield from ["fold_part 3 1 0 2 8 ~w9x16 2", "fold_part 3 1 0 2 9 ~w9x16 0", "fold_part 3 1 0 2 0 ~w9x16 18", "fold_part 3 1 0 2 18446744073709551615 ~w9x16 2"]
+    yield from ["fold_part 3 1 3 2 0 ~w9x16 2", "fold_part 3 1 3 2 9 ~w9x16 2", "fold_part 3 1 3 2 9 ~w9x16 3", "fold_part 3 1 3 2 9 ~w9x15 2"]
+    yield from ["fold_part 21 1 3 2 9 ~w9x16 2", "fold_part 3 5 3 2 9 ~w9x16 2", "fold_part 0 0 0 2 0 3 0", "fold_part 1 0 0 2 0 5,9 2"]
 
 
 def differences():

@@ -1,4 +1,4 @@
-"""Lines for test_record: levels, committing, records built, checked and compared, `tail-list` and the whole run. Deposits and records are those of
+"""Lines for test_record, data/record: levels, committing, records built, checked and compared, `tail-list` and the whole run. Deposits and records are those of
 records.py. Of each case on records its number is also known by the way it is made, and the model must agree."""
 import copy
 import dataclasses

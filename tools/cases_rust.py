@@ -1,4 +1,4 @@
-"""Lines of the fixed list: the published Rust answers them (oracle/README.md), and programs replay them without it. Inputs are drawn from a
+"""Lines of the fixed list: the published Rust answers them (oracle/README.md), and the programs replay them without it. Inputs are drawn from a
 case's number, as 16 times it and the input's own number from 0 to 15."""
 from lines import drawn, drawn_word
 from model import fold_tree_width

@@ -1,4 +1,4 @@
-"""Lines for test_tree: the hash and trees."""
+"""Lines for test_record, data/tree: the hash and trees."""
 import itertools
 import pathlib
 
@@ -61,6 +61,8 @@ def refusals():
     yield from pairs("leaf_digest", ["61", 16, 8, 5, "~w1x8"], [[long], *shape, [(3, 1000)], [(4, "~w1x3,h7")]])
     yield from pairs("node_digest", ["61", 0, "%32", "%32"], [[long], [(2, "%31")], [(3, "%33")]])
     yield from pairs("build", ["61", 16, 8, "~w1x16", 96], [[long], *shape, [(3, "~w1x15,h7")], [(4, 95)]])
+    yield from pairs("leaves", ["61", 16, 2, 3, "~w1x16", 96], [[long], *shape, [(3, 1000)], [(4, "~w1x15,h7")], [(5, 95)]])
+    yield from pairs("parents", ["61", 0, "%128", 64], [[long], [(2, "%127")], [(3, 63)]])
     shape = [[(0, 3)], [(1, 3)], [(1, 32)]]
     yield from pairs("open", [16, 8, 5, "%96", 32], [*shape, [(2, 1000)], [(3, "%97")], [(4, 64)]])
     shape = [[(1, 3)], [(2, 3)], [(2, 32)]]
@@ -112,6 +114,11 @@ def trees():
         for count, width in SHAPES + (LARGE if d > 88 else []):
             groups = count // width
             yield "build %s %d %d ~w%dx%d %d" % (domain, count, width, count, count, 32 * (2 * groups - 1))
+    yield "# leaves of some groups, and parents of some pairs"
+    for count, width, first, groups in [(16, 2, 0, 8), (16, 2, 3, 5), (64, 8, 1, 6), (64, 1, 5, 59), (1024, 512, 1, 1), (16, 1, 16, 0), (1, 1, 0, 1)]:
+        yield "leaves 61 %d %d %d ~w%dx%d %d" % (count, width, first, count, count, 32 * groups)
+    for level, pairs in enumerate((0, 1, 3, 4, 5, 64, 65, 130)):
+        yield "parents %s %d %%%d %d" % (DOMAINS[255 if pairs == 5 else 1], level, 64 * pairs, 32 * pairs)
 
 
 def openings():

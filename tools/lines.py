@@ -70,10 +70,10 @@ class Reader:
 def tables():
     """The letters of every operation, by program: the programs' own tables."""
     found = {}
-    for program in ("test_field", "test_tree", "test_record"):
+    for program in ("test_field", "test_record"):
         source = (CRATES / program / "src" / "main.rt").read_text()
         table = re.search(r'let table = b"\\\n(.*?)"', source, re.S).group(1)
-        found[program] = dict(line.split() for line in table.splitlines())
+        found[program] = dict(line.split(" ") for line in table.splitlines())
     return found
 
 

@@ -1,6 +1,6 @@
 #!/usr/bin/env python3
-"""vectors.py [--check] [--oracle PROGRAM]: the request lines of the programs test_field, test_tree and test_record, and what they must print;
-and what export_tail_list reads and prints.
+"""vectors.py [--check] [--oracle PROGRAM]: the request lines of the programs test_field and test_record, and what they must print; and what
+export_tail_list reads and prints.
 
 The lines come from cases_*.py; a file's first line says where its answers come from. Those by docs/SPECIFICATION.md are the model's (answers.py). Those
 of the Rust are kept as they are stored, and asked anew with --oracle, of the program that oracle/build makes; so are those of the model on
@@ -25,16 +25,22 @@ def records(oracle):
     if oracle:
         run = subprocess.run([oracle, "records"], capture_output=True, text=True, check=True)
         return cases_rust.RUST + run.stdout
-    stored = lines.CRATES / "test_record" / "data" / "rust_records.txt"
+    stored = lines.CRATES / "test_record" / "data" / "record" / "rust_records.txt"
     return stored.read_text() if stored.exists() else cases_rust.RUST
+
+
+def below(folder, named):
+    return [(folder + "/" + name, text) for name, text in named]
 
 
 def files(oracle):
     """The files of each program, in the order in which it reads them: name and lines."""
     return {
         "test_field": [*cases_field.files(), *cases_rust.field_files()],
-        "test_tree": [*cases_tree.files(), *cases_rust.tree_files()],
-        "test_record": [*cases_record.files(), *cases_rust.record_files(records(oracle))],
+        "test_record": [
+            *below("tree", [*cases_tree.files(), *cases_rust.tree_files()]),
+            *below("record", [*cases_record.files(), *cases_rust.record_files(records(oracle))]),
+        ],
     }
 
 
@@ -121,12 +127,12 @@ def main():
         for name, text in wanted.items():
             place = crate / name
             if not checking:
-                place.parent.mkdir(exist_ok=True)
+                place.parent.mkdir(parents=True, exist_ok=True)
                 place.write_text(text)
             elif not place.exists() or place.read_text() != text:
                 wrong.append("%s/%s is not what it should be" % (program, name))
-        extra = {p.name for p in (crate / "data").iterdir()} - {name for name, _ in all_files}
-        wrong += ["%s/data/%s is of no list" % (program, name) for name in sorted(extra)]
+        extra = {str(p.relative_to(crate)) for p in (crate / "data").rglob("*") if p.is_file()} - set(wanted)
+        wrong += ["%s/%s is of no list" % (program, name) for name in sorted(extra)]
     for name, data in cases_record.example().items():
         place = lines.CRATES / "export_tail_list" / name
         if not checking:

@@ -17,7 +17,7 @@ struct Command {
 const COMMANDS: [Command; 12] = [
     Command {
         name: "commit",
-        usage: "seal commit FILE|FOLDER [--profile NAME | --k K --domain TEXT] [--out FOLDER] [--force]",
+        usage: "seal commit FILE|FOLDER [--profile NAME | --k K --domain TEXT] [--out FOLDER] [--force] [--threads N]",
         does: "Seals a file, or a project of all files below a folder: its root and parameters go into the folder FILE.seal.",
         takes: &commands::commit::TAKEN,
     },
@@ -60,7 +60,7 @@ const COMMANDS: [Command; 12] = [
     },
     Command {
         name: "verify",
-        usage: "seal verify FILE|FOLDER --seal FOLDER [--opening FOLDER]",
+        usage: "seal verify FILE|FOLDER --seal FOLDER [--opening FOLDER] [--threads N]",
         does: "Says whether a file is still the one that was sealed. Where it is not and an opening shows old words, says where it first differs.\n    \
                Of a project it lists which files changed, are missing or are new.",
         takes: &commands::verify::TAKEN,

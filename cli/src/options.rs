@@ -1,6 +1,7 @@
 //! The words of a command line.
 
 use crate::outcome::Failure;
+use dequmlo::Threads;
 use std::ffi::OsString;
 use std::path::PathBuf;
 
@@ -25,7 +26,7 @@ const fn option(name: &'static str, value: &'static str, means: &'static str) ->
 }
 
 /// Every option, in the order of the help.
-pub const OPTIONS: [Known; 24] = [
+pub const OPTIONS: [Known; 25] = [
     option("--seal", "FOLDER", "the seal, as `seal commit` wrote it"),
     option("--asked", "FOLDER", "the request that `seal ask` wrote; it has challenges, positions, roots and claim"),
     option("--answer", "FOLDER", "the holder's answer to a request without positions, as `seal open` wrote it"),
@@ -48,6 +49,7 @@ pub const OPTIONS: [Known; 24] = [
     option("--report", "FILE", "writes what was found as a page for the archive's file, FILE.html"),
     option("--out", "FOLDER", "where to write, in place of the folder beside the file"),
     option("--force", "", "replaces a folder that holds exactly what this program wrote"),
+    option("--threads", "N", "how many threads work, from 1; without it one for each core. Every number gives the same bytes"),
     option("--json", "", "prints one object for programs"),
     option("--help", "", "shows a command with its options; -h is the same"),
 ];
@@ -168,6 +170,15 @@ impl Options {
                 .map_err(|_| Failure(format!("{name} needs a number, and `{text}` is none")))
         };
         self.text(name)?.map(number).transpose()
+    }
+
+    /// How many threads work: as many as are given, or one for each core.
+    pub fn threads(&self) -> Result<Threads, Failure> {
+        match self.number("--threads")? {
+            None => Ok(Threads::all()),
+            Some(0) => Err(Failure("--threads needs a number from 1".into())),
+            Some(number) => Ok(Threads::of(number)),
+        }
     }
 }
 

@@ -12,7 +12,7 @@ use crate::reading::{inside, unreadable, Unread};
 use crate::seal::{Seal, SEAL_FOLDER};
 use crate::shape::Shape;
 use crate::table::{room_for, variables, MOST_BYTES};
-use dequmlo::Sizes;
+use dequmlo::{Sizes, Threads};
 use std::os::unix::ffi::OsStrExt;
 use std::path::Path;
 
@@ -83,7 +83,7 @@ pub fn manifest_in(
         return another("it has another size".into());
     }
     room_for(&seal.shape)?;
-    match root_of(&bytes, *k, domain) {
+    match root_of(&bytes, Threads::all(), *k, domain) {
         Ok(root) if root == seal.root => (),
         Ok(root) => {
             return another(format!(

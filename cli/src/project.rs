@@ -5,7 +5,7 @@ use crate::outcome::{Failure, Outcome};
 use crate::progress::Progress;
 use crate::reading::{not_a_file, reason, shown_name, shown_path, stretch, unreadable};
 use crate::table::{room_for_many, table_of, variables};
-use dequmlo::{Deposit, Refusal, Root};
+use dequmlo::{Deposit, Refusal, Root, Threads};
 use std::ffi::OsStr;
 use std::fs;
 use std::os::unix::ffi::OsStrExt;
@@ -97,15 +97,16 @@ impl Stop {
 }
 
 /// The root of these bytes as a deposit of their own. They are at most as many as a deposit has.
-pub fn root_of(bytes: &[u8], k: usize, domain: &[u8]) -> Result<Root, Refusal> {
+pub fn root_of(bytes: &[u8], threads: Threads, k: usize, domain: &[u8]) -> Result<Root, Refusal> {
     let table = table_of(bytes).expect("no more bytes than a deposit has");
-    Deposit::commit(domain, k, &table).map(|deposit| deposit.root())
+    Deposit::commit_on(threads, domain, k, &table).map(|deposit| deposit.root())
 }
 
-/// The manifest of these files of a folder, whose parts are committed on all cores.
+/// The manifest of these files of a folder, whose parts are committed on so many threads, a part to a thread at a time.
 pub fn manifest_of(
     folder: &Path,
     files: Vec<(Vec<u8>, u64)>,
+    threads: Threads,
     k: usize,
     domain: &[u8],
 ) -> Result<Manifest, Stop> {
@@ -117,8 +118,8 @@ pub fn manifest_of(
     let size = |(file, part): &Job| part_place(files[*file].1, *part).1;
     jobs.sort_by_key(|job| std::cmp::Reverse(size(job)));
     let largest = variables(jobs.first().map_or(0, size));
-    let cores = thread::available_parallelism().map_or(1, usize::from);
-    let threads = room_for_many(largest, k, cores.min(jobs.len()).max(1)).map_err(Stop::Failed)?;
+    let wanted = threads.number().min(jobs.len()).max(1);
+    let threads = room_for_many(largest, k, wanted).map_err(Stop::Failed)?;
 
     let work = Work::new(&jobs, files.iter().map(|(_, bytes)| bytes).sum());
     thread::scope(|scope| {
@@ -128,7 +129,7 @@ pub fn manifest_of(
                     let (path, bytes) = &files[file];
                     let read = part_of_file(&file_path(folder, path), *bytes, part);
                     let read = read.map_err(Stop::Failed)?;
-                    let root = root_of(&read, k, domain).map_err(Stop::Refused)?;
+                    let root = root_of(&read, Threads::of(1), k, domain).map_err(Stop::Refused)?;
                     Ok((root, read.len()))
                 })
             });

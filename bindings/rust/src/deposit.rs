@@ -6,6 +6,7 @@ use crate::refusal::Refusal;
 use crate::ring::variables;
 use crate::root::Root;
 use crate::sizes::Sizes;
+use crate::threads::{Commitment, Threads};
 use crate::tree::root_of;
 use crate::word::{halves, words, Word};
 use std::fmt;
@@ -71,6 +72,39 @@ impl Deposit {
         })
     }
 
+    /// The same on this many threads, which give the same bytes: the blocks of the codeword, and the leaves and parents of its tree, are divided
+    /// over them. It needs its buffers and at most 128 KiB of stack a thread.
+    pub fn commit_on(
+        threads: Threads,
+        base: &[u8],
+        k: usize,
+        table: &[Word],
+    ) -> Result<Deposit, Refusal> {
+        if threads.number() == 1 {
+            return Deposit::commit(base, k, table);
+        }
+        let sizes = Sizes::of(variables(table.len())?, k)?;
+        let table = halves(table);
+        let mut gammas = vec![0u64; 2 * sizes.gamma_words];
+        let mut levels = Vec::with_capacity(2 * sizes.levels_words);
+        levels.resize(2 * sizes.codeword_words, 0u64);
+        let mut trees = Vec::with_capacity(sizes.trees_bytes);
+        trees.resize(sizes.tree_bytes, 0u8);
+        let on = Commitment {
+            threads,
+            sizes,
+            base,
+        };
+        on.commit(&table, &mut gammas, &mut levels, &mut trees)?;
+        Ok(Deposit {
+            base: base.to_vec(),
+            sizes,
+            gammas,
+            levels,
+            trees,
+        })
+    }
+
     /// What n and k fix.
     #[must_use]
     pub fn sizes(&self) -> Sizes {
@@ -126,6 +160,29 @@ impl Deposit {
             levels: self.levels,
             trees: self.trees,
             roots: roots.chunks_exact(32).map(root_of).collect(),
+        })
+    }
+
+    /// The same on this many threads, which give the same bytes. On more than one there is no room for a fold beside the levels, and level 0's
+    /// tree is not made again.
+    pub fn fold_on(mut self, threads: Threads, challenges: &[Word]) -> Result<Folded, Refusal> {
+        if threads.number() == 1 || challenges.len() != self.sizes.n {
+            return self.fold(challenges);
+        }
+        let sizes = self.sizes;
+        self.levels.resize(2 * sizes.levels_words, 0);
+        self.trees.resize(sizes.trees_bytes, 0);
+        let on = Commitment {
+            threads,
+            sizes,
+            base: &self.base,
+        };
+        let roots = on.fold(challenges, &mut self.levels, &mut self.trees)?;
+        Ok(Folded {
+            sizes,
+            levels: self.levels,
+            trees: self.trees,
+            roots,
         })
     }
 }

@@ -44,6 +44,7 @@ mod refusal;
 pub mod ring;
 mod root;
 mod sizes;
+mod threads;
 pub mod tree;
 mod word;
 
@@ -53,5 +54,6 @@ pub use record::{Collision, QueryRecord, ShownLevel, Statement, TailRecord};
 pub use refusal::{Explanation, Refusal, EXPLANATIONS};
 pub use root::{ParseRootError, Root};
 pub use sizes::Sizes;
+pub use threads::Threads;
 pub use tree::digest;
 pub use word::{ParseWordError, Word};

@@ -151,6 +151,91 @@ extern "C" {
         tree: *mut u8,
         tree_length: usize,
     ) -> u32;
+    pub fn dequmlo_gammas(
+        n: usize,
+        k: usize,
+        base: *const u8,
+        base_length: usize,
+        gammas: *mut u64,
+        gammas_length: usize,
+    ) -> u32;
+    pub fn dequmlo_next_part(
+        n: usize,
+        k: usize,
+        level: usize,
+        r: Word,
+        first: usize,
+        values: *const u64,
+        values_length: usize,
+        out: *mut u64,
+        out_length: usize,
+    ) -> u32;
+    pub fn dequmlo_level_leaves(
+        n: usize,
+        k: usize,
+        level: usize,
+        base: *const u8,
+        base_length: usize,
+        first: usize,
+        values: *const u64,
+        values_length: usize,
+        out: *mut u8,
+        out_length: usize,
+    ) -> u32;
+    pub fn dequmlo_level_parents(
+        n: usize,
+        k: usize,
+        level: usize,
+        base: *const u8,
+        base_length: usize,
+        height: usize,
+        children: *const u8,
+        children_length: usize,
+        out: *mut u8,
+        out_length: usize,
+    ) -> u32;
+    pub fn dequmlo_codeword_block(
+        n: usize,
+        k: usize,
+        eps: usize,
+        table: *const u64,
+        table_length: usize,
+        gammas: *const u64,
+        gammas_length: usize,
+        out: *mut u64,
+        out_length: usize,
+    ) -> u32;
+    pub fn dequmlo_fold_part(
+        n: usize,
+        k: usize,
+        var: usize,
+        r: Word,
+        first: usize,
+        codeword: *const u64,
+        codeword_length: usize,
+        out: *mut u64,
+        out_length: usize,
+    ) -> u32;
+    pub fn dequmlo_tree_leaves(
+        domain: *const u8,
+        domain_length: usize,
+        count: usize,
+        width: usize,
+        first: usize,
+        values: *const u64,
+        values_length: usize,
+        out: *mut u8,
+        out_length: usize,
+    ) -> u32;
+    pub fn dequmlo_tree_parents(
+        domain: *const u8,
+        domain_length: usize,
+        level: usize,
+        children: *const u8,
+        children_length: usize,
+        out: *mut u8,
+        out_length: usize,
+    ) -> u32;
     pub fn dequmlo_open(
         count: usize,
         width: usize,

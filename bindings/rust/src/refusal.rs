@@ -118,7 +118,7 @@ pub const EXPLANATIONS: [Explanation; 33] = [
     explained(10, "the width does not divide the number of values", PROGRAM),
     explained(
         11,
-        "the position is not below 2^(n+k), or a place in a tree is not below its number of values",
+        "the position is not below 2^(n+k), a place in a tree is not below its number of values, or a part of some work does not end within the whole",
         "Ask about a position of this seal.",
     ),
     explained(12, "the path does not have log2(values / width) digests", PROGRAM),

@@ -5,6 +5,7 @@ use crate::refusal::Refusal;
 use crate::root::Root;
 use crate::sizes::Sizes;
 use crate::word::{halves, Word};
+use std::ops::Range;
 
 /// The BLAKE3 digest of at most 2^24 bytes.
 ///
@@ -180,6 +181,61 @@ pub fn root_of_path(
     Ok(Root(answer.bytes))
 }
 
+/// The leaves of some groups of a tree over these values, 32 bytes each: a part of [`Tree::digests`]. Refused as a tree is, and with 11 where they are not
+/// all the tree's.
+///
+/// ```
+/// use dequmlo::{tree, tree::Tree, Word};
+/// let values: Vec<Word> = (0..8u128).map(Word).collect();
+/// let digests = Tree::build(b"d", 2, &values)?.digests().to_vec();
+/// assert_eq!(tree::leaves(b"d", 2, &values, 1..3)?, digests[32..96]);
+/// assert_eq!(tree::parents(b"d", 0, &digests[64..128])?, digests[160..192]);
+/// assert_eq!(tree::leaves(b"d", 2, &values, 3..5).unwrap_err().number, 11);
+/// # Ok::<(), dequmlo::Refusal>(())
+/// ```
+pub fn leaves(
+    domain: &[u8],
+    width: usize,
+    values: &[Word],
+    groups: Range<usize>,
+) -> Result<Vec<u8>, Refusal> {
+    let count = values.len();
+    let values = halves(values);
+    let mut out = vec![0u8; 32 * groups.len()];
+    Refusal::unless_done(unsafe {
+        raw::dequmlo_tree_leaves(
+            domain.as_ptr(),
+            domain.len(),
+            count,
+            width,
+            groups.start,
+            values.as_ptr(),
+            values.len(),
+            out.as_mut_ptr(),
+            out.len(),
+        )
+    })?;
+    Ok(out)
+}
+
+/// The parents of digests of a level of a tree, two by two, 32 bytes each; the parents of the leaves are level 0. Refused with 5 where there is no even number
+/// of digests, with 7 where the domain has more than 255 bytes.
+pub fn parents(domain: &[u8], level: usize, children: &[u8]) -> Result<Vec<u8>, Refusal> {
+    let mut out = vec![0u8; children.len() / 2];
+    Refusal::unless_done(unsafe {
+        raw::dequmlo_tree_parents(
+            domain.as_ptr(),
+            domain.len(),
+            level,
+            children.as_ptr(),
+            children.len(),
+            out.as_mut_ptr(),
+            out.len(),
+        )
+    })?;
+    Ok(out)
+}
+
 /// The last digest of a tree.
 pub(crate) fn root_of(tree: &[u8]) -> Root {
     Root(tree[tree.len() - 32..].try_into().expect("32 bytes"))
@@ -194,7 +250,7 @@ fn bytes(count: usize, width: usize) -> usize {
 }
 
 /// The bytes of a level's tree. A level before the last is as long as the codeword of a deposit that has the rest of the variables.
-fn level_bytes(n: usize, k: usize, level: usize) -> Result<usize, Refusal> {
+pub(crate) fn level_bytes(n: usize, k: usize, level: usize) -> Result<usize, Refusal> {
     let sizes = Sizes::of(n, k)?;
     match n.checked_sub(level) {
         None => Err(Refusal::of(4)),

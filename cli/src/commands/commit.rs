@@ -14,14 +14,23 @@ use crate::writing::{beside, Target};
 use dequmlo::{Deposit, Parameters, Root};
 use std::path::Path;
 
-pub const TAKEN: [&str; 6] = ["--profile", "--k", "--domain", "--out", "--force", "--json"];
+pub const TAKEN: [&str; 7] = [
+    "--profile",
+    "--k",
+    "--domain",
+    "--out",
+    "--force",
+    "--threads",
+    "--json",
+];
 
 pub fn run(options: &Options) -> Result<Outcome, Failure> {
     options.expect(1, "one FILE or FOLDER", &TAKEN)?;
     let file = &options.operands[0];
+    let threads = options.threads()?;
     if file.is_dir() {
         let (k, domain) = parameters(options)?;
-        return commit_folder::run(options, k, domain);
+        return commit_folder::run(options, threads, k, domain);
     }
     let folder = options
         .path("--out")
@@ -40,7 +49,7 @@ pub fn run(options: &Options) -> Result<Outcome, Failure> {
     room_for(&shape)?;
     let progress = Progress::start();
     progress.say(&format!("committing {} words ..", table.words.len()));
-    let root = match Deposit::commit(&shape.domain, k, &table.words) {
+    let root = match Deposit::commit_on(threads, &shape.domain, k, &table.words) {
         Ok(deposit) => deposit.root(),
         Err(refusal) => return Ok(Outcome::refused(&refusal)),
     };

@@ -12,10 +12,15 @@ use crate::shape::Shape;
 use crate::shown::some_of;
 use crate::table::{variables, MOST_BYTES};
 use crate::writing::{beside, parent, Target};
-use dequmlo::Root;
+use dequmlo::{Root, Threads};
 use std::path::{Path, PathBuf};
 
-pub fn run(options: &Options, k: usize, domain: Vec<u8>) -> Result<Outcome, Failure> {
+pub fn run(
+    options: &Options,
+    threads: Threads,
+    k: usize,
+    domain: Vec<u8>,
+) -> Result<Outcome, Failure> {
     let project = &options.operands[0];
     let folder = match options.path("--out") {
         Some(folder) => folder,
@@ -32,7 +37,7 @@ pub fn run(options: &Options, k: usize, domain: Vec<u8>) -> Result<Outcome, Fail
     if let Some(sentence) = not_a_project(project, &found) {
         return Ok(Outcome::declined(sentence));
     }
-    let manifest = match manifest_of(project, found.files, k, &domain) {
+    let manifest = match manifest_of(project, found.files, threads, k, &domain) {
         Ok(manifest) => manifest,
         Err(stop) => return stop.outcome(),
     };
@@ -43,7 +48,7 @@ pub fn run(options: &Options, k: usize, domain: Vec<u8>) -> Result<Outcome, Fail
             text.len()
         )));
     }
-    let root = match root_of(text.as_bytes(), k, &domain) {
+    let root = match root_of(text.as_bytes(), threads, k, &domain) {
         Ok(root) => root,
         Err(refusal) => return Ok(Outcome::refused(&refusal)),
     };

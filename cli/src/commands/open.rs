@@ -15,14 +15,15 @@ use crate::seal::Seal;
 use crate::shape::Shape;
 use crate::table::{read_table, room_for, table_of};
 use crate::writing::{beside, Target};
-use dequmlo::{Deposit, Refusal, Word};
+use dequmlo::{Deposit, Refusal, Threads, Word};
 use std::path::Path;
 
-pub const TAKEN: [&str; 13] = asking_and(["--out", "--force", "--json"]);
+pub const TAKEN: [&str; 14] = asking_and(["--out", "--force", "--threads", "--json"]);
 
 pub fn run(options: &Options) -> Result<Outcome, Failure> {
     options.expect(1, "one FILE", &TAKEN)?;
     let file = &options.operands[0];
+    let threads = options.threads()?;
     let seal = match asked_seal(options, None)? {
         Ok(seal) => seal,
         Err(refused) => return Ok(refused.outcome()),
@@ -54,7 +55,7 @@ pub fn run(options: &Options) -> Result<Outcome, Failure> {
         return not_the_file();
     }
     room_for(&seal.shape)?;
-    let opening = match opened(&seal, &table, &asked) {
+    let opening = match opened(&seal, threads, &table, &asked) {
         Ok(Some(opening)) => opening,
         Ok(None) => return not_the_file(),
         Err(refusal) => return Ok(Outcome::refused(&refusal)),
@@ -156,15 +157,20 @@ fn read_part(path: &Path, part: &Part) -> Result<Result<Vec<Word>, String>, Fail
 }
 
 /// The opening of a table; none where its root is not the seal's.
-fn opened(seal: &Seal, table: &[Word], asked: &Asked) -> Result<Option<Opening>, Refusal> {
+fn opened(
+    seal: &Seal,
+    threads: Threads,
+    table: &[Word],
+    asked: &Asked,
+) -> Result<Option<Opening>, Refusal> {
     let progress = Progress::start();
     progress.say(&format!("committing {} words ..", table.len()));
-    let deposit = Deposit::commit(&seal.shape.domain, seal.shape.k, table)?;
+    let deposit = Deposit::commit_on(threads, &seal.shape.domain, seal.shape.k, table)?;
     if deposit.root() != seal.root {
         return Ok(None);
     }
     progress.say(&format!("folding {} levels ..", seal.shape.n));
-    let folded = deposit.fold(&asked.challenges)?;
+    let folded = deposit.fold_on(threads, &asked.challenges)?;
     let queries = asked
         .positions
         .iter()

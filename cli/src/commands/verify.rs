@@ -10,27 +10,28 @@ use crate::outcome::{Failure, Outcome, Verdict};
 use crate::progress::Progress;
 use crate::seal::{Seal, SEAL_FOLDER};
 use crate::table::{read_table, room_for, Table};
-use dequmlo::{Deposit, Word};
+use dequmlo::{Deposit, Threads, Word};
 use std::collections::BTreeMap;
 use std::path::Path;
 
-pub const TAKEN: [&str; 3] = ["--seal", "--opening", "--json"];
+pub const TAKEN: [&str; 4] = ["--seal", "--opening", "--threads", "--json"];
 
 pub fn run(options: &Options) -> Result<Outcome, Failure> {
     options.expect(1, "one FILE or FOLDER", &TAKEN)?;
     let file = &options.operands[0];
     let folder = options.needed_path("--seal", SEAL_FOLDER)?;
+    let threads = options.threads()?;
     let seal = Seal::read(&folder)?;
     if file.is_dir() {
         if options.given("--opening") {
             return Err(Failure("--opening goes with a file; of a project, the seal's own manifest says what changed".into()));
         }
-        return verify_folder::run(file, &folder, seal);
+        return verify_folder::run(file, threads, &folder, seal);
     }
     // A file that is too large for any seal is not the one that was sealed.
     let table = read_table(file)?.ok();
     let same = match &table {
-        Some(table) => has_root(&seal, table)?,
+        Some(table) => has_root(&seal, threads, table)?,
         None => false,
     };
     let outcome = if same {
@@ -46,14 +47,14 @@ pub fn run(options: &Options) -> Result<Outcome, Failure> {
 }
 
 /// Whether a table has the seal's root.
-fn has_root(seal: &Seal, table: &Table) -> Result<bool, Failure> {
+fn has_root(seal: &Seal, threads: Threads, table: &Table) -> Result<bool, Failure> {
     if table.words.len() != seal.sizes.table_words {
         return Ok(false);
     }
     room_for(&seal.shape)?;
     let progress = Progress::start();
     progress.say(&format!("committing {} words ..", table.words.len()));
-    let deposit = Deposit::commit(&seal.shape.domain, seal.shape.k, &table.words)
+    let deposit = Deposit::commit_on(threads, &seal.shape.domain, seal.shape.k, &table.words)
         .map_err(|refusal| Failure(format!("the seal's parameters are no deposit's: {refusal}")))?;
     Ok(deposit.root() == seal.root)
 }

@@ -6,17 +6,24 @@ use crate::part::{damaged_manifest, manifest_in, Unfit};
 use crate::project::{manifest_of, root_of, walked, written_path};
 use crate::seal::Seal;
 use crate::table::MOST_BYTES;
+use dequmlo::Threads;
 use std::path::Path;
 
-pub fn run(project: &Path, folder: &Path, seal: Seal) -> Result<Outcome, Failure> {
+pub fn run(
+    project: &Path,
+    threads: Threads,
+    folder: &Path,
+    seal: Seal,
+) -> Result<Outcome, Failure> {
     let (k, domain) = (seal.shape.k, &seal.shape.domain);
     let found = walked(project)?;
-    let now = match manifest_of(project, found.files, k, domain) {
+    let now = match manifest_of(project, found.files, threads, k, domain) {
         Ok(manifest) => manifest,
         Err(stop) => return stop.outcome(),
     };
     let text = now.text();
-    let same = text.len() <= MOST_BYTES && root_of(text.as_bytes(), k, domain) == Ok(seal.root);
+    let same =
+        text.len() <= MOST_BYTES && root_of(text.as_bytes(), threads, k, domain) == Ok(seal.root);
     if same && found.others.is_empty() {
         let noun = if now.0.len() == 1 { "file" } else { "files" };
         let sentence = format!(

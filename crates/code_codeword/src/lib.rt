@@ -17,7 +17,7 @@ pub mod sizes;
 
 use field_gf128::Word;
 use field_words::copy;
-use folding::fold_into;
+use folding::fold_within;
 use sizes::holds;
 use sizes::holds_half;
 use sizes::power;
@@ -108,8 +108,8 @@ fn shift_block(
     }
 }
 
-// Block eps of the codeword: block 0 is the table.
-fn encode_block(
+// Block eps of the codeword: block 0 is the table. A helper for this crate and for those above: it requires the sizes that are asked for.
+pub fn encode_block(
     n: usize,
     k: usize,
     eps: usize,
@@ -133,6 +133,7 @@ fn encode_blocks(n: usize, k: usize, table: &[u64], gammas: &[u64], out: &mut [u
     ensures { λ _. ⌜ words (now (out .exit)) ≡ C.encode n k (words (now (gammas .entry))) (words (now (table .entry))) ⌝ }
 {
     let mut multiples = [0u64; 8192];
+    field_runs::align(&mut multiples, table);
     let size = table.len();
     let count = power(k);
     let mut eps = 0;
@@ -217,11 +218,13 @@ pub fn fold(n: usize, k: usize, var: usize, r: Word, src: &[u64], out: &mut [u64
     ensures { λ a. ⌜ a ≡ foldedOf n (foldNumber n k var (length (now (src .entry))) (length (now (out .entry)))) ⌝ }
     ensures { λ a. ⌜ words (now (out .exit)) ≡ onDone (a .number) (foldList var (word r) (words (now (src .entry)))) (words (now (out .entry))) ⌝ }
 {
+    // Room for the products by r, made before the questions are put: docs/DECISIONS.md, 54.
+    let mut multiples = [0u64; 8192];
     let number = fold_number(n, k, var, src.len(), out.len());
     if number != 0 {
         return Folded { number, n: 0 };
     }
-    fold_into(var, r, src, out);
+    fold_within(var, r, src, out, &mut multiples);
     Folded {
         number: 0,
         n: n - 1,

@@ -3,6 +3,7 @@
 pub mod coding;
 pub mod hashing;
 pub mod parameters;
+pub mod parts;
 pub mod records;
 pub mod ring;
 pub mod sizes;

@@ -54,6 +54,7 @@ pub fn eq_table(n: usize, point: &[u64], out: &mut [u64]) -> u32
         return number;
     }
     let mut multiples = [0u64; 8192];
+    field_runs::align(&mut multiples, out);
     eq_build(n, point, out, &mut multiples);
     0
 }

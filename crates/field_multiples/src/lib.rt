@@ -7,14 +7,12 @@ ghost use Rattle.theory_laws.specs.Table.{at};
 ghost use Rattle.theory_field.specs.Field.{_⊗_};
 ghost use Rattle.theory_field.specs.Words.{words};
 ghost use Rattle.field_gf128.specs.Word.{word};
-ghost use Rattle.field_multiples.specs.helpers.Multiples.{Multiples, Room, Ready};
+ghost use Rattle.field_multiples.specs.helpers.Multiples.{Multiples, bitsOf, Room, Ready};
 ghost use Rattle.field_multiples.specs.helpers.Rows.{Copied, Row};
 use field_gf128::Word;
 
-// How products by one word are made: each by itself; by windows of 4 bits, 32 rows of 16 multiples; or by windows of 8 bits, 16 rows
-// of 256.
+// How products by one word are made: by windows of 4 bits, 32 rows of 16 multiples; or by windows of 8 bits, 16 rows of 256.
 pub enum Kernel {
-    Product,
     Nibbles,
     Bytes,
 }
@@ -94,23 +92,20 @@ fn half(t: &[u64], b: u64, n: usize, j: usize, h: u64) -> Word
     p
 }
 
-// The product with w, n windows to each half.
+// The product with w, n windows to each half. The high half comes first: the compiler then leaves both in plain registers.
 fn windows(t: &[u64], b: u64, n: usize, w: Word) -> Word
     requires { ⌜ (b < 64) × (b * n ≡ 64) × (2 * ((n + n) * 2 ^ b) ≤ length (now t)) ⌝ }
     ensures { λ p. ⌜ ((r : ℕ) → Multiples b ((n + n) * 2 ^ b) r (words (now (t .entry))) → word p ≡ r ⊗ word w) ⌝ }
 {
-    field_gf128::add(half(t, b, n, 0, w.lo), half(t, b, n, n, w.hi))
+    field_gf128::add(half(t, b, n, n, w.hi), half(t, b, n, 0, w.lo))
 }
 
-// The kernel that is quickest for n products by r, and its table. The bounds are where the times cross, the filling counted.
+// The kernel that is quickest for n products by r, and its table. The bound is where the times cross, the filling counted.
 pub fn prepare(t: &mut [u64], n: usize, r: Word) -> Kernel
     requires { ⌜ Room (now t) ⌝ }
-    ensures { λ by. ⌜ Ready by (word r) (now (t .exit)) ⌝ }
+    ensures { λ by. ⌜ Ready (bitsOf by) (word r) (now (t .exit)) ⌝ }
 {
-    if n < 8 {
-        return Kernel::Product;
-    }
-    if n < 512 {
+    if n < 384 {
         fill(t, 4, 32, r);
         return Kernel::Nibbles;
     }
@@ -118,14 +113,10 @@ pub fn prepare(t: &mut [u64], n: usize, r: Word) -> Kernel
     Kernel::Bytes
 }
 
-// The product of r and w, by the table of r.
-pub fn times(t: &[u64], by: Kernel, r: Word, w: Word) -> Word
-    requires { ⌜ Ready by (word r) (now t) ⌝ }
+// The product of r and w, by the table of r for windows of `bits` bits. Where the compiler knows that number, it writes the lookups out.
+pub fn times(t: &[u64], bits: u64, r: Word, w: Word) -> Word
+    requires { ⌜ Ready bits (word r) (now t) ⌝ }
     ensures { λ p. ⌜ word p ≡ word r ⊗ word w ⌝ }
 {
-    match by {
-        Kernel::Product => field_gf128::mul(r, w),
-        Kernel::Nibbles => windows(t, 4, 16, w),
-        Kernel::Bytes => windows(t, 8, 8, w),
-    }
+    windows(t, bits, narrow(64 / bits), w)
 }

@@ -1,2 +1,3 @@
 pub mod Pairs
 pub mod Doubling
+pub mod Chosen

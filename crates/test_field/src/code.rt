@@ -26,6 +26,8 @@ pub fn answer(place: usize, n: Numbers, a: &[u64], b: &[u64], s: &[u8], w: &mut 
         2 => one(code_codeword::encode(n.0, n.1, a, b, w)),
         3 => fold(n, a, b, w),
         4 => gamma_message(n, s),
+        5 => one(code_parts::codeword_block(n.0, n.1, n.2, a, b, w)),
+        6 => one(code_parts::fold_part(n.0, n.1, n.2, first(a), n.3, b, w)),
         _ => no_room(),
     }
 }

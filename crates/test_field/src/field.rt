@@ -13,20 +13,20 @@ use test_lines::words::put_coefficients;
 
 // A word as the answer.
 fn done(w: &mut [u64], x: Word) -> Answer {
-    put(w, x);
+    put(w, 0, x);
     one(0)
 }
 
-fn inv(a: &[u64], w: &mut [u64]) -> Answer {
-    let r = field_gf128::inv(first(a));
+fn inv(p: Word, w: &mut [u64]) -> Answer {
+    let r = field_gf128::inv(p);
     let x = r.word;
-    put(w, x);
+    put(w, 0, x);
     one(r.number)
 }
 
-fn phi_tab(a: &[u64], b: &[u64], w: &mut [u64]) -> Answer {
+fn phi_tab(p: Word, b: &[u64], w: &mut [u64]) -> Answer {
     let t = field_pack::phi_tab(coefficients(b));
-    done(w, field_pack::phi_tab_apply(&t, first(a)))
+    done(w, field_pack::phi_tab_apply(&t, p))
 }
 
 fn eq_coefficients(a: &[u64], w: &mut [u64]) -> Answer {
@@ -36,13 +36,15 @@ fn eq_coefficients(a: &[u64], w: &mut [u64]) -> Answer {
 
 // The operations that answer a word; the last answers 128.
 pub fn word(place: usize, a: &[u64], b: &[u64], w: &mut [u64]) -> Answer {
+    let p = first(a);
+    let q = first(b);
     match place {
-        0 => done(w, field_gf128::add(first(a), first(b))),
-        1 => done(w, field_gf128::mul(first(a), first(b))),
-        2 => done(w, field_gf128::square(first(a))),
-        3 => inv(a, w),
-        4 => done(w, field_pack::phi_c(first(a), coefficients(b))),
-        5 => phi_tab(a, b, w),
+        0 => done(w, field_gf128::add(p, q)),
+        1 => done(w, field_gf128::mul(p, q)),
+        2 => done(w, field_gf128::square(p)),
+        3 => inv(p, w),
+        4 => done(w, field_pack::phi_c(p, coefficients(b))),
+        5 => phi_tab(p, b, w),
         6 => eq_coefficients(a, w),
         _ => no_room(),
     }

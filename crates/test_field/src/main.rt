@@ -10,8 +10,8 @@ mod ring;
 use std::num::wrapping_add_usize;
 use test_lines::answer::Answer;
 use test_lines::answer::no_room;
-use test_lines::answer::print_words;
-use test_lines::files;
+use test_lines::answer::print;
+use test_lines::answer::print_answer;
 use test_lines::parts::first_halves;
 use test_lines::parts::next;
 use test_lines::parts::part;
@@ -24,38 +24,42 @@ use test_lines::request::numbers_in;
 use test_lines::request::words_in;
 
 // What a request is answered: the layer by its row of the table, the operation by its place in it.
-fn answer(operation: usize, bytes: &[u8], words: &[u64], w: &mut [u64]) -> Answer {
+fn answer(operation: usize, words: &[u64], bytes: &[u8], w: &mut [u64]) -> Answer {
     let place = operation % 8;
     let n = numbers_in(words);
     let a = words_in(words, 0);
     let b = words_in(words, 1);
+    let c = words_in(words, 2);
     let s = bytes_in(words, bytes, 0);
     match operation / 8 {
-        0 => field::word(place, a, b, w),
-        1 => field::table(place, n, a, b, words_in(words, 2), s, w),
-        2 => ring::answer(place, n, a, b, words_in(words, 2), w),
-        3 => code::answer(place, n, a, b, s, w),
+        1 => field::word(place, a, b, w),
+        2 => field::table(place, n, a, b, c, s, w),
+        3 => ring::answer(place, n, a, b, c, w),
+        4 => code::answer(place, n, a, b, s, w),
         _ => no_room(),
     }
 }
 
 // Answers a request and prints the answer; the output holds what it holds before it is lent.
-fn respond(line: usize, operation: usize, bytes: &[u8], words: &[u64]) {
+fn respond(line: usize, operation: usize, words: &[u64], bytes: &[u8]) {
     let mut w = [0xa5a5_a5a5_a5a5_a5a5u64; 8192];
-    let a = answer(
-        operation,
-        bytes,
-        words,
-        first_halves(&mut w, item(words, OUT_WORDS, 0)),
-    );
-    print_words(line, words, a, &w);
+    let out = first_halves(&mut w, item(words, OUT_WORDS, 0));
+    let a = answer(operation, words, bytes, out);
+    print_answer(line, words, a, &w, &[], &[], &[]);
 }
 
-// A line with a request.
-fn run(s: &[u8], line: usize, kept: &[u8]) {
-    let mut bytes = [0u8; 131072];
+// A line: what it keeps is put after what is kept already, and what it asks is answered. Answers how many bytes are kept.
+fn run(s: &[u8], line: usize, bytes: &mut [u8], kept: usize) -> usize {
     let mut words = [0u64; 16384];
     let table = b"\
+= b
+# n
+ n
+none n
+none n
+none n
+none n
+none n
 add wwo
 mul wwo
 square wo
@@ -85,32 +89,40 @@ l_of nnnwW
 encode nnwwW
 fold nnnwwW
 gamma_message nnbnn
+codeword_block nnnwwW
+fold_part nnnwnwW
+none n
 ";
-    let operation = request::read(s, table, kept, &mut bytes, &mut words);
-    respond(line, operation, &bytes, &words);
+    let operation = request::read(s, table, kept, bytes, &mut words);
+    if operation < 8 {
+        return request::bytes_end(&words);
+    }
+    respond(line, operation, &words, bytes);
+    kept
 }
 
-// Every line of a file: requests are answered.
-fn run_lines(file: &[u8], kept: &[u8]) {
+// Every line of a file.
+fn run_lines(file: &[u8]) {
+    let mut bytes = [0u8; 131072];
+    let mut kept: usize = 0;
     let mut line: usize = 1;
     let mut from: usize = 0;
     while from < file.len() {
-        let s = piece(file, from, 10);
-        if files::is_request(s) {
-            run(s, line, kept);
-        }
+        kept = run(piece(file, from, 10), line, &mut bytes, kept);
         line = wrapping_add_usize(line, 1);
         from = next(file, from, 10);
     }
 }
 
-// The file with a name.
+// Prints the name of a file, and answers what lines of it there is room for.
 fn run_file(name: &[u8]) {
-    let file = files::read(name);
-    let bytes = file.bytes;
-    let text = part(&bytes, 0, file.len);
-    let kept = files::kept(text);
-    run_lines(text, &kept);
+    print(name);
+    print(b"\n");
+    let mut bytes = [0u8; 262144];
+    let file = os::open_read(name);
+    let len = io::read_full(file, &mut bytes);
+    libc::close(file);
+    run_lines(part(&bytes, 0, len));
 }
 
 // The files with these names, one to a line.

@@ -9,14 +9,14 @@ use test_lines::words::put;
 fn fold_partials(a: &[u64], b: &[u64], w: &mut [u64]) -> Answer {
     let r = ring_partials::fold_partials(a, coefficients(b));
     let x = r.word;
-    put(w, x);
+    put(w, 0, x);
     one(r.number)
 }
 
 fn eval_at(n: usize, a: &[u64], b: &[u64], c: &[u64], w: &mut [u64]) -> Answer {
     let r = ring_indicator::eval_at(n, a, coefficients(b), c);
     let x = r.word;
-    put(w, x);
+    put(w, 0, x);
     one(r.number)
 }
 

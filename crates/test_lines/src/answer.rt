@@ -3,17 +3,15 @@
 ghost use mathlib.Core.Path.{_≡_};
 ghost use lib.ListN.{length};
 use crate::bytes::half_in;
-use crate::bytes::put;
-use crate::bytes::put_bytes;
+use crate::bytes::put_halves;
 use crate::parts::halves;
 use crate::parts::part;
 use crate::request::OUT_BYTES;
 use crate::request::OUT_WORDS;
 use crate::request::item;
-use crate::text::put_backwards;
-use crate::text::put_decimal;
-use crate::text::put_hex;
+use bytes_numbers::wide;
 use libc::STDOUT_FILENO;
+use std::num::wrapping_add_usize;
 
 pub struct Answer {
     pub count: usize,
@@ -58,122 +56,104 @@ pub fn no_room() -> Answer {
     one(99)
 }
 
-// A blank and number i of an answer, where it has so many.
-fn put_number(out: &mut [u8], at: usize, i: usize, count: usize, x: u64) -> usize {
-    if count <= i {
-        return at;
-    }
-    let blank = put(out, at, 32);
-    put_decimal(out, blank, x)
+pub fn print(s: &[u8]) {
+    io::write_all(STDOUT_FILENO, s);
 }
 
-fn put_numbers(out: &mut [u8], at: usize, a: Answer) -> usize {
-    let first = put_number(out, at, 0, a.count, a.a);
-    let second = put_number(out, first, 1, a.count, a.b);
-    let third = put_number(out, second, 2, a.count, a.c);
-    put_number(out, third, 3, a.count, a.d)
+// A blank and a number.
+pub fn print_number(x: u64) {
+    print(b" ");
+    io::print_decimal(STDOUT_FILENO, x);
+}
+
+// The numbers of an answer, as many as it has.
+fn print_numbers(a: Answer) {
+    print_number(a.a);
+    if 1 < a.count {
+        print_number(a.b);
+    }
+    if 2 < a.count {
+        print_number(a.c);
+    }
+    if 3 < a.count {
+        print_number(a.d);
+    }
+}
+
+// Bytes, two digits each.
+fn print_hex(s: &[u8]) {
+    let mut i: usize = 0;
+    while i < s.len() {
+        io::print_hex(STDOUT_FILENO, wide(s[i]), 2);
+        i += 1;
+    }
 }
 
 // The first 16 bytes of the digest of bytes.
-fn put_digest(out: &mut [u8], at: usize, s: &[u8]) -> usize {
+fn print_digest(s: &[u8]) {
     let d = hash_hasher::whole::digest(s);
     let bytes = d.bytes;
-    let mark = put(out, at, b'#');
-    put_hex(out, mark, part(&bytes, 0, 16))
+    print(b"#");
+    print_hex(part(&bytes, 0, 16));
 }
 
-// A comma, unless the first item follows.
-fn put_comma(out: &mut [u8], at: usize, i: usize) -> usize {
-    if i == 0 {
-        return at;
+// The word at a place of a list, the highest digit first, or what is left of one after `h`.
+fn print_word(s: &[u64], i: usize) {
+    if 0 < i {
+        print(b",");
     }
-    put(out, at, b',')
-}
-
-// A word, or what is left of one after `h`, the highest byte first.
-fn put_word(out: &mut [u8], at: usize, s: &[u8], i: usize) -> usize {
-    let comma = put_comma(out, at, i);
-    let left = part(s, i, s.len());
-    if 16 <= left.len() {
-        return put_backwards(out, comma, part(left, 0, 16));
+    let high = wrapping_add_usize(i, 1);
+    if high < s.len() {
+        io::print_hex(STDOUT_FILENO, half_in(s, high), 16);
+    } else {
+        print(b"h");
     }
-    let mark = put(out, comma, b'h');
-    put_backwards(out, mark, left)
+    io::print_hex(STDOUT_FILENO, half_in(s, i), 16);
 }
 
-fn put_words(out: &mut [u8], at: usize, s: &[u8]) -> usize {
-    let mut end = at;
+fn print_words(s: &[u64]) {
     let mut i: usize = 0;
     while i < s.len() {
-        end = put_word(out, end, s, i);
-        if s.len() - i < 16 {
-            return end;
+        if i % 2 == 0 {
+            print_word(s, i);
         }
-        i += 16;
-    }
-    end
-}
-
-// An output, as its bytes; in digits of words where it is words.
-fn put_output(out: &mut [u8], at: usize, s: &[u8], words: bool) -> usize {
-    let blank = put(out, at, 32);
-    if s.len() == 0 {
-        return put(out, blank, b'-');
-    }
-    if 64 < s.len() {
-        return put_digest(out, blank, s);
-    }
-    if words {
-        return put_words(out, blank, s);
-    }
-    put_hex(out, blank, s)
-}
-
-// The bytes of halves, in a buffer.
-fn put_all_bytes(bytes: &mut [u8], s: &[u64]) -> usize {
-    let mut end: usize = 0;
-    let mut i: usize = 0;
-    while i < s.len() {
-        end = put_bytes(bytes, end, half_in(s, i));
         i += 1;
     }
-    end
 }
 
-fn put_output_words(out: &mut [u8], at: usize, s: &[u64]) -> usize {
+// The digest of halves, as bytes.
+fn print_words_digest(s: &[u64]) {
     let mut bytes = [0u8; 65536];
-    let end = put_all_bytes(&mut bytes, s);
-    put_output(out, at, part(&bytes, 0, end), true)
+    let end = put_halves(&mut bytes, 0, s);
+    print_digest(part(&bytes, 0, end));
 }
 
-// The outputs of words, as many as a request has.
-fn put_both_words(out: &mut [u8], at: usize, head: &[u64], w: &[u64], x: &[u64]) -> usize {
-    if half_in(head, OUT_WORDS) < 1 {
-        return at;
+// Output i of those that are words, where a request has so many.
+fn print_output_words(head: &[u64], i: usize, w: &[u64]) {
+    if half_in(head, OUT_WORDS) as usize <= i {
+        return;
     }
-    let end = put_output_words(out, at, halves(w, 0, item(head, OUT_WORDS, 0)));
-    if half_in(head, OUT_WORDS) < 2 {
-        return end;
+    print(b" ");
+    let s = halves(w, 0, item(head, OUT_WORDS, i));
+    match s.len() {
+        0 => print(b"-"),
+        1..=8 => print_words(s),
+        _ => print_words_digest(s),
     }
-    put_output_words(out, end, halves(x, 0, item(head, OUT_WORDS, 1)))
 }
 
-// The outputs of bytes.
-fn put_both_bytes(out: &mut [u8], at: usize, head: &[u64], y: &[u8], z: &[u8]) -> usize {
-    if half_in(head, OUT_BYTES) < 1 {
-        return at;
+// Output i of those that are bytes.
+fn print_output_bytes(head: &[u64], i: usize, y: &[u8]) {
+    if half_in(head, OUT_BYTES) as usize <= i {
+        return;
     }
-    let end = put_output(out, at, part(y, 0, item(head, OUT_BYTES, 0)), false);
-    if half_in(head, OUT_BYTES) < 2 {
-        return end;
+    print(b" ");
+    let s = part(y, 0, item(head, OUT_BYTES, i));
+    match s.len() {
+        0 => print(b"-"),
+        1..=64 => print_hex(s),
+        _ => print_digest(s),
     }
-    put_output(out, end, part(z, 0, item(head, OUT_BYTES, 1)), false)
-}
-
-// Ends a line and writes it.
-pub fn print(out: &mut [u8], at: usize) {
-    let end = put(out, at, 10);
-    io::write_all(STDOUT_FILENO, part(out, 0, end));
 }
 
 // Prints a line's number, the answer's numbers and the outputs: w and x are words, y and z bytes.
@@ -186,20 +166,11 @@ pub fn print_answer(
     y: &[u8],
     z: &[u8],
 ) {
-    let mut out = [0u8; 1024];
-    let numbered = put_decimal(&mut out, 0, line as u64);
-    let answered = put_numbers(&mut out, numbered, a);
-    let words = put_both_words(&mut out, answered, head, w, x);
-    let end = put_both_bytes(&mut out, words, head, y, z);
-    print(&mut out, end);
-}
-
-// The same, where all outputs are one of words.
-pub fn print_words(line: usize, head: &[u64], a: Answer, w: &[u64]) {
-    print_answer(line, head, a, w, &[], &[], &[]);
-}
-
-// The same, where all outputs are one of bytes.
-pub fn print_bytes(line: usize, head: &[u64], a: Answer, y: &[u8]) {
-    print_answer(line, head, a, &[], &[], y, &[]);
+    io::print_decimal(STDOUT_FILENO, line as u64);
+    print_numbers(a);
+    print_output_words(head, 0, w);
+    print_output_words(head, 1, x);
+    print_output_bytes(head, 0, y);
+    print_output_bytes(head, 1, z);
+    print(b"\n");
 }

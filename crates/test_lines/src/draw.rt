@@ -1,8 +1,6 @@
 // Inputs drawn by splitmix64 from a stream's number, each number by its place alone. oracle/src/stream.rs and tools/lines.py draw the same.
-ghost use mathlib.Core.Path.{_≡_};
-ghost use lib.ListN.{length};
-use crate::bytes::put;
-use crate::bytes::put_bytes;
+use crate::bytes::byte_of;
+use bytes_numbers::low as low_byte;
 use field_gf128::Word;
 use std::num::wrapping_add_u64;
 
@@ -68,32 +66,18 @@ fn word(stream: u64, i: u64) -> Word {
     )
 }
 
-// A byte of a kind: 0 or 1, a printable character, or any.
-fn byte_of(kind: u8, x: u64) -> u8 {
+// Byte i of a word's 16, little-endian, over and over.
+pub fn byte_of_word(w: Word, i: usize) -> u8 {
+    byte_of(if i % 16 < 8 { w.lo } else { w.hi }, i)
+}
+
+// Byte i of a stream of words, of bytes that are 0 or 1, of printable characters, or of any bytes.
+pub fn byte(kind: u8, stream: u64, i: usize) -> u8 {
+    let x = number(stream, i as u64);
     match kind {
-        b'i' => (x % 2) as u8,
-        b't' => (32 + x % 95) as u8,
-        _ => (x % 256) as u8,
+        b'w' => byte_of_word(word(stream, (i / 16) as u64), i),
+        b'i' => low_byte(x % 2),
+        b't' => low_byte(32 + x % 95),
+        _ => low_byte(x),
     }
-}
-
-// Puts number i of a stream as a word or as a byte.
-fn put_one(out: &mut [u8], at: usize, kind: u8, stream: u64, i: u64) -> usize {
-    if kind == b'w' {
-        let w = word(stream, i);
-        let middle = put_bytes(out, at, w.lo);
-        return put_bytes(out, middle, w.hi);
-    }
-    put(out, at, byte_of(kind, number(stream, i)))
-}
-
-// Puts so many words or bytes of a stream, and answers the next place.
-pub fn put_drawn(out: &mut [u8], at: usize, kind: u8, stream: u64, count: usize) -> usize {
-    let mut end = at;
-    let mut i: usize = 0;
-    while i < count {
-        end = put_one(out, end, kind, stream, i as u64);
-        i += 1;
-    }
-    end
 }

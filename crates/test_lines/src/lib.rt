@@ -2,10 +2,8 @@
 // line says; the functions are proved safe and ending, and what they compute shows when the answers agree.
 pub mod answer;
 pub mod bytes;
-pub mod draw;
-pub mod files;
+mod draw;
 pub mod parts;
-pub mod pieces;
+mod pieces;
 pub mod request;
-pub mod text;
 pub mod words;

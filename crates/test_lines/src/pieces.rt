@@ -1,171 +1,156 @@
 // What an argument of a line stands for, as bytes. It is pieces joined by commas: hexadecimal digits, `x` and a count after them for as many
 // times; `~`, a kind, a stream, `x` and a count for what is drawn; `@`, a place, `+` and a length for stored bytes; `%` and a length for bytes i
-// modulo 251; `-` for nothing. In a list of words digits are a word, the highest first, and after `h` half of one.
+// modulo 251; `-` for nothing. In a list of words digits are a word, the highest first, and after `h` half of one; in a list of numbers a number.
 ghost use mathlib.Core.Path.{_≡_};
 ghost use Prim.Native.Nat.{_<_};
 ghost use lib.ListN.{length};
 use crate::bytes::byte_at;
+use crate::bytes::byte_of;
+use crate::bytes::half_in;
 use crate::bytes::put;
-use crate::bytes::put_bytes;
 use crate::bytes::put_half;
-use crate::bytes::put_part;
-use crate::draw::put_drawn;
+use crate::draw::byte;
+use crate::draw::byte_of_word;
 use crate::draw::wrapping_mul;
-use crate::parts::after;
+use crate::parts::find;
 use crate::parts::next;
 use crate::parts::part;
 use crate::parts::piece;
-use crate::parts::rest;
+use bytes_numbers::low;
+use bytes_numbers::wide;
+use field_gf128::Word;
 use std::num::wrapping_add_u64;
 use std::num::wrapping_add_usize;
 
-// The number of a hexadecimal digit; 0 for any other byte.
-fn digit(c: u8) -> u64
-    ensures { λ r. ⌜ r < 16 ⌝ }
-{
-    if 48 <= c {
-        if c <= 57 {
-            return (c - 48) as u64;
-        }
-    }
-    if 97 <= c {
-        if c <= 102 {
-            return (c - 87) as u64;
-        }
-    }
-    0
+// The last two numbers of a piece, in decimal digits; 0 where there is none.
+pub struct Pair {
+    pub first: u64,
+    pub last: u64,
 }
 
-// The number of digits to a base, modulo 2^64.
-fn value(s: &[u8], base: u64) -> u64 {
-    let mut x: u64 = 0;
+pub fn numbers(s: &[u8]) -> Pair {
+    let mut first: u64 = 0;
+    let mut last: u64 = 0;
     let mut at: usize = 0;
     while at < s.len() {
-        x = wrapping_add_u64(wrapping_mul(x, base), digit(byte_at(s, at)));
+        let c = s[at];
+        match c {
+            48..=57 => {
+                last = wrapping_add_u64(wrapping_mul(last, 10), (c - 48) as u64);
+            }
+            _ => {
+                first = last;
+                last = 0;
+            }
+        }
         at += 1;
     }
-    x
+    Pair { first, last }
 }
 
-pub fn decimal(s: &[u8]) -> usize {
-    value(s, 10) as usize
+// The number of a hexadecimal digit; 0 for any other byte.
+fn digit(c: u8) -> u64 {
+    match c {
+        48..=57 => (c - 48) as u64,
+        97..=102 => (c - 87) as u64,
+        _ => 0,
+    }
 }
 
-// The byte of the two digits at a place.
-fn pair(s: &[u8], at: usize) -> u8 {
-    let high = digit(byte_at(s, at));
-    let low = digit(byte_at(s, wrapping_add_usize(at, 1)));
-    (high * 16 + low) as u8
+// The word of hexadecimal digits, the highest first.
+fn word(s: &[u8]) -> Word {
+    let mut lo: u64 = 0;
+    let mut hi: u64 = 0;
+    let mut at: usize = 0;
+    while at < s.len() {
+        hi = (hi << 4) ^ (lo >> 60);
+        lo = (lo << 4) ^ digit(s[at]);
+        at += 1;
+    }
+    Word { lo, hi }
 }
 
-// Puts the bytes of pairs of digits.
-fn put_pairs(s: &[u8], out: &mut [u8], at: usize) -> usize {
-    let mut end = at;
-    let mut i: usize = 0;
-    while i < s.len() {
-        end = put(out, end, pair(s, i));
-        if s.len() - i < 2 {
-            return end;
+// How many bytes so many digits are: of bytes, of a word or of a number.
+fn size(letter: u8, digits: usize) -> usize {
+    match letter {
+        b'b' => digits / 2,
+        b'w' => 16,
+        _ => 8,
+    }
+}
+
+// How many bytes a piece stands for: what stands before `x` so many times, or what it is by its first byte.
+fn count(letter: u8, s: &[u8]) -> usize {
+    let x = numbers(s);
+    if find(s, 0, b'x') < s.len() {
+        wrapping_mul(x.last, size(letter, 2) as u64) as usize
+    } else {
+        match byte_at(s, 0) {
+            b'-' => 0,
+            b'h' => 8,
+            b'@' | b'%' => x.last as usize,
+            _ => size(letter, s.len()),
         }
-        i += 2;
     }
-    end
 }
 
-// Where the last 16 digits begin.
-fn last_16(s: &[u8]) -> usize {
-    if 16 < s.len() { s.len() - 16 } else { 0 }
+// The byte of the digits at a place; where it is past them, of the first.
+fn byte_of_pair(s: &[u8], at: usize) -> u8 {
+    let from = if at < s.len() { at } else { 0 };
+    let w = word(part(s, from, wrapping_add_usize(from, 2)));
+    low(w.lo)
 }
 
-// Puts the bytes of a word, or of half of one.
-fn put_word(s: &[u8], out: &mut [u8], at: usize) -> usize {
-    if byte_at(s, 0) == b'h' {
-        return put_bytes(out, at, value(rest(s), 16));
+// Byte i of digits, which are bytes, a word or a number.
+fn byte_of_digits(letter: u8, s: &[u8], i: usize) -> u8 {
+    match letter {
+        b'b' => byte_of_pair(s, wrapping_add_usize(i, i)),
+        b'w' => byte_of_word(word(s), i),
+        _ => byte_of(numbers(s).last, i),
     }
-    let split = last_16(s);
-    let middle = put_bytes(out, at, value(part(s, split, s.len()), 16));
-    put_bytes(out, middle, value(part(s, 0, split), 16))
 }
 
-fn put_digits(s: &[u8], words: bool, out: &mut [u8], at: usize) -> usize {
-    if words {
-        return put_word(s, out, at);
+// Byte i of a piece, whose first number is a stream or a place.
+fn byte_of_piece(letter: u8, s: &[u8], first: u64, kept: &[u8], i: usize) -> u8 {
+    match byte_at(s, 0) {
+        b'~' => byte(byte_at(s, 1), first, i),
+        b'@' => byte_at(kept, wrapping_add_usize(first as usize, i)),
+        b'%' => (i % 251) as u8,
+        _ => byte_of_digits(letter, s, i),
     }
-    put_pairs(s, out, at)
 }
 
-// How many times digits stand for: what follows `x`, or once.
-fn times(s: &[u8]) -> usize {
-    let count = after(s, b'x');
-    if count.len() == 0 { 1 } else { decimal(count) }
-}
-
-// Digits, and where `x` follows them, as many times as it says.
-fn put_times(s: &[u8], words: bool, out: &mut [u8], at: usize) -> usize {
-    let digits = piece(s, 0, b'x');
-    let mut left = times(s);
-    let mut end = at;
-    while 0 < left {
-        end = put_digits(digits, words, out, end);
-        left -= 1;
+// Puts a byte at a place of bytes, or of the bytes of halves, which are 0 from there on.
+fn put_byte(letter: u8, bytes: &mut [u8], words: &mut [u64], at: usize, b: u8) -> usize {
+    if letter == b'b' {
+        return put(bytes, at, b);
     }
-    end
+    let x = half_in(words, at / 8);
+    put_half(words, at / 8, x ^ (wide(b) << (8 * (at % 8)) as u64));
+    wrapping_add_usize(at, 1)
 }
 
-// A kind, a stream, `x` and a count.
-fn put_stream(s: &[u8], out: &mut [u8], at: usize) -> usize {
-    let stream = value(rest(piece(s, 0, b'x')), 10);
-    put_drawn(out, at, byte_at(s, 0), stream, decimal(after(s, b'x')))
-}
-
-// A place, `+` and a length.
-fn put_stored(s: &[u8], store: &[u8], out: &mut [u8], at: usize) -> usize {
-    let start = decimal(piece(s, 0, b'+'));
-    put_part(out, at, store, start, decimal(after(s, b'+')))
-}
-
-// A length.
-fn put_pattern(s: &[u8], out: &mut [u8], at: usize) -> usize {
-    let count = decimal(s);
+// Puts the bytes of a piece from a place on, and answers the next place.
+fn put_piece(letter: u8, s: &[u8], bytes: &mut [u8], words: &mut [u64], at: usize) -> usize {
+    let all = count(letter, s);
+    let first = numbers(s).first;
+    let once = piece(s, 0, b'x');
     let mut end = at;
     let mut i: usize = 0;
-    while i < count {
-        end = put(out, end, (i % 251) as u8);
+    while i < all {
+        let b = byte_of_piece(letter, once, first, bytes, i);
+        end = put_byte(letter, bytes, words, end, b);
         i += 1;
     }
     end
 }
 
-fn put_piece(s: &[u8], words: bool, store: &[u8], out: &mut [u8], at: usize) -> usize {
-    match byte_at(s, 0) {
-        b'~' => put_stream(rest(s), out, at),
-        b'@' => put_stored(rest(s), store, out, at),
-        b'%' => put_pattern(rest(s), out, at),
-        b'-' => at,
-        _ => put_times(s, words, out, at),
-    }
-}
-
-// Puts the bytes of an argument, and answers the next place.
-pub fn put_argument(s: &[u8], words: bool, store: &[u8], out: &mut [u8], at: usize) -> usize {
+// Puts the bytes of an argument from a place on, and answers the next place.
+pub fn put_argument(letter: u8, s: &[u8], bytes: &mut [u8], words: &mut [u64], at: usize) -> usize {
     let mut end = at;
     let mut from: usize = 0;
     while from < s.len() {
-        end = put_piece(piece(s, from, b','), words, store, out, end);
-        from = next(s, from, b',');
-    }
-    end
-}
-
-// Puts the decimal numbers of an argument, and answers the next place.
-pub fn put_numbers(s: &[u8], out: &mut [u64], at: usize) -> usize {
-    let mut end = at;
-    let mut from: usize = 0;
-    while from < s.len() {
-        if byte_at(s, from) == b'-' {
-            return end;
-        }
-        end = put_half(out, end, value(piece(s, from, b','), 10));
+        end = put_piece(letter, piece(s, from, b','), bytes, words, end);
         from = next(s, from, b',');
     }
     end

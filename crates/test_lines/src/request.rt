@@ -3,36 +3,34 @@
 // halves of words and bytes an output has. With no argument, at the end, `o` is an output of one word, `c` of 128 words, `d` of a digest.
 //
 // What a request says stands in the head of the buffer of words, in rows of 8 halves: how many items a row has, and then these. They are the
-// numbers, where each input begins and the last one ends of those that are words and those that are bytes, and the lengths of the outputs.
+// numbers; where each input begins and the last one ends, of those that are words and those that are bytes; and the lengths of the outputs.
 ghost use mathlib.Core.Path.{_≡_};
 ghost use lib.ListN.{length};
-use crate::bytes::byte_at;
 use crate::bytes::half_in;
 use crate::bytes::put_half;
-use crate::bytes::put_halves;
-use crate::parts::begins;
+use crate::parts::find;
 use crate::parts::halves;
 use crate::parts::next;
 use crate::parts::part;
 use crate::parts::piece;
-use crate::pieces::decimal;
+use crate::pieces::numbers;
 use crate::pieces::put_argument;
-use crate::pieces::put_numbers;
+use bytes_numbers::same_bytes;
 use std::num::wrapping_add_u64;
 use std::num::wrapping_add_usize;
 
-// Where the rows begin, and what is past them.
+// Where the rows begin, and what is past them, as bytes.
 const NUMBERS: usize = 0;
 
 const WORDS: usize = 8;
 
-const BYTES: usize = 16;
+pub const BYTES: usize = 16;
 
 pub const OUT_WORDS: usize = 24;
 
 pub const OUT_BYTES: usize = 32;
 
-const HEAD: usize = 40;
+const HEAD: usize = 320;
 
 // Item i of a row; 0 where it has none.
 pub fn item(head: &[u64], row: usize, i: usize) -> usize {
@@ -67,8 +65,8 @@ pub fn numbers_in(words: &[u64]) -> Numbers {
 pub fn words_in(words: &[u64], i: usize) -> &[u64] {
     halves(
         words,
-        item(words, WORDS, i),
-        item(words, WORDS, wrapping_add_usize(i, 1)),
+        item(words, WORDS, i) / 8,
+        item(words, WORDS, wrapping_add_usize(i, 1)) / 8,
     )
 }
 
@@ -92,45 +90,29 @@ fn row_of(letter: u8) -> usize {
     }
 }
 
-// Puts the words of an argument after those before; their bytes lie past the last bytes for a moment.
-fn put_words(s: &[u8], store: &[u8], bytes: &mut [u8], words: &mut [u64]) -> usize {
-    let at = last(words, BYTES);
-    let end = put_argument(s, true, store, bytes, at);
-    let from = last(words, WORDS);
-    put_halves(words, from, part(bytes, at, end))
-}
-
 // What the argument for a letter comes to: a number, a length, or where the input ends that it puts.
-fn value(letter: u8, s: &[u8], store: &[u8], bytes: &mut [u8], words: &mut [u64]) -> usize {
-    let from = last(words, WORDS);
+fn value(letter: u8, s: &[u8], bytes: &mut [u8], words: &mut [u64]) -> usize {
     match letter {
+        b'b' | b'l' | b'w' => {
+            let at = last(words, row_of(letter));
+            put_argument(letter, s, bytes, words, at)
+        }
+        b'o' => 2,
         b'c' => 256,
         b'd' => 32,
-        b'o' => 2,
-        b'b' => put_argument(s, false, store, bytes, last(words, BYTES)),
-        b'l' => put_numbers(s, words, from),
-        b'w' => put_words(s, store, bytes, words),
-        _ => decimal(s),
+        _ => numbers(s).last as usize,
     }
 }
 
 // The arguments from a place of a line on, as letters ask for them.
-fn arguments(
-    letters: &[u8],
-    s: &[u8],
-    from: usize,
-    store: &[u8],
-    bytes: &mut [u8],
-    words: &mut [u64],
-) {
+fn arguments(letters: &[u8], s: &[u8], from: usize, bytes: &mut [u8], words: &mut [u64]) {
     let mut place = from;
     let mut at: usize = 0;
     while at < letters.len() {
-        let letter = byte_at(letters, at);
-        let given = piece(s, place, b' ');
-        let x = value(letter, given, store, bytes, words);
+        let letter = letters[at];
+        let x = value(letter, piece(s, place, b' '), bytes, words);
         push(words, row_of(letter), x);
-        place = wrapping_add_usize(wrapping_add_usize(place, given.len()), 1);
+        place = wrapping_add_usize(find(s, place, b' '), 1);
         at += 1;
     }
 }
@@ -146,7 +128,7 @@ fn find_name(name: &[u8], table: &[u8]) -> Found {
     let mut line: usize = 0;
     let mut at: usize = 0;
     while at < table.len() {
-        if begins(name, table, at) {
+        if same_bytes(name, piece(table, at, b' ')) {
             return Found { line, at };
         }
         line = wrapping_add_usize(line, 1);
@@ -156,14 +138,19 @@ fn find_name(name: &[u8], table: &[u8]) -> Found {
 }
 
 // What a line of a program with a table of operations asks for, and is lent: the operation's place in the table, or the number of its lines where
-// it has no such name. The words are lent with zeros.
-pub fn read(s: &[u8], table: &[u8], store: &[u8], bytes: &mut [u8], words: &mut [u64]) -> usize {
+// it has no such name. The words are lent with zeros, the bytes with those that earlier lines keep.
+pub fn read(s: &[u8], table: &[u8], kept: usize, bytes: &mut [u8], words: &mut [u64]) -> usize {
     let name = piece(s, 0, b' ');
     let found = find_name(name, table);
     let from = wrapping_add_usize(name.len(), 1);
     let letters = piece(table, wrapping_add_usize(found.at, from), 10);
     push(words, WORDS, HEAD);
-    push(words, BYTES, 0);
-    arguments(letters, s, from, store, bytes, words);
+    push(words, BYTES, kept);
+    arguments(letters, s, from, bytes, words);
     found.line
+}
+
+// Where the last bytes of a request end.
+pub fn bytes_end(words: &[u64]) -> usize {
+    last(words, BYTES)
 }

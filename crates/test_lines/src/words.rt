@@ -1,4 +1,4 @@
-// Words by value, from the front of a slice and into one: what it has not is 0, and what it has no room for is dropped.
+// Words by value, from a slice and into one: what it has not is 0, and what it has no room for is dropped.
 ghost use mathlib.Core.Path.{_≡_};
 ghost use lib.ListN.{length};
 use crate::bytes::half_in;
@@ -39,18 +39,16 @@ pub fn coordinates(s: &[u64]) -> [Word; 7] {
     ]
 }
 
-pub fn put(out: &mut [u64], w: Word) {
-    put_half(out, 0, w.lo);
-    put_half(out, 1, w.hi);
+pub fn put(out: &mut [u64], at: usize, w: Word) {
+    put_half(out, at, w.lo);
+    put_half(out, wrapping_add_usize(at, 1), w.hi);
 }
 
 pub fn put_coefficients(out: &mut [u64], c: [Word; 128]) {
-    let mut end: usize = 0;
     let mut b: usize = 0;
     while b < 128 {
         let w = c[b];
-        let high = put_half(out, end, w.lo);
-        end = put_half(out, high, w.hi);
+        put(out, 2 * b, w);
         b += 1;
     }
 }

@@ -1,11 +1,13 @@
-// Levels, profiles, committing and the last level: eval.rs, and docs/SPECIFICATION.md's `tail-list`.
+// Levels, profiles, trees of levels and the last level: eval.rs, and docs/SPECIFICATION.md's `tail-list`.
 use code_profile::Parameters;
 use code_profile::Profile;
 use test_lines::answer::Answer;
 use test_lines::answer::no_room;
 use test_lines::answer::one;
 use test_lines::answer::three;
-use test_lines::bytes::put_part;
+use test_lines::answer::two;
+use test_lines::bytes::put_all;
+use test_lines::parts::first_halves;
 use test_lines::request::Numbers;
 use test_lines::words::copy;
 
@@ -30,7 +32,7 @@ fn level_domain(n: usize, s: &[u8], y: &mut [u8]) -> Answer {
         return no_room();
     }
     let end = code_level::level_domain(&mut out, s, n);
-    put_part(y, 0, &out, 0, y.len());
+    put_all(y, 0, &out);
     length(end)
 }
 
@@ -49,7 +51,7 @@ fn parameters(profile: usize) -> Parameters {
 fn profile(n: usize, y: &mut [u8]) -> Answer {
     let p = parameters(n);
     let domain = p.domain;
-    put_part(y, 0, &domain, 0, 24);
+    put_all(y, 0, &domain);
     Answer {
         count: 3,
         a: p.k as u64,
@@ -59,35 +61,41 @@ fn profile(n: usize, y: &mut [u8]) -> Answer {
     }
 }
 
-fn tails(s: &[u8], w: &mut [u64]) -> Answer {
-    let r = export_tail_entries::tails(s);
-    let entries = r.entries;
-    copy(w, &entries);
-    three(r.number, r.n, r.k)
+fn domain_length(n: usize, s: &[u8]) -> Answer {
+    let r = code_level::domain::level_domain_length(s, n);
+    two(r.number, r.length)
 }
 
-pub fn answer(place: usize, n: usize, s: &[u8], y: &mut [u8]) -> Answer {
+pub fn answer(place: usize, n: Numbers, a: &[u64], s: &[u8], y: &mut [u8]) -> Answer {
     match place {
-        0 => length(code_level::fold_tree_width(n)),
-        1 => level_domain(n, s, y),
-        2 => profile(n, y),
+        0 => length(code_level::fold_tree_width(n.0)),
+        1 => level_domain(n.0, s, y),
+        2 => profile(n.0, y),
+        3 => domain_length(n.0, s),
+        4 => one(code_level::domain::level_domain(s, n.0, y)),
+        5 => one(code_commit::level::level_tree(n.0, n.1, n.2, s, a, y)),
         _ => no_room(),
     }
 }
 
-// The operations whose outputs are words.
-pub fn committed(
-    place: usize,
+// All levels of a codeword, which stands at their front, by its challenges.
+pub fn fold_levels(
     n: Numbers,
-    a: &[u64],
+    challenges: &[u64],
+    codeword: &[u64],
     s: &[u8],
     w: &mut [u64],
     x: &mut [u64],
     y: &mut [u8],
+    z: &mut [u8],
 ) -> Answer {
-    match place {
-        0 => one(code_commit::commit(n.0, n.1, s, a, w, x, y)),
-        1 => tails(s, w),
-        _ => no_room(),
-    }
+    copy(first_halves(w, codeword.len()), codeword);
+    one(code_fold_levels::fold_levels(n.0, n.1, s, challenges, w, x, y, z))
+}
+
+pub fn tails(s: &[u8], w: &mut [u64]) -> Answer {
+    let r = export_tail_entries::tails(s);
+    let entries = r.entries;
+    copy(w, &entries);
+    three(r.number, r.n, r.k)
 }

@@ -1,21 +1,22 @@
-// Answers request lines on levels, commitments, query and tail records, two records compared and the whole run: the lines of the files in
-// data/, each of which says where its answers come from. tools/vectors.py writes the lines and what is to be printed.
+// Answers request lines on the hash, on trees, levels and records, and on the whole run: the lines of the files in data/, each of which says
+// where its answers come from. tools/vectors.py writes the lines and what is to be printed.
 ghost use mathlib.Core.Path.{_≡_};
 ghost use lib.ListN.{length};
 
+mod hash;
 mod level;
-mod levels;
 mod many;
 mod pair;
 mod record;
+mod tree;
 mod whole;
 
 use std::num::wrapping_add_usize;
+use test_lines::answer::Answer;
 use test_lines::answer::no_room;
+use test_lines::answer::one;
+use test_lines::answer::print;
 use test_lines::answer::print_answer;
-use test_lines::answer::print_bytes;
-use test_lines::bytes::put_part;
-use test_lines::files;
 use test_lines::parts::first;
 use test_lines::parts::first_halves;
 use test_lines::parts::next;
@@ -29,102 +30,73 @@ use test_lines::request::item;
 use test_lines::request::numbers_in;
 use test_lines::request::words_in;
 
-// Each of these answers a request of one row of the table and prints the answer; the outputs hold what they hold before they are lent.
-
-fn on_levels(line: usize, place: usize, bytes: &[u8], words: &[u64]) {
-    let mut y = [0xa5u8; 1024];
+// The operations whose outputs are bytes.
+fn on_bytes(operation: usize, words: &[u64], bytes: &[u8], y: &mut [u8]) -> Answer {
+    let place = operation % 8;
     let n = numbers_in(words);
-    let a = level::answer(
-        place,
-        n.0,
-        bytes_in(words, bytes, 0),
-        first(&mut y, item(words, OUT_BYTES, 0)),
-    );
-    print_bytes(line, words, a, &y);
-}
-
-fn on_commits(line: usize, place: usize, bytes: &[u8], words: &[u64]) {
-    let mut w = [0xa5a5_a5a5_a5a5_a5a5u64; 2048];
-    let mut x = [0xa5a5_a5a5_a5a5_a5a5u64; 2048];
-    let mut y = [0xa5u8; 32768];
-    let a = level::committed(
-        place,
-        numbers_in(words),
-        words_in(words, 0),
-        bytes_in(words, bytes, 0),
-        first_halves(&mut w, item(words, OUT_WORDS, 0)),
-        first_halves(&mut x, item(words, OUT_WORDS, 1)),
-        first(&mut y, item(words, OUT_BYTES, 0)),
-    );
-    print_answer(line, words, a, &w, &x, &y, &[]);
-}
-
-fn on_records(line: usize, place: usize, bytes: &[u8], words: &[u64]) {
-    let mut y = [0xa5u8; 32768];
-    let a = record::answer(
-        place,
-        numbers_in(words),
-        words_in(words, 0),
-        bytes_in(words, bytes, 0),
-        bytes_in(words, bytes, 1),
-        bytes_in(words, bytes, 2),
-        first(&mut y, item(words, OUT_BYTES, 0)),
-    );
-    print_bytes(line, words, a, &y);
-}
-
-fn on_pairs(line: usize, place: usize, bytes: &[u8], words: &[u64]) {
-    let mut y = [0xa5u8; 1024];
-    let mut z = [0xa5u8; 1024];
-    let a = pair::answer(
-        place,
-        words,
-        bytes,
-        first(&mut y, item(words, OUT_BYTES, 0)),
-        first(&mut z, item(words, OUT_BYTES, 1)),
-    );
-    print_answer(line, words, a, &[], &[], &y, &z);
-}
-
-fn on_whole(line: usize, bytes: &[u8], words: &[u64]) {
-    let mut w = [0xa5a5_a5a5_a5a5_a5a5u64; 64];
-    let mut y = [0xa5u8; 2048];
-    let mut z = [0xa5u8; 64];
-    let a = whole::answer(
-        words,
-        bytes,
-        first_halves(&mut w, item(words, OUT_WORDS, 0)),
-        first(&mut y, item(words, OUT_BYTES, 0)),
-        first(&mut z, item(words, OUT_BYTES, 1)),
-    );
-    print_answer(line, words, a, &w, &[], &y, &z);
-}
-
-// Of a request on many records made of one, which lies in a buffer of its own.
-fn on_many(line: usize, place: usize, bytes: &[u8], words: &[u64]) {
-    let mut y = [0u8; 32768];
+    let a = words_in(words, 0);
+    let s = bytes_in(words, bytes, 0);
+    let t = bytes_in(words, bytes, 1);
     let u = bytes_in(words, bytes, 2);
-    let end = put_part(&mut y, 0, u, 0, u.len());
-    many::print(
-        line,
-        many::given_by(place, numbers_in(words)),
-        words_in(words, 0),
-        bytes_in(words, bytes, 0),
-        bytes_in(words, bytes, 1),
-        first(&mut y, end),
-    );
+    match operation / 8 {
+        2 => hash::answer(place, n, a, s, t, y),
+        3 => tree::answer(place, n, a, s, t, u, y),
+        4 => level::answer(place, n, a, s, y),
+        _ => record::answer(place, n, a, s, t, u, y),
+    }
 }
 
-fn on_folds(line: usize, bytes: &[u8], words: &[u64]) {
-    let mut w = [0xa5a5_a5a5_a5a5_a5a5u64; 1024];
-    let mut x = [0xa5a5_a5a5_a5a5_a5a5u64; 512];
-    let mut y = [0xa5u8; 8192];
-    let mut z = [0xa5u8; 512];
-    let a = levels::fold_levels(
-        numbers_in(words),
-        words_in(words, 0),
-        words_in(words, 1),
-        bytes_in(words, bytes, 0),
+// The operations that have more than one output, or none.
+fn on_all(
+    place: usize,
+    words: &[u64],
+    bytes: &[u8],
+    w: &mut [u64],
+    x: &mut [u64],
+    y: &mut [u8],
+    z: &mut [u8],
+) -> Answer {
+    let n = numbers_in(words);
+    let a = words_in(words, 0);
+    let s = bytes_in(words, bytes, 0);
+    match place {
+        0 => one(code_commit::commit(n.0, n.1, s, a, w, x, y)),
+        1 => level::fold_levels(n, a, words_in(words, 1), s, w, x, y, z),
+        2 => level::tails(s, w),
+        3 => pair::compare(words, bytes, y, z),
+        4 => pair::walk(n.0, n.1, n.2, s, bytes_in(words, bytes, 1), y, z),
+        5 => whole::answer(words, bytes, w, y, z),
+        _ => no_room(),
+    }
+}
+
+// What a request is answered: the layer by its row of the table, the operation by its place in it.
+fn answer(
+    operation: usize,
+    words: &[u64],
+    bytes: &[u8],
+    w: &mut [u64],
+    x: &mut [u64],
+    y: &mut [u8],
+    z: &mut [u8],
+) -> Answer {
+    match operation / 8 {
+        2..=5 => on_bytes(operation, words, bytes, y),
+        6 => on_all(operation % 8, words, bytes, w, x, y, z),
+        _ => no_room(),
+    }
+}
+
+// Answers a request and prints the answer; the outputs hold what they hold before they are lent.
+fn respond(line: usize, operation: usize, words: &[u64], bytes: &[u8]) {
+    let mut w = [0xa5a5_a5a5_a5a5_a5a5u64; 8192];
+    let mut x = [0xa5a5_a5a5_a5a5_a5a5u64; 2048];
+    let mut y = [0xa5u8; 65536];
+    let mut z = [0xa5u8; 1024];
+    let a = answer(
+        operation,
+        words,
+        bytes,
         first_halves(&mut w, item(words, OUT_WORDS, 0)),
         first_halves(&mut x, item(words, OUT_WORDS, 1)),
         first(&mut y, item(words, OUT_BYTES, 0)),
@@ -133,79 +105,13 @@ fn on_folds(line: usize, bytes: &[u8], words: &[u64]) {
     print_answer(line, words, a, &w, &x, &y, &z);
 }
 
-// The entries on levels; all levels at once have outputs of every kind.
-fn on_all_levels(line: usize, place: usize, bytes: &[u8], words: &[u64]) {
-    let mut y = [0xa5u8; 2048];
-    if place == 3 {
-        on_folds(line, bytes, words);
-        return;
-    }
-    let a = levels::answer(
-        place,
-        numbers_in(words),
-        words_in(words, 0),
-        bytes_in(words, bytes, 0),
-        first(&mut y, item(words, OUT_BYTES, 0)),
-    );
-    print_bytes(line, words, a, &y);
-}
-
-// Answers a request by its row of the table.
-fn respond(line: usize, operation: usize, bytes: &[u8], words: &[u64]) {
-    let place = operation % 8;
-    match operation / 8 {
-        0 => on_levels(line, place, bytes, words),
-        1 => on_commits(line, place, bytes, words),
-        2 => on_records(line, place, bytes, words),
-        3 => on_pairs(line, place, bytes, words),
-        4 => on_whole(line, bytes, words),
-        5 => on_many(line, place, bytes, words),
-        6 => on_all_levels(line, place, bytes, words),
-        // a name that the table has not has no outputs
-        _ => print_bytes(line, words, no_room(), bytes),
-    }
-}
-
-// A line with a request.
-fn run(s: &[u8], line: usize, kept: &[u8]) {
-    let mut bytes = [0u8; 65536];
-    let mut words = [0u64; 4096];
+// A line: what it keeps is put after what is kept already, and what it asks is answered. Answers how many bytes are kept.
+fn run(s: &[u8], line: usize, bytes: &mut [u8], kept: usize) -> usize {
+    let mut words = [0u64; 16384];
     let table = b"\
-fold_tree_width n
-level_domain bnB
-profile nB
-none n
-none n
-none n
-none n
-none n
-commit nnbwWWB
-tails bW
-none n
-none n
-none n
-none n
-none n
-none n
-check_query bnnnwbb
-check_tail bnnbwb
-build_query nnnwbB
-build_tail nnwbB
-none n
-none n
-none n
-none n
-compare bnnnwbbbBB
-walk nnnbbBB
-none n
-none n
-none n
-none n
-none n
-none n
-run nnnbwlwwbblWBB
-none n
-none n
+= b
+# n
+ n
 none n
 none n
 none n
@@ -219,36 +125,81 @@ none n
 none n
 none n
 none n
+blake3 bd
+serialize_parts blB
+pieces bnnd
+fed bnbd
+state lbB
+none n
+none n
+none n
+leaf_digest bnnnwd
+node_digest bnbbd
+build bnnwB
+open nnnbB
+root_of_path bnnnwbd
+leaf_message bnnnw
+leaves bnnnwB
+parents bnbB
+fold_tree_width n
+level_domain bnB
+profile nB
 domain_length bn
 domain_into bnB
 level_tree nnnbwB
+none n
+none n
+check_query bnnnwbb
+check_tail bnnbwb
+build_query nnnwbB
+build_tail nnwbB
+none n
+none n
+none n
+none n
+commit nnbwWWB
 fold_levels nnbwwWWBB
+tails bW
+compare bnnnwbbbBB
+walk nnnbbBB
+run nnnbwlwwbblWBB
 ";
-    let operation = request::read(s, table, kept, &mut bytes, &mut words);
-    respond(line, operation, &bytes, &words);
+    let operation = request::read(s, table, kept, bytes, &mut words);
+    match operation / 8 {
+        0 => request::bytes_end(&words),
+        1 => {
+            many::print(line, operation % 8, &words, bytes);
+            kept
+        }
+        _ => {
+            respond(line, operation, &words, bytes);
+            kept
+        }
+    }
 }
 
-// Every line of a file: requests are answered.
-fn run_lines(file: &[u8], kept: &[u8]) {
+// Every line of a file.
+fn run_lines(file: &[u8]) {
+    let mut bytes = [0u8; 131072];
+    let mut kept: usize = 0;
     let mut line: usize = 1;
     let mut from: usize = 0;
     while from < file.len() {
-        let s = piece(file, from, 10);
-        if files::is_request(s) {
-            run(s, line, kept);
-        }
+        kept = run(piece(file, from, 10), line, &mut bytes, kept);
         line = wrapping_add_usize(line, 1);
         from = next(file, from, 10);
     }
 }
 
-// The file with a name.
+// Prints the name of a file, and answers what lines of it there is room for.
 fn run_file(name: &[u8]) {
-    let file = files::read(name);
-    let bytes = file.bytes;
-    let text = part(&bytes, 0, file.len);
-    let kept = files::kept(text);
-    run_lines(text, &kept);
+    print(name);
+    print(b"\n");
+    let mut bytes = [0u8; 262144];
+    let file = os::open_read(name);
+    let len = io::read_full(file, &mut bytes);
+    libc::close(file);
+    run_lines(part(&bytes, 0, len));
 }
 
 // The files with these names, one to a line.
@@ -263,19 +214,28 @@ fn run_files(names: &[u8]) {
 fn main() {
     run_files(
         b"\
-levels.txt
-all_levels.txt
-accepted.txt
-query.txt
-tail.txt
-build.txt
-compare.txt
-walks.txt
-tail_list.txt
-run.txt
-differences.txt
-rust_levels.txt
-rust_records.txt
+tree/vectors.txt
+tree/parts.txt
+tree/trees.txt
+tree/openings.txt
+tree/refusals.txt
+tree/states.txt
+tree/differences.txt
+tree/rust_hash.txt
+tree/rust_trees.txt
+record/levels.txt
+record/all_levels.txt
+record/accepted.txt
+record/query.txt
+record/tail.txt
+record/build.txt
+record/compare.txt
+record/walks.txt
+record/tail_list.txt
+record/run.txt
+record/differences.txt
+record/rust_levels.txt
+record/rust_records.txt
 ",
     );
 }

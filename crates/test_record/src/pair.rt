@@ -7,7 +7,7 @@ use test_lines::request::numbers_in;
 use test_lines::request::words_in;
 use tree_place::Place;
 
-fn compare(words: &[u64], bytes: &[u8], y: &mut [u8], z: &mut [u8]) -> Answer {
+pub fn compare(words: &[u64], bytes: &[u8], y: &mut [u8], z: &mut [u8]) -> Answer {
     let n = numbers_in(words);
     let r = compare_records::compare(
         bytes_in(words, bytes, 0),
@@ -25,7 +25,7 @@ fn compare(words: &[u64], bytes: &[u8], y: &mut [u8], z: &mut [u8]) -> Answer {
 }
 
 // Two chains: the lengths of their first message and of the others, and how many others.
-fn walk(
+pub fn walk(
     leaf: usize,
     node: usize,
     depth: usize,
@@ -64,26 +64,4 @@ fn walk(
     }
     let m = compare_pick::pick_last(s, t, leaf, node, depth, y, z);
     three(0, m, m)
-}
-
-// The chains of a request.
-fn walk_chains(words: &[u64], bytes: &[u8], y: &mut [u8], z: &mut [u8]) -> Answer {
-    let n = numbers_in(words);
-    walk(
-        n.0,
-        n.1,
-        n.2,
-        bytes_in(words, bytes, 0),
-        bytes_in(words, bytes, 1),
-        y,
-        z,
-    )
-}
-
-pub fn answer(place: usize, words: &[u64], bytes: &[u8], y: &mut [u8], z: &mut [u8]) -> Answer {
-    match place {
-        0 => compare(words, bytes, y, z),
-        1 => walk_chains(words, bytes, y, z),
-        _ => no_room(),
-    }
 }

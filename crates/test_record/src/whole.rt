@@ -1,17 +1,24 @@
 // The whole run, on deposits of at most four words with k at most 1.
+ghost use mathlib.Core.Path.{_≡_};
+ghost use lib.ListN.{length};
 use claim_whole_run::Answers;
 use field_gf128::Word;
 use test_lines::answer::Answer;
 use test_lines::answer::no_room;
 use test_lines::bytes::half_in;
-use test_lines::bytes::put_bytes;
-use test_lines::bytes::put_part;
+use test_lines::bytes::put_all;
+use test_lines::bytes::put_halves;
 use test_lines::parts::first;
 use test_lines::parts::first_halves;
 use test_lines::request::Numbers;
 use test_lines::request::bytes_in;
 use test_lines::request::numbers_in;
 use test_lines::request::words_in;
+
+// Number i of a list.
+fn number(list: &[u64], i: usize) -> usize {
+    half_in(list, i) as usize
+}
 
 // The roots, both records and both messages.
 fn put_left(
@@ -22,22 +29,14 @@ fn put_left(
     one: &[u8; 520],
     two: &[u8; 520],
 ) {
-    let a = put_part(y, 0, roots, 0, 128);
-    let b = put_part(y, a, query, 0, 400);
-    let c = put_part(y, b, tail, 0, 64);
-    let d = put_part(y, c, one, 0, 520);
-    put_part(y, d, two, 0, 520);
+    let a = put_all(y, 0, roots);
+    let b = put_all(y, a, query);
+    let c = put_all(y, b, tail);
+    let d = put_all(y, c, one);
+    put_all(y, d, two);
 }
 
-// How many calls are done, the level of the query check, and the lengths of the messages.
-fn put_counts(z: &mut [u8], done: usize, level: u32, one: usize, two: usize) {
-    let a = put_bytes(z, 0, done as u64);
-    let b = put_bytes(z, a, level as u64);
-    let c = put_bytes(z, b, one as u64);
-    put_bytes(z, c, two as u64);
-}
-
-// A run, lent buffers of these lengths.
+// A run, lent buffers of the lengths in a list.
 fn run(
     n: Numbers,
     claim: Word,
@@ -47,7 +46,7 @@ fn run(
     challenges: &[u64],
     u: &[u8],
     v: &[u8],
-    sizes: [usize; 9],
+    sizes: &[u64],
     kept: &mut [u64],
     y: &mut [u8],
 ) -> Answers {
@@ -71,26 +70,33 @@ fn run(
         challenges,
         u,
         v,
-        first_halves(&mut gammas, sizes[0]),
-        first_halves(&mut levels, sizes[1]),
-        first_halves(&mut half, sizes[2]),
+        first_halves(&mut gammas, number(sizes, 0)),
+        first_halves(&mut levels, number(sizes, 1)),
+        first_halves(&mut half, number(sizes, 2)),
         kept,
-        first(&mut trees, sizes[3]),
-        first(&mut roots, sizes[4]),
-        first(&mut query, sizes[5]),
-        first(&mut tail, sizes[6]),
-        first(&mut one, sizes[7]),
-        first(&mut two, sizes[8]),
+        first(&mut trees, number(sizes, 3)),
+        first(&mut roots, number(sizes, 4)),
+        first(&mut query, number(sizes, 5)),
+        first(&mut tail, number(sizes, 6)),
+        first(&mut one, number(sizes, 7)),
+        first(&mut two, number(sizes, 8)),
     );
     put_left(y, &roots, &query, &tail, &one, &two);
     r
 }
 
-// The numbers of the run, of both checks and of the comparison, and the counts.
+// The numbers of the run, of both checks and of the comparison; how many calls are done, the level of the query check, and the lengths of the
+// messages.
 fn answer_of(r: Answers, z: &mut [u8]) -> Answer {
     let checked = r.query;
     let compared = r.compared;
-    put_counts(z, r.done, checked.level, compared.first, compared.second);
+    let counts = [
+        r.done as u64,
+        checked.level as u64,
+        compared.first as u64,
+        compared.second as u64,
+    ];
+    put_halves(z, 0, &counts);
     Answer {
         count: 4,
         a: r.number as u64,
@@ -104,7 +110,7 @@ fn answer_of(r: Answers, z: &mut [u8]) -> Answer {
 fn put_numbers(out: &mut [usize], a: &[u64]) {
     let mut i: usize = 0;
     while i < out.len() {
-        out[i] = half_in(a, i) as usize;
+        out[i] = number(a, i);
         i += 1;
     }
 }
@@ -116,21 +122,7 @@ fn calls(numbers: &[usize], count: usize) -> &[usize] {
     &numbers[..0]
 }
 
-fn lengths(a: &[u64]) -> [usize; 9] {
-    [
-        half_in(a, 0) as usize,
-        half_in(a, 1) as usize,
-        half_in(a, 2) as usize,
-        half_in(a, 3) as usize,
-        half_in(a, 4) as usize,
-        half_in(a, 5) as usize,
-        half_in(a, 6) as usize,
-        half_in(a, 7) as usize,
-        half_in(a, 8) as usize,
-    ]
-}
-
-// The table, the calls, at most 8, their challenges, the claim, and the lengths of what is lent beside the kept challenges.
+// The table, the calls, at most 32, their challenges, the claim, and the lengths of what is lent beside the kept challenges.
 pub fn answer(words: &[u64], bytes: &[u8], kept: &mut [u64], y: &mut [u8], z: &mut [u8]) -> Answer {
     let b = words_in(words, 1);
     if b.len() > 32 {
@@ -147,7 +139,7 @@ pub fn answer(words: &[u64], bytes: &[u8], kept: &mut [u64], y: &mut [u8], z: &m
         words_in(words, 2),
         bytes_in(words, bytes, 1),
         bytes_in(words, bytes, 2),
-        lengths(words_in(words, 4)),
+        words_in(words, 4),
         kept,
         y,
     );

@@ -7,6 +7,7 @@ pub mod Windows
 pub mod Table
 pub mod Places
 pub mod Lists
+pub mod Parts
 pub mod Same
 pub mod Bytes
 pub mod Updates

@@ -1,7 +1,8 @@
 -- A built tree: the leaves, and the levels above them, are the tree of the definition.
-use Prim.Native.Nat.{ℕ, _+_, _-_, _*_, _/_}
-use mathlib.Core.Path.{_≡_, sym, _∙_, ap₂}
+use Prim.Native.Nat.{ℕ, _+_, _-_, _*_, _/_, _^_}
+use mathlib.Core.Path.{_≡_, sym, _∙_, ap, ap₂}
 use mathlib.Core.List.{List}
+use native.Mathlib.Nat.{mul-comm}
 use native.Mathlib.Omega.{arith}
 use lib.ListN.{length, drop}
 use Rattle.theory_laws.specs.Lists.{runs, flat, stored}
@@ -9,13 +10,28 @@ use Rattle.theory_laws.proofs.Lists.{runs-flat, length-flat, drop-stored}
 use Rattle.theory_blake3.specs.Digest.{hash}
 use Rattle.theory_blake3.proofs.HashMode.{length-hash}
 use Rattle.theory_merkle.specs.Shape.{Shape}
-use Rattle.theory_merkle.specs.Tree.{depthOf, treeSize, leaves, levels, levelsFrom, endToEnd, treeOf}
+use Rattle.theory_merkle.specs.Tree.{depthOf, treeSize, leavesFrom, leaves, levels, levelsFrom, endToEnd, treeOf}
 use Rattle.theory_merkle.proofs.Tree.{length-leaves, leaves-long}
+use Rattle.tree_place.specs.helpers.Yes.{BuildYes}
+use Rattle.tree_by_fours.specs.helpers.Fours.{GroupsFit}
+
+-- all groups of a tree can be put
+pub all-groups : {domain count width values tree : ℕ} → BuildYes domain count width values tree → GroupsFit domain count width 0 (count / width) values tree
+all-groups {domain} {count} {width} {values} {tree} y =
+    let s = y .shaped .shape in
+    record {
+      domain-le = y .domain-le;
+      shaped = y .shaped;
+      within = omega arith;
+      values-are = omega (arith, y .values-is, s .whole, ap (λ i. width * i) (s .groups), mul-comm width (2 ^ depthOf count width));
+      room = omega (arith, y .tree-is, s .some);
+    }
 
 module _ (domain : List ℕ) (count width : ℕ) (shape : Shape count width) (values tree t1 : List ℕ) (sized : length tree ≡ 32 * treeSize count width)
-    (wrote : t1 ≡ stored tree 0 (flat (leaves hash domain count width values))) where
+    (wrote : t1 ≡ stored tree 0 (flat (leavesFrom hash domain count width 0 (runs width (count / width) values)))) where
   -- the leaves read back
   leaves-there : runs 32 (count / width) t1 ≡ leaves hash domain count width values
+  unfolding leaves
   leaves-there =
       let ds : List (List ℕ) = leaves hash domain count width values in
       let long = leaves-long hash domain count width length-hash values in

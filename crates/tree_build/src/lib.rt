@@ -1,4 +1,5 @@
-// A tree over groups of words, built in a lent buffer, after magnetar-hash. The entry is `build`; the other functions require.
+// A tree over groups of words, built in a lent buffer, after magnetar-hash. The entry is `build`; the other functions require, and the public
+// ones of them are helpers for the crate that makes a tree in parts.
 use bytes_numbers::load;
 use tree_digest::hash_group;
 use tree_digest::hash_node;
@@ -10,47 +11,76 @@ ghost use Rattle.theory_laws.specs.Lists.{runs, flat};
 ghost use Rattle.theory_blake3.specs.Digest.{hash};
 ghost use Rattle.theory_merkle.specs.Tree.{levelsFrom, endToEnd};
 ghost use Rattle.theory_merkle.specs.Numbers.{buildNumber};
-ghost use Rattle.tree_place.specs.helpers.Yes.{BuildYes};
-ghost use Rattle.tree_by_fours.specs.helpers.Fours.{firstParents};
+ghost use Rattle.tree_by_fours.specs.helpers.Fours.{GroupsFit, firstLeaves, firstParents};
 ghost use Rattle.tree_build.specs.Built.{builtInto};
-ghost use Rattle.tree_build.specs.helpers.Put.{LeavesFit, ParentsFit, allLeaves, laterLeaves, laterParents};
+ghost use Rattle.tree_build.specs.helpers.Put.{LeavesFit, ParentsFit, laterLeaves, laterParents};
 
-// The leaves of a tree after those of `done` groups, one group after the other, each where it belongs in the buffer.
+// The leaves of some groups of a tree, from group `first` on, at the front of a buffer: those after `done` of them, one by one, each where it
+// belongs. Lent are the values of these groups.
 fn put_leaves_from(
-    tree: &mut [u8],
+    out: &mut [u8],
     message: &mut [u8],
     domain: &[u8],
     count: usize,
     width: usize,
+    first: usize,
+    groups: usize,
     done: usize,
     values: &[u64],
 )
-    requires { ⌜ LeavesFit (length (now domain)) count width (length (now values)) (length (now tree)) done (length (now message)) ⌝ }
-    ensures { λ _. ⌜ now (tree .exit) ≡ laterLeaves (now (tree .entry)) (now (domain .entry)) count width done (now (values .entry)) ⌝ }
+    requires { ⌜ LeavesFit (length (now domain)) count width first groups (length (now values)) (length (now out)) done (length (now message)) ⌝ }
+    ensures { λ _. ⌜ now (out .exit) ≡ laterLeaves (now (out .entry)) (now (domain .entry)) count width first groups done (now (values .entry)) ⌝ }
 {
-    let groups = count / width;
     let prefix = tree_message::leaf_prefix(message, domain, count, width);
     let mut from: usize = 2 * (width * done);
     let mut to: usize = 32 * done;
     let mut g: usize = done;
     while g < groups {
         let end = from + 2 * width;
-        let group = Group::numbered(g);
+        let group = Group::numbered(first + g);
         let d = hash_group(message, prefix, width, group, &values[from..end]);
-        to = bytes_numbers::put(tree, to, &d);
+        to = bytes_numbers::put(out, to, &d);
         from = end;
         g += 1;
     }
 }
 
-// The leaves of a tree, from the front of its buffer: by fours where that can be, and what is left one by one.
-fn put_leaves(tree: &mut [u8], domain: &[u8], count: usize, width: usize, values: &[u64])
-    requires { ⌜ BuildYes (length (now domain)) count width (length (now values)) (length (now tree)) ⌝ }
-    ensures { λ _. ⌜ now (tree .exit) ≡ allLeaves (now (tree .entry)) (now (domain .entry)) count width (now (values .entry)) ⌝ }
+// The leaves of some groups of a tree, from group `first` on, at the front of a buffer: by fours where that can be, and what is left one by
+// one. Lent are the values of these groups.
+pub fn put_leaves(
+    out: &mut [u8],
+    domain: &[u8],
+    count: usize,
+    width: usize,
+    first: usize,
+    groups: usize,
+    values: &[u64],
+)
+    requires { ⌜ GroupsFit (length (now domain)) count width first groups (length (now values)) (length (now out)) ⌝ }
+    ensures { λ _. ⌜ now (out .exit) ≡ firstLeaves (now (out .entry)) (now (domain .entry)) count width first (now (values .entry)) groups ⌝ }
 {
     let mut message = [0u8; tree_message::LEAF_MESSAGE];
-    let done = tree_by_fours::put_leaves(tree, &mut message, domain, count, width, values);
-    put_leaves_from(tree, &mut message, domain, count, width, done, values);
+    let done = tree_by_fours::put_leaves(
+        out,
+        &mut message,
+        domain,
+        count,
+        width,
+        first,
+        groups,
+        values,
+    );
+    put_leaves_from(
+        out,
+        &mut message,
+        domain,
+        count,
+        width,
+        first,
+        groups,
+        done,
+        values,
+    );
 }
 
 // The parents of a level's 2 × half digests, which start at byte from, written right after them: those after `done` parents, one by one.
@@ -81,7 +111,7 @@ fn put_parents_from(
 }
 
 // The parents of a level's 2 × half digests, which start at byte from, written right after them: by fours, and what is left one by one.
-fn put_parents(tree: &mut [u8], domain: &[u8], level: usize, from: usize, half: usize)
+pub fn put_parents(tree: &mut [u8], domain: &[u8], level: usize, from: usize, half: usize)
     requires { ⌜ (length (now domain) ≤ 255) × (from + 96 * half ≤ length (now tree)) ⌝ }
     ensures { λ _. ⌜ now (tree .exit) ≡ firstParents (now (tree .entry)) (now (domain .entry)) level from half half ⌝ }
 {
@@ -116,12 +146,8 @@ pub fn build(domain: &[u8], count: usize, width: usize, values: &[u64], tree: &m
     if q != 0 {
         return q;
     }
-    put_leaves(tree, domain, count, width, values);
-    put_levels(
-        tree,
-        domain,
-        tree_place::depth_of(count, width),
-        count / width,
-    );
+    let groups = count / width;
+    put_leaves(tree, domain, count, width, 0, groups, values);
+    put_levels(tree, domain, tree_place::depth_of(count, width), groups);
     0
 }

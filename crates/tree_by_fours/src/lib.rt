@@ -8,8 +8,7 @@ use tree_place::Group;
 ghost use mathlib.Core.Path.{_≡_};
 ghost use Prim.Native.Nat.{_+_, _*_, _/_, _≤_};
 ghost use lib.ListN.{length};
-ghost use Rattle.tree_place.specs.helpers.Yes.{BuildYes};
-ghost use Rattle.tree_by_fours.specs.helpers.Fours.{byFours, firstLeaves, firstParents};
+ghost use Rattle.tree_by_fours.specs.helpers.Fours.{byFours, FoursFit, firstLeaves, firstParents};
 ghost use Rattle.tree_four_messages.specs.helpers.Strides.{stride};
 
 // How many of some messages of one size are hashed by fours: all that make fours, if a message is at most a chunk.
@@ -22,20 +21,23 @@ fn by_fours(size: usize, count: usize) -> usize
     0
 }
 
-// The leaves of a tree that are hashed by fours, from the front of its buffer, and how many they are.
+// The leaves of some groups of a tree, from group `first` on, that are hashed by fours, put at the front of a buffer, and how many they are.
+// Lent are the values of these groups.
 pub fn put_leaves(
-    tree: &mut [u8],
+    out: &mut [u8],
     messages: &mut [u8],
     domain: &[u8],
     count: usize,
     width: usize,
+    first: usize,
+    groups: usize,
     values: &[u64],
 ) -> usize
-    requires { ⌜ (BuildYes (length (now domain)) count width (length (now values)) (length (now tree))) × (4 * stride ≤ length (now messages)) ⌝ }
-    ensures { λ r. ⌜ r ≡ byFours (97 + length (now (domain .entry)) + 16 * width) (count / width) ⌝ }
-    ensures { λ r. ⌜ now (tree .exit) ≡ firstLeaves (now (tree .entry)) (now (domain .entry)) count width (now (values .entry)) r ⌝ }
+    requires { ⌜ FoursFit (length (now domain)) count width first groups (length (now values)) (length (now out)) (length (now messages)) ⌝ }
+    ensures { λ r. ⌜ r ≡ byFours (97 + length (now (domain .entry)) + 16 * width) groups ⌝ }
+    ensures { λ r. ⌜ now (out .exit) ≡ firstLeaves (now (out .entry)) (now (domain .entry)) count width first (now (values .entry)) r ⌝ }
 {
-    let all = by_fours(97 + domain.len() + 16 * width, count / width);
+    let all = by_fours(97 + domain.len() + 16 * width, groups);
     // A small tree or level has no four: then nothing is begun.
     if all == 0 {
         return 0;
@@ -50,9 +52,9 @@ pub fn put_leaves(
     let mut g: usize = 0;
     while g < all {
         let end = from + 8 * width;
-        let first = Group::numbered(g);
-        put_leaf_rests(messages, prefix, width, first, &values[from..end]);
-        to = put_digests(tree, to, h, blocks, messages, size);
+        let group = Group::numbered(first + g);
+        put_leaf_rests(messages, prefix, width, group, &values[from..end]);
+        to = put_digests(out, to, h, blocks, messages, size);
         from = end;
         g += 4;
     }

@@ -1,10 +1,10 @@
 -- Questions in the order in which the functions ask them, the shape's first.
-use Prim.Native.Nat.{ℕ, _*_, _<_}
+use Prim.Native.Nat.{ℕ, _+_, _*_, _/_, _%_, _<_}
 use mathlib.Core.Path.{_≡_, sym, _∙_}
 use mathlib.Core.Bool.{Bool, false, not}
 use mathlib.Core.List.{List, [], _∷_}
 use borrow.Author.Tests.{not-false, eq-eqb, ne-eqb}
-use lib.Dec.{ltb, eqb}
+use lib.Dec.{leb, ltb, eqb}
 use Rattle.theory_laws.specs.Questions.{pick, Question, _asks_, firstNo}
 use Rattle.theory_laws.proofs.Questions.{all-yes, firstNo-append}
 use Rattle.theory_merkle.specs.Tree.{depthOf, treeSize}
@@ -12,7 +12,7 @@ use Rattle.theory_merkle.specs.Shape.{Bounded}
 use Rattle.theory_merkle.specs.Questions.{isPow, domainFits, shape}
 use Rattle.theory_merkle.proofs.Sizes.{isPow-yes, power-pos}
 use Rattle.theory_merkle.proofs.Questions.{bounded}
-use Rattle.theory_merkle.specs.Numbers.{shapeNumber, treeNumber, leafNumber, buildNumber, openNumber, rootNumber}
+use Rattle.theory_merkle.specs.Numbers.{shapeNumber, treeNumber, leafNumber, buildNumber, leavesNumber, openNumber, rootNumber}
 
 -- a power of two is no zero
 pub power-some : (m x : ℕ) (q : Bool) → q ≡ isPow m x → not q ≡ false → 0 < x
@@ -40,6 +40,10 @@ root-rest count width place values path = (11 asks ltb place count) ∷ (12 asks
 abbrev build-rest : ℕ → ℕ → ℕ → ℕ → List Question
 build-rest count width values tree = (5 asks eqb values (2 * count)) ∷ (5 asks eqb tree (32 * treeSize count width)) ∷ []
 
+abbrev leaves-rest : ℕ → ℕ → ℕ → ℕ → ℕ → List Question
+leaves-rest count width first values out =
+    (11 asks leb (first + out / 32) (count / width)) ∷ (5 asks eqb values (2 * count)) ∷ (5 asks eqb (out % 32) 0) ∷ []
+
 abbrev open-rest : ℕ → ℕ → ℕ → ℕ → ℕ → List Question
 open-rest count width place tree path =
     (11 asks ltb place count) ∷ (5 asks eqb tree (32 * treeSize count width)) ∷ (5 asks eqb path (32 * depthOf count width)) ∷ []
@@ -58,6 +62,12 @@ pub build-asked : (r domain count width values tree : ℕ) → r ≡ then-asked 
     → r ≡ buildNumber domain count width values tree
 unfolding treeNumber buildNumber
 build-asked r domain count width values tree e = e ∙ sym (firstNo-append (domainFits domain ∷ shape count width) (build-rest count width values tree) tt)
+
+pub leaves-asked : (r domain count width first values out : ℕ) → r ≡ then-asked (treeNumber domain count width) (leaves-rest count width first values out)
+    → r ≡ leavesNumber domain count width first values out
+unfolding treeNumber leavesNumber
+leaves-asked r domain count width first values out e =
+    e ∙ sym (firstNo-append (domainFits domain ∷ shape count width) (leaves-rest count width first values out) tt)
 
 pub open-asked : (r count width place tree path : ℕ) → r ≡ then-asked (shapeNumber count width) (open-rest count width place tree path)
     → r ≡ openNumber count width place tree path

@@ -3,10 +3,10 @@ use Prim.Native.Nat.{ℕ}
 use mathlib.Core.Path.{_≡_, sym, _∙_}
 use borrow.Author.Tests.{leb-true, ltb-true, eqb-true}
 use Rattle.theory_laws.proofs.Questions.{all-yes}
-use Rattle.theory_merkle.specs.Questions.{leafQuestions, nodeQuestions, buildQuestions, openQuestions, rootQuestions}
+use Rattle.theory_merkle.specs.Questions.{leafQuestions, nodeQuestions, buildQuestions, leavesQuestions, parentsQuestions, openQuestions, rootQuestions}
 use Rattle.theory_merkle.proofs.Questions.{bounded}
-use Rattle.tree_place.specs.helpers.Yes.{LeafYes, NodeYes, BuildYes, OpenYes, RootYes}
-use Rattle.theory_merkle.specs.Numbers.{leafNumber, nodeNumber, buildNumber, openNumber, rootNumber}
+use Rattle.tree_place.specs.helpers.Yes.{LeafYes, NodeYes, BuildYes, LeavesYes, ParentsYes, OpenYes, RootYes}
+use Rattle.theory_merkle.specs.Numbers.{leafNumber, nodeNumber, buildNumber, leavesNumber, parentsNumber, openNumber, rootNumber}
 
 pub leaf-yes : (q domain count width place values : ℕ) → q ≡ leafNumber domain count width place values → q ≡ 0 → LeafYes domain count width place values
 unfolding leafNumber
@@ -35,6 +35,25 @@ build-yes q domain count width values tree e z =
       values-is = eqb-true _ _ (y .1 .1 .1 .1 .0);
       tree-is = eqb-true _ _ (y .1 .1 .1 .1 .1 .0);
     }
+
+pub leaves-yes : (q domain count width first values out : ℕ) → q ≡ leavesNumber domain count width first values out → q ≡ 0
+    → LeavesYes domain count width first values out
+unfolding leavesNumber
+leaves-yes q domain count width first values out e z =
+    let y = all-yes (leavesQuestions domain count width first values out) tt (sym e ∙ z) in
+    record {
+      domain-le = leb-true _ _ (y .0);
+      shaped = bounded count width (y .1 .0, (y .1 .1 .0, (y .1 .1 .1 .0, tt)));
+      within = leb-true _ _ (y .1 .1 .1 .1 .0);
+      values-is = eqb-true _ _ (y .1 .1 .1 .1 .1 .0);
+      whole = eqb-true _ _ (y .1 .1 .1 .1 .1 .1 .0);
+    }
+
+pub parents-yes : (q domain children out : ℕ) → q ≡ parentsNumber domain children out → q ≡ 0 → ParentsYes domain children out
+unfolding parentsNumber
+parents-yes q domain children out e z =
+    let y = all-yes (parentsQuestions domain children out) tt (sym e ∙ z) in
+    record { pairs = eqb-true _ _ (y .0); out-is = eqb-true _ _ (y .1 .0); domain-le = leb-true _ _ (y .1 .1 .0) }
 
 pub open-yes : (q count width place tree path : ℕ) → q ≡ openNumber count width place tree path → q ≡ 0 → OpenYes count width place tree path
 unfolding openNumber

@@ -1,11 +1,12 @@
 // Places and groups of a tree, its sizes, and the numbers that its entries answer. Helpers for the crates above: some require.
 ghost use mathlib.Core.Path.{_≡_};
 ghost use Prim.Native.Nat.{_+_, _*_, _/_, _%_, _^_, _<_};
-ghost use lib.Dec.{eqb};
+ghost use lib.Dec.{eqb, leb};
 ghost use Rattle.theory_merkle.specs.Tree.{groupOf, sibling, log2, depthOf, treeSize};
 ghost use Rattle.theory_merkle.specs.Shape.{Bounded};
 ghost use Rattle.theory_merkle.specs.Questions.{isPow};
 ghost use Rattle.theory_merkle.specs.Numbers.{shapeNumber, treeNumber, leafNumber, nodeNumber, buildNumber, openNumber, rootNumber};
+ghost use Rattle.theory_merkle.specs.Numbers.{leavesNumber, parentsNumber};
 ghost use Rattle.tree_place.specs.Place.{index, number};
 
 // The place of a value in a list of values. Its number is private to this crate: no place goes where a group is wanted.
@@ -265,6 +266,59 @@ pub fn build_number(domain: usize, count: usize, width: usize, values: usize, tr
     }
     if tree != tree_bytes(count, width) {
         return 5;
+    }
+    0
+}
+
+// Do m items from item `first` on end within a count?
+pub fn ends_within(first: usize, m: usize, count: usize) -> bool
+    ensures { λ r. ⌜ r ≡ leb (first + m) count ⌝ }
+{
+    if m > count {
+        return false;
+    }
+    first <= count - m
+}
+
+// The leaves of groups from one on: 7, 8, 9, 10, 11, 5.
+pub fn leaves_number(
+    domain: usize,
+    count: usize,
+    width: usize,
+    first: usize,
+    values: usize,
+    out: usize,
+) -> u32
+    ensures { λ r. ⌜ r ≡ leavesNumber domain count width first values out ⌝ }
+{
+    let q = tree_number(domain, count, width);
+    if q != 0 {
+        return q;
+    }
+    if !ends_within(first, out / 32, count / width) {
+        return 11;
+    }
+    if values != 2 * count {
+        return 5;
+    }
+    if out % 32 != 0 {
+        return 5;
+    }
+    0
+}
+
+// The parents of pairs of digests: 5, 7.
+pub fn parents_number(domain: usize, children: usize, out: usize) -> u32
+    ensures { λ r. ⌜ r ≡ parentsNumber domain children out ⌝ }
+{
+    if children % 64 != 0 {
+        return 5;
+    }
+    if out != children / 2 {
+        return 5;
+    }
+    if domain > 255 {
+        return 7;
     }
     0
 }

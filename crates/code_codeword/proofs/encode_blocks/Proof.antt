@@ -3,6 +3,7 @@ use Prim.Native.Nat.{_+_, _-_, _*_, _^_, _≤_}
 use mathlib.Core.Path.{_≡_, refl, _∙_}
 use native.Mathlib.Omega.{arith}
 use lib.ListN.{length, take, length-take, length-drop}
+use lib.Pow.{pow-pos}
 use Rattle.theory_field.specs.Words.{words}
 use Rattle.code_codeword.proofs.Blocks.{firstBlocks, block-within, no-blocks, block-turn, blocks-made}
 use Rattle.code_codeword.proofs.encode_blocks.Statement.{statement}
@@ -28,15 +29,25 @@ within c =
     let p = start c .pre in
     rw (c .before .loop .inv .1) (block-within (a .n) (a .k) (c .before .loop .eps) _ _ (p .0 .table=) (p .1) (omega arith))
 
+slice-aggregate-align : tie.Need-slice-aggregate-align Inv-loop μ-loop
+slice-aggregate-align c = refl
+
+align-requires : tie.Need-align-requires Inv-loop μ-loop
+align-requires c κs =
+    let begun : tie.Start Inv-loop μ-loop = search in
+    (refl, omega (arith, begun .pre .0 .table=, pow-pos (begun .args .n)))
+
 power-requires : tie.Need-power-requires Inv-loop μ-loop
 power-requires c κs = omega arith
 
 loop-holds : tie.Need-loop-holds Inv-loop μ-loop
 loop-holds c =
-    let a = c .before .before .before .before .args in (
+    let begun : tie.Start Inv-loop μ-loop = search in
+    let aligned : tie.After-align Inv-loop μ-loop = search in
+    let a = begun .args in (
       omega arith,
       refl,
-      refl,
+      aligned .align .kept .0,
       c .power .ensures,
       no-blocks (a .n) (a .k) (length (a .table .now)) (words (a .gammas .now)) (words (a .table .now))
           (a .out .now),
@@ -108,6 +119,8 @@ encode-blocks-spec =
     (tie.spec
     Inv-loop
     μ-loop
+    slice-aggregate-align
+    align-requires
     power-requires
     loop-holds
     mul-from

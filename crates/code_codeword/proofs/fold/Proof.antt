@@ -12,15 +12,18 @@ fold-number-requires c κs = search needs
 returns : tie.Need-returns
 returns c = search (asks, refused-same, needs)
 
-fold-into-requires : tie.Need-fold-into-requires
-fold-into-requires c κs =
+slice-aggregate-fold-within : tie.Need-slice-aggregate-fold-within
+slice-aggregate-fold-within c = search needs
+
+fold-within-requires : tie.Need-fold-within-requires
+fold-within-requires c κs =
     let else1 : tie.Else1 = search in
     let after-fold-number = else1 .before in
     let z = fold-sizes _ _ _ _ _ _ (after-fold-number .fold-number .ensures) (else1 .if1 .left) in
-    (z .paired, z .halved)
+    (z .paired, z .halved, omega arith)
 
-sub-t8 : tie.Need-sub-t8
-sub-t8 c =
+sub-t9 : tie.Need-sub-t9
+sub-t9 c =
     let else1 : tie.Else1 = search in
     let after-fold-number = else1 .before in
     let d = after-fold-number .fold-number in
@@ -39,7 +42,8 @@ fold-spec =
     (tie.spec
     fold-number-requires
     returns
-    fold-into-requires
-    sub-t8
+    slice-aggregate-fold-within
+    fold-within-requires
+    sub-t9
     same-length
     returns-2)

@@ -1,55 +1,49 @@
--- `tables::times` meets its contract: the table is the one that the kernel wants.
-use mathlib.Core.Path.{subst}
+-- `field_multiples::times` meets its contract: the table has the rows that the windows go by.
+use mathlib.Core.Path.{_≡_}
+use Prim.Native.Nat.{ℕ, _+_, _*_, _/_, _^_, _≤_}
+use native.Mathlib.Omega.{arith}
 use borrow.Author.Needs.{needs}
+use lib.ListN.{length}
 use Rattle.theory_field.specs.Words.{words}
 use Rattle.field_gf128.specs.Word.{word}
-use Rattle.field_multiples.specs.helpers.Multiples.{Holds}
+use Rattle.field_multiples.specs.helpers.Multiples.{Multiples}
 use Rattle.field_multiples.proofs.times.Statement.{statement}
 use Rattle.field_multiples.proofs.times.Tie as tie
 
-enum-told : tie.Need-enum-told
-enum-told c = search needs
+-- what `windows` wants where there are n windows to each half
+module _ (start : tie.Start) (n : ℕ) (e : n ≡ 64 / start .args .bits) where
+  abbrev b : ℕ
+  b = start .args .bits
 
-mul-requires : tie.Need-mul-requires
-mul-requires c κs = search needs
+  whole : b * n ≡ 64
+  whole = rw e (start .pre .whole)
 
-enum-told-2 : tie.Need-enum-told-2
-enum-told-2 c = search needs
+  room : 2 * ((n + n) * 2 ^ b) ≤ length (start .args .t .now)
+  room = rw e (start .pre .room)
+
+  holds : Multiples b ((n + n) * 2 ^ b) (word (start .args .r)) (words (start .args .t .now))
+  holds = rw e (start .pre .holds)
+
+div-narrow : tie.Need-div-narrow
+div-narrow c =
+    let start : tie.Start = search in
+    omega (arith, start .pre .some)
+
+narrow-requires : tie.Need-narrow-requires
+narrow-requires c κs = search needs
 
 windows-requires : tie.Need-windows-requires
-windows-requires c κs = search needs
-
-enum-told-3 : tie.Need-enum-told-3
-enum-told-3 c = search needs
-
-windows-requires-2 : tie.Need-windows-requires-2
-windows-requires-2 c κs = search needs
+windows-requires c κs =
+    let start : tie.Start = search in
+    let n = c .narrow in
+    (start .pre .small, whole start (n .result) (n .ensures), room start (n .result) (n .ensures))
 
 returns : tie.Need-returns
-returns c = search needs
-
-returns-2 : tie.Need-returns-2
-returns-2 c =
-    let start = c .before .before .before .before in
-    let r = word (start .args .r) in
-    c .windows .ensures r (subst (λ by. Holds by r (words (start .args .t .now))) (c .before .enum-told2 .given .1) (start .pre .holds))
-
-returns-3 : tie.Need-returns-3
-returns-3 c =
-    let start = c .before .before .before .before in
-    let r = word (start .args .r) in
-    c .windows2 .ensures r (subst (λ by. Holds by r (words (start .args .t .now))) (c .before .enum-told3 .given .1) (start .pre .holds))
+returns c =
+    let start : tie.Start = search in
+    let after-narrow : tie.After-narrow = search in
+    let n = after-narrow .narrow in
+    c .windows .ensures (word (start .args .r)) (holds start (n .result) (n .ensures))
 
 pub times-spec : {M : Type 1} → statement M
-times-spec =
-    tie.close
-    (tie.spec
-    enum-told
-    mul-requires
-    enum-told-2
-    windows-requires
-    enum-told-3
-    windows-requires-2
-    returns
-    returns-2
-    returns-3)
+times-spec = tie.close (tie.spec div-narrow narrow-requires windows-requires returns)

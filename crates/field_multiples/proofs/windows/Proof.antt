@@ -3,6 +3,7 @@ use mathlib.Core.Path.{_∙_}
 use Prim.Native.Nat.{_^_, _<_}
 use native.Mathlib.Omega.{arith}
 use borrow.Author.Needs.{needs}
+use Rattle.theory_laws.proofs.Xor.{⊕-comm}
 use Rattle.theory_field.specs.Words.{words}
 use Rattle.field_gf128.specs.Word.{word}
 use Rattle.field_multiples.proofs.Products.{fewer, halves}
@@ -23,9 +24,9 @@ unfolding word
 returns c r m =
     let a = c .before .before .before .before .args in
     let fits : a .w .lo < 2 ^ 64 = omega arith in
-    let high = c .before .half2 in
-    let low = c .before .before .half in
-    c .add .ensures
+    let high = c .before .before .half in
+    let low = c .before .half2 in
+    c .add .ensures ∙ ⊕-comm (word (high .result)) (word (low .result))
     ∙ halves (a .b) (a .n) r (word (low .result)) (word (high .result)) (a .w .hi) (a .w .lo) (c .before .before .before .before .pre .1) fits
     (low .ensures r (fewer (a .b) (a .n) r (words (a .t .now)) m)) (high .ensures r m)
 

@@ -2,13 +2,13 @@
 -- one entry for each window of b bits of the other factor. Rests on the field.
 use mathlib.Core.Path.{_≡_}
 use mathlib.Core.List.{List}
-use Prim.Native.Nat.{ℕ, _*_, _/_, _%_, _^_, _<_}
+use Prim.Native.Nat.{ℕ, _+_, _*_, _/_, _%_, _^_, _≤_, _<_}
 use lib.ListN.{length}
 use Rattle.theory_laws.specs.Table.{at}
 use Rattle.theory_field.specs.Field.{_⊗_}
 use Rattle.theory_field.specs.Words.{words}
 use Rattle.field_multiples.specs.declared.Kernel.{Kernel}
-use Rattle.field_multiples.specs.declared.Kernel.the-variants.{Product, Nibbles, Bytes}
+use Rattle.field_multiples.specs.declared.Kernel.the-variants.{Nibbles, Bytes}
 
 -- what entry k stands for in a table with windows of b bits: the number k % 2^b at place b × (k / 2^b)
 unfoldable pub window : ℕ → ℕ → ℕ
@@ -18,17 +18,19 @@ window b k = k % 2 ^ b * 2 ^ (b * (k / 2 ^ b))
 unfoldable pub Multiples : ℕ → ℕ → ℕ → List ℕ → Type 0
 Multiples b n r ws = (k : ℕ) → k < n → at ws k ≡ r ⊗ window b k
 
--- what a table holds where a kernel is to read it, for products by r
-abbrev pub Holds : Kernel → ℕ → List ℕ → Type 0
-Holds Product r ws = Unit
-Holds Nibbles r ws = Multiples 4 (32 * 2 ^ 4) r ws
-Holds Bytes r ws = Multiples 8 (16 * 2 ^ 8) r ws
+-- the bits of a kernel's windows
+abbrev pub bitsOf : Kernel → ℕ
+bitsOf Nibbles = 4
+bitsOf Bytes = 8
 
 -- a slice with room for any of the tables: 64 KiB
 abbrev pub Room : List ℕ → Type 0
 Room t = length t ≡ 8192
 
--- a slice that is a table as the kernel wants it, for products by r
-pub record Ready (by : Kernel) (r : ℕ) (t : List ℕ) : Type 0 where
-  pub room : Room t
-  pub holds : Holds by r (words t)
+-- a slice that is a table for products by r, with windows of b bits, 64 / b to each half of the other factor
+pub record Ready (b r : ℕ) (t : List ℕ) : Type 0 where
+  pub some : 0 < b
+  pub small : b < 64
+  pub whole : b * (64 / b) ≡ 64
+  pub room : 2 * ((64 / b + 64 / b) * 2 ^ b) ≤ length t
+  pub holds : Multiples b ((64 / b + 64 / b) * 2 ^ b) r (words t)

@@ -1,82 +1,62 @@
--- `field_runs::eq_double` meets its contract. The loop's invariant: the first v entries are doubled.
-use mathlib.Core.Path.{_≡_, refl, subst}
-use Prim.Native.Nat.{_-_, _≤_}
-use native.Mathlib.Omega.{arith}
+-- `field_runs::eq_double` meets its contract: the table is one for the windows of the kernel that was chosen.
 use borrow.Author.Needs.{needs}
-use lib.ListN.{length}
-use Rattle.theory_field.specs.Words.{words}
-use Rattle.theory_field.proofs.Words.{length-words}
-use Rattle.field_gf128.specs.Word.{word}
-use Rattle.field_runs.proofs.Doubling.{Doubling, doubling-start, doubling-step, doubling-end}
+use Rattle.field_runs.proofs.Chosen.{chosen}
 use Rattle.field_runs.proofs.eq_double.Statement.{statement}
 use Rattle.field_runs.proofs.eq_double.Tie as tie
 
-abbrev Inv-loop : tie.InvT-loop
-Inv-loop a₀ n z t by v₀ a v = (v ≤ n) × (length a ≡ length a₀) × Doubling n (word z) v (words a₀) (words a)
-
-abbrev μ-loop : tie.MeasureT-loop
-μ-loop a₀ n z t by v₀ a v = n - v
-
-prepare-requires : tie.Need-prepare-requires Inv-loop μ-loop
+prepare-requires : tie.Need-prepare-requires
 prepare-requires c κs = search needs
 
-loop-holds : tie.Need-loop-holds Inv-loop μ-loop
-loop-holds c =
-    let start : tie.Start Inv-loop μ-loop = search in
-    let a = start .args in
-    (omega arith, refl, doubling-start (a .n) (word (a .z)) (words (a .a .now)))
+enum-told : tie.Need-enum-told
+enum-told c = search needs
 
-double-entry-requires : tie.Need-double-entry-requires Inv-loop μ-loop
-double-entry-requires c κs =
-    let after-prepare : tie.After-prepare Inv-loop μ-loop = search in
-    let p = after-prepare .prepare in
-    (omega arith, omega arith, p .ensures)
+eq-double-by-requires : tie.Need-eq-double-by-requires
+eq-double-by-requires c κs =
+    let start : tie.Start = search in
+    let after-prepare : tie.After-prepare = search in
+    let nibbles : tie.After-enum-told = search in
+    (start .pre .0, chosen (nibbles .enum-told .given .1) (after-prepare .prepare .ensures))
 
-add-v : tie.Need-add-v Inv-loop μ-loop
-add-v c = omega arith
+enum-told-2 : tie.Need-enum-told-2
+enum-told-2 c = search needs
 
-loop-less : tie.Need-loop-less Inv-loop μ-loop
-loop-less c = omega arith
+eq-double-by-requires-2 : tie.Need-eq-double-by-requires-2
+eq-double-by-requires-2 c κs =
+    let start : tie.Start = search in
+    let after-prepare : tie.After-prepare = search in
+    let bytes : tie.After-enum-told2 = search in
+    (start .pre .0, chosen (bytes .enum-told2 .given .1) (after-prepare .prepare .ensures))
 
-loop-again : tie.Need-loop-again Inv-loop μ-loop
-loop-again c =
-    let start : tie.Start Inv-loop μ-loop = search in
-    let at-loop : tie.At-loop Inv-loop μ-loop = search in
-    let entry = c .before .before .double-entry in
-    let l = at-loop .loop in
-    let a = start .args in (
-      omega arith,
-      omega (arith, entry .kept .0),
-      rw (entry .ensures)
-          (doubling-step (a .n) (word (a .z)) (l .v) (words (a .a .now)) (words (l .a)) (omega arith) (omega (arith, length-words (l .a))) (l .inv .2)),
-    )
+same-length : tie.Need-same-length
+same-length c = search needs
 
-same-length : tie.Need-same-length Inv-loop μ-loop
-same-length c = omega arith
+same-length-2 : tie.Need-same-length-2
+same-length-2 c = search needs
 
-same-length-2 : tie.Need-same-length-2 Inv-loop μ-loop
-same-length-2 c = omega (arith, c .before .before .before .before .prepare .kept .0)
+returns : tie.Need-returns
+returns c = search needs
 
-returns : tie.Need-returns Inv-loop μ-loop
-returns c =
-    let start : tie.Start Inv-loop μ-loop = search in
-    let l = c .before .loop in
-    let a = start .args in
-    doubling-end (a .n) (word (a .z)) (words (a .a .now)) (words (l .a)) (omega (arith, length-words (a .a .now)))
-    (subst (λ v. Doubling (a .n) (word (a .z)) v (words (a .a .now)) (words (l .a))) (let z : l .v ≡ a .n = omega arith in z) (l .inv .2))
+same-length-3 : tie.Need-same-length-3
+same-length-3 c = search needs
+
+same-length-4 : tie.Need-same-length-4
+same-length-4 c = search needs
+
+returns-2 : tie.Need-returns-2
+returns-2 c = search needs
 
 pub eq-double-spec : {M : Type 1} → statement M
 eq-double-spec =
     tie.close
     (tie.spec
-    Inv-loop
-    μ-loop
     prepare-requires
-    loop-holds
-    double-entry-requires
-    add-v
-    loop-less
-    loop-again
+    enum-told
+    eq-double-by-requires
+    enum-told-2
+    eq-double-by-requires-2
     same-length
     same-length-2
-    returns)
+    returns
+    same-length-3
+    same-length-4
+    returns-2)

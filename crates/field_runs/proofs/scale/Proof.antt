@@ -1,94 +1,62 @@
--- `field_runs::scale` meets its contract. The loop's invariant: the first v words are multiplied.
-use mathlib.Core.Path.{_≡_, refl, sym, ap, _∙_}
-use Prim.Native.Nat.{ℕ, _-_, _≤_}
-use native.Mathlib.Omega.{arith}
+-- `field_runs::scale` meets its contract: the table is one for the windows of the kernel that was chosen.
 use borrow.Author.Needs.{needs}
-use lib.ListN.{length}
-use Rattle.theory_laws.proofs.Updates.{updated, updated-all, updated-read, updated-turn}
-use Rattle.theory_field.specs.Field.{_⊗_}
-use Rattle.theory_field.specs.Words.{words}
-use Rattle.theory_field.proofs.Words.{length-words}
-use Rattle.field_gf128.specs.Word.{word}
+use Rattle.field_runs.proofs.Chosen.{chosen}
 use Rattle.field_runs.proofs.scale.Statement.{statement}
 use Rattle.field_runs.proofs.scale.Tie as tie
-use Rattle.theory_laws.proofs.Table.{map-at}
 
-abbrev Inv-loop : tie.InvT-loop
-Inv-loop s₀ r t n by v₀ s v = (v ≤ n) × (length s ≡ length s₀) × (words s ≡ updated v (λ k x. word r ⊗ x) (words s₀))
-
-abbrev μ-loop : tie.MeasureT-loop
-μ-loop s₀ r t n by v₀ s v = n - v
-
-prepare-requires : tie.Need-prepare-requires Inv-loop μ-loop
+prepare-requires : tie.Need-prepare-requires
 prepare-requires c κs = search needs
 
-loop-holds : tie.Need-loop-holds Inv-loop μ-loop
-unfolding updated
-loop-holds c = (omega arith, refl, refl)
+enum-told : tie.Need-enum-told
+enum-told c = search needs
 
-get-requires : tie.Need-get-requires Inv-loop μ-loop
-get-requires c κs = omega arith
+scale-by-requires : tie.Need-scale-by-requires
+scale-by-requires c κs =
+    let start : tie.Start = search in
+    let after-prepare : tie.After-prepare = search in
+    let nibbles : tie.After-enum-told = search in
+    (start .pre .0, chosen (nibbles .enum-told .given .1) (after-prepare .prepare .ensures))
 
-times-requires : tie.Need-times-requires Inv-loop μ-loop
-times-requires c κs =
-    let after-prepare : tie.After-prepare Inv-loop μ-loop = search in
-    after-prepare .prepare .ensures
+enum-told-2 : tie.Need-enum-told-2
+enum-told-2 c = search needs
 
-put-requires : tie.Need-put-requires Inv-loop μ-loop
-put-requires c κs = omega arith
+scale-by-requires-2 : tie.Need-scale-by-requires-2
+scale-by-requires-2 c κs =
+    let start : tie.Start = search in
+    let after-prepare : tie.After-prepare = search in
+    let bytes : tie.After-enum-told2 = search in
+    (start .pre .0, chosen (bytes .enum-told2 .given .1) (after-prepare .prepare .ensures))
 
-add-v : tie.Need-add-v Inv-loop μ-loop
-add-v c = omega arith
+same-length : tie.Need-same-length
+same-length c = search needs
 
-loop-less : tie.Need-loop-less Inv-loop μ-loop
-loop-less c = omega arith
+same-length-2 : tie.Need-same-length-2
+same-length-2 c = search needs
 
-loop-again : tie.Need-loop-again Inv-loop μ-loop
-loop-again c =
-    let start : tie.Start Inv-loop μ-loop = search in
-    let after-get : tie.After-get Inv-loop μ-loop = search in
-    let at-loop = after-get .before .before .before in
-    let put = c .before .before .put in
-    let times = c .before .before .before .times in
-    let l = at-loop .loop in
-    let a = start .args in
-    let g : ℕ → ℕ → ℕ = λ k x. word (a .r) ⊗ x in (
-      omega arith,
-      omega (arith, put .kept .0),
-      put .ensures
-          ∙ updated-turn (l .v) g (words (a .s .now)) (words (l .s)) (word (times .result)) (l .inv .2)
-          (times .ensures ∙ ap (_⊗_ (word (a .r))) (after-get .get .ensures ∙ updated-read (l .v) g (words (a .s .now)) (words (l .s)) (l .inv .2))),
-    )
+returns : tie.Need-returns
+returns c = search needs
 
-same-length : tie.Need-same-length Inv-loop μ-loop
-same-length c = omega arith
+same-length-3 : tie.Need-same-length-3
+same-length-3 c = search needs
 
-same-length-2 : tie.Need-same-length-2 Inv-loop μ-loop
-same-length-2 c = omega (arith, c .before .before .before .before .prepare .kept .0)
+same-length-4 : tie.Need-same-length-4
+same-length-4 c = search needs
 
-returns : tie.Need-returns Inv-loop μ-loop
-returns c =
-    let start : tie.Start Inv-loop μ-loop = search in
-    let l = c .before .loop in
-    let a = start .args in
-    l .inv .2
-    ∙ updated-all (l .v) (λ k x. word (a .r) ⊗ x) (words (a .s .now)) (omega (arith, length-words (a .s .now)))
-    ∙ sym (map-at (_⊗_ (word (a .r))) (words (a .s .now)))
+returns-2 : tie.Need-returns-2
+returns-2 c = search needs
 
 pub scale-spec : {M : Type 1} → statement M
 scale-spec =
     tie.close
     (tie.spec
-    Inv-loop
-    μ-loop
     prepare-requires
-    loop-holds
-    get-requires
-    times-requires
-    put-requires
-    add-v
-    loop-less
-    loop-again
+    enum-told
+    scale-by-requires
+    enum-told-2
+    scale-by-requires-2
     same-length
     same-length-2
-    returns)
+    returns
+    same-length-3
+    same-length-4
+    returns-2)

@@ -1,15 +1,16 @@
 -- `test_record::run_lines` is safe and ends.
 use borrow.Author.Needs.{needs}
-use Prim.Native.Nat.{_≤_, _-_}
+use Prim.Native.Nat.{_-_}
+use mathlib.Core.Path.{_≡_}
 use lib.ListN.{length}
 use Rattle.test_record.proofs.run_lines.Statement.{statement}
 use Rattle.test_record.proofs.run_lines.Tie as tie
 
 abbrev Inv-loop : tie.InvT-loop
-Inv-loop file kept line₀ from₀ line from = 0 ≤ from
+Inv-loop file bytes₀ kept₀ line₀ from₀ bytes kept line from = (length bytes ≡ length bytes₀)
 
 abbrev μ-loop : tie.MeasureT-loop
-μ-loop file kept line₀ from₀ line from = length file - from
+μ-loop file bytes₀ kept₀ line₀ from₀ bytes kept line from = length file - from
 
 loop-holds : tie.Need-loop-holds Inv-loop μ-loop
 loop-holds c = search needs
@@ -17,8 +18,8 @@ loop-holds c = search needs
 piece-requires : tie.Need-piece-requires Inv-loop μ-loop
 piece-requires c κs = search needs
 
-is-request-requires : tie.Need-is-request-requires Inv-loop μ-loop
-is-request-requires c κs = search needs
+slice-aggregate-run : tie.Need-slice-aggregate-run Inv-loop μ-loop
+slice-aggregate-run c = search needs
 
 run-requires : tie.Need-run-requires Inv-loop μ-loop
 run-requires c κs = search needs
@@ -46,7 +47,7 @@ run-lines-spec =
     μ-loop
     loop-holds
     piece-requires
-    is-request-requires
+    slice-aggregate-run
     run-requires
     wrapping-add-usize-requires
     next-requires

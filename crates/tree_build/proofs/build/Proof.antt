@@ -4,7 +4,7 @@ use mathlib.Core.Path.{refl, sym, _∙_, ap}
 use Rattle.theory_laws.proofs.Questions.{yes-zero, no-zero, zero-said}
 use Rattle.tree_place.proofs.Yes.{build-yes}
 use Rattle.theory_merkle.proofs.Sizes.{tree-fits}
-use Rattle.tree_build.proofs.Built.{built}
+use Rattle.tree_build.proofs.Built.{all-groups, built}
 use native.Mathlib.Omega.{arith}
 use borrow.Author.Needs.{needs}
 use Rattle.tree_build.proofs.build.Statement.{statement}
@@ -16,18 +16,21 @@ build-number-requires c κs = search needs
 returns : tie.Need-returns
 returns c = (c .before .build-number .ensures, no-zero _ _ _ _ _ (c .before .build-number .ensures) (c .if1 .taken) refl)
 
-put-leaves-requires : tie.Need-put-leaves-requires
-put-leaves-requires c κs = build-yes _ _ _ _ _ _ (c .before .before .build-number .ensures) (c .before .if1 .left)
-
-depth-of-requires : tie.Need-depth-of-requires
-depth-of-requires c κs =
+div-groups : tie.Need-div-groups
+div-groups c =
     let else1 : tie.Else1 = search in
     let after-build-number = else1 .before in
     let y = build-yes _ _ _ _ _ _ (after-build-number .build-number .ensures) (else1 .if1 .left) in
     y .shaped .shape .filled
 
-div-put-levels : tie.Need-div-put-levels
-div-put-levels c =
+put-leaves-requires : tie.Need-put-leaves-requires
+put-leaves-requires c κs =
+    let else1 : tie.Else1 = search in
+    let after-build-number = else1 .before in
+    all-groups (build-yes _ _ _ _ _ _ (after-build-number .build-number .ensures) (else1 .if1 .left))
+
+depth-of-requires : tie.Need-depth-of-requires
+depth-of-requires c κs =
     let else1 : tie.Else1 = search in
     let after-build-number = else1 .before in
     let y = build-yes _ _ _ _ _ _ (after-build-number .build-number .ensures) (else1 .if1 .left) in
@@ -62,9 +65,9 @@ build-spec =
     (tie.spec
     build-number-requires
     returns
+    div-groups
     put-leaves-requires
     depth-of-requires
-    div-put-levels
     put-levels-requires
     same-length
     returns-2)

@@ -23,9 +23,9 @@ put-leaves-from-requires c κs =
     let after-put-leaves : tie.After-put-leaves = search in
     let y = start .pre in
     record {
-      yes = record { domain-le = y .domain-le; shaped = y .shaped; values-is = y .values-is; tree-is = omega (arith, y .tree-is) };
+      fit = record { domain-le = y .domain-le; shaped = y .shaped; within = y .within; values-are = y .values-are; room = omega (arith, y .room) };
       begun = byFours-le _ _ _ (after-put-leaves .put-leaves .ensures .0);
-      room = omega arith;
+      work = omega arith;
     }
 
 same-length : tie.Need-same-length
@@ -34,7 +34,7 @@ same-length c = search needs
 returns : tie.Need-returns
 returns c =
     let after-put-leaves : tie.After-put-leaves = search in
-    leaves-join _ _ _ _ _ _ _ _ (byFours-le _ _ _ (after-put-leaves .put-leaves .ensures .0)) (after-put-leaves .put-leaves .ensures .1)
+    leaves-join _ _ _ _ _ _ _ _ _ _ (byFours-le _ _ _ (after-put-leaves .put-leaves .ensures .0)) (after-put-leaves .put-leaves .ensures .1)
     (c .before .before .before .put-leaves-from .ensures)
 
 pub put-leaves-spec : {M : Type 1} → statement M

@@ -1,36 +1,33 @@
 -- `tree_build::put_leaves_from` meets its contract.
 -- The loop's invariant: storing the leaves of the groups that are left gives the final buffer, and the message's prefix is kept.
 use denote.Ref.{now}
-use Prim.Native.Nat.{_≤_, _-_, _*_}
+use Prim.Native.Nat.{_≤_, _-_, _+_, _*_}
 use mathlib.Core.Path.{_≡_, refl, _∙_}
+use native.Mathlib.Nat.{mul-le-mul-left}
 use lib.ListN.{length, take, drop}
 use Rattle.theory_laws.specs.Lists.{runs, flat, stored}
 use Rattle.theory_field.specs.Words.{words}
 use Rattle.theory_blake3.specs.Digest.{hash}
 use Rattle.theory_merkle.specs.Message.{leafPrefix}
 use Rattle.theory_merkle.specs.Tree.{leavesFrom}
-use Rattle.theory_merkle.proofs.Sizes.{group-room}
 use Rattle.tree_digest.proofs.Messages.{prefix-is}
 use Rattle.tree_four_messages.proofs.Values.{group-length, next-group}
-use Rattle.tree_by_fours.proofs.Leaves.{groups-room, leaves-end}
-use Rattle.tree_build.proofs.Leaves.{leaves-step}
+use Rattle.tree_by_fours.proofs.Leaves.{leaves-end}
+use Rattle.tree_build.proofs.Leaves.{groups-room, group-within, leaves-step}
 use borrow.Author.Needs.{needs}
 use native.Mathlib.Omega.{arith}
 use Rattle.tree_build.proofs.put_leaves_from.Statement.{statement}
 use Rattle.tree_build.proofs.put_leaves_from.Tie as tie
 
 abbrev Inv-loop : tie.InvT-loop
-Inv-loop tree₀ message₀ domain count width first values groups prefix from₀ to₀ g₀ tree message from to g =
-    (g ≤ groups) × (from ≡ 2 * (width * g)) × (to ≡ 32 * g) × (length tree ≡ length tree₀) × (length message ≡ length message₀)
+Inv-loop out₀ message₀ domain count width first groups done values prefix from₀ to₀ g₀ out message from to g =
+    (g ≤ groups) × (from ≡ 2 * (width * g)) × (to ≡ 32 * g) × (length out ≡ length out₀) × (length message ≡ length message₀)
     × (take prefix message ≡ leafPrefix domain count width)
-    × (stored tree to (flat (leavesFrom hash domain count width g (runs width (groups - g) (drop (width * g) (words values)))))
-    ≡ stored tree₀ to₀ (flat (leavesFrom hash domain count width first (runs width (groups - first) (drop (width * first) (words values))))))
+    × (stored out to (flat (leavesFrom hash domain count width (first + g) (runs width (groups - g) (drop (width * g) (words values)))))
+    ≡ stored out₀ to₀ (flat (leavesFrom hash domain count width (first + done) (runs width (groups - done) (drop (width * done) (words values))))))
 
 abbrev μ-loop : tie.MeasureT-loop
-μ-loop tree₀ message₀ domain count width first values groups prefix from₀ to₀ g₀ tree message from to g = groups - g
-
-div-groups : tie.Need-div-groups Inv-loop μ-loop
-div-groups c = search needs
+μ-loop out₀ message₀ domain count width first groups done values prefix from₀ to₀ g₀ out message from to g = groups - g
 
 leaf-prefix-requires : tie.Need-leaf-prefix-requires Inv-loop μ-loop
 leaf-prefix-requires c κs = search needs
@@ -38,12 +35,12 @@ leaf-prefix-requires c κs = search needs
 mul-from : tie.Need-mul-from Inv-loop μ-loop
 mul-from c =
     let start : tie.Start Inv-loop μ-loop = search in
-    omega (arith, groups-room _ _ _ (start .pre .yes .shaped .shape) (start .pre .begun))
+    omega (arith, start .pre .fit .values-are, mul-le-mul-left (start .args .width) (start .pre .begun))
 
 mul-from-2 : tie.Need-mul-from-2 Inv-loop μ-loop
 mul-from-2 c =
     let start : tie.Start Inv-loop μ-loop = search in
-    omega (arith, groups-room _ _ _ (start .pre .yes .shaped .shape) (start .pre .begun))
+    omega (arith, start .pre .fit .values-are, mul-le-mul-left (start .args .width) (start .pre .begun))
 
 mul-to : tie.Need-mul-to Inv-loop μ-loop
 mul-to c = search needs
@@ -57,7 +54,12 @@ mul-end c = search needs
 add-end : tie.Need-add-end Inv-loop μ-loop
 add-end c =
     let start : tie.Start Inv-loop μ-loop = search in
-    omega (arith, group-room _ _ _ (start .pre .yes .shaped .shape) (c .loop-test .taken))
+    omega (arith, start .pre .fit .values-are, group-within (start .args .groups) (start .args .width) (c .before .loop .g) (c .loop-test .taken))
+
+add-numbered : tie.Need-add-numbered Inv-loop μ-loop
+add-numbered c =
+    let start : tie.Start Inv-loop μ-loop = search in
+    omega (arith, start .pre .fit .within, start .pre .fit .shaped .groups-le)
 
 numbered-requires : tie.Need-numbered-requires Inv-loop μ-loop
 numbered-requires c κs = search needs
@@ -66,7 +68,15 @@ mul-hash-group : tie.Need-mul-hash-group Inv-loop μ-loop
 mul-hash-group c =
     let start : tie.Start Inv-loop μ-loop = search in
     let in-loop : tie.In-loop Inv-loop μ-loop = search in
-    omega (arith, group-room _ _ _ (start .pre .yes .shaped .shape) (in-loop .loop-test .taken))
+    let a = start .args in
+    let f = start .pre .fit in
+    omega (
+      arith,
+      f .values-are,
+      f .shaped .count-le,
+      groups-room (a .count) (a .width) (a .groups) (f .shaped .shape) (omega (arith, f .within)),
+      group-within (a .groups) (a .width) (in-loop .before .loop .g) (in-loop .loop-test .taken),
+    )
 
 sub-hash-group : tie.Need-sub-hash-group Inv-loop μ-loop
 sub-hash-group c = search needs
@@ -78,7 +88,12 @@ part-hash-group-end : tie.Need-part-hash-group-end Inv-loop μ-loop
 part-hash-group-end c =
     let start : tie.Start Inv-loop μ-loop = search in
     let in-loop : tie.In-loop Inv-loop μ-loop = search in
-    omega (arith, group-room _ _ _ (start .pre .yes .shaped .shape) (in-loop .loop-test .taken))
+    let at-loop = in-loop .before in
+    omega (
+      arith,
+      start .pre .fit .values-are,
+      group-within (start .args .groups) (start .args .width) (at-loop .loop .g) (in-loop .loop-test .taken),
+    )
 
 hash-group-requires : tie.Need-hash-group-requires Inv-loop μ-loop
 hash-group-requires c κs =
@@ -86,7 +101,11 @@ hash-group-requires c κs =
     let in-loop : tie.In-loop Inv-loop μ-loop = search in
     let a = start .args in (
       group-length (now (a .values)) (in-loop .before .loop .from) (2 * a .width)
-          (omega (arith, group-room _ _ _ (start .pre .yes .shaped .shape) (in-loop .loop-test .taken))),
+          (omega (
+            arith,
+            start .pre .fit .values-are,
+            group-within (a .groups) (a .width) (in-loop .before .loop .g) (in-loop .loop-test .taken),
+          )),
       omega arith,
       omega arith,
     )
@@ -97,7 +116,7 @@ slice-aggregate-put c = search needs
 put-requires : tie.Need-put-requires Inv-loop μ-loop
 put-requires c κs =
     let start : tie.Start Inv-loop μ-loop = search in
-    omega (arith, start .pre .yes .tree-is)
+    omega (arith, start .pre .fit .room)
 
 add-g : tie.Need-add-g Inv-loop μ-loop
 add-g c = search needs
@@ -119,7 +138,7 @@ loop-again c =
       search needs,
       search needs,
       (h .kept) ∙ (q .inv .5),
-      leaves-step _ _ _ _ _ _ (in-loop .loop-test .taken) (q .inv .1) (q .inv .5) (rw (after-numbered .numbered .ensures) at h) p (q .inv .6),
+      leaves-step _ _ _ _ _ _ _ (in-loop .loop-test .taken) (q .inv .1) (q .inv .5) (rw (after-numbered .numbered .ensures) at h) p (q .inv .6),
     )
 
 same-length : tie.Need-same-length Inv-loop μ-loop
@@ -129,7 +148,7 @@ same-length-2 : tie.Need-same-length-2 Inv-loop μ-loop
 same-length-2 c = search needs
 
 returns : tie.Need-returns Inv-loop μ-loop
-returns c = leaves-end _ _ _ _ _ _ _ _ _ (c .loop-test .left) (c .before .loop .inv .6)
+returns c = leaves-end _ _ _ _ _ _ _ _ _ _ (c .loop-test .left) (c .before .loop .inv .6)
 
 pub put-leaves-from-spec : {M : Type 1} → statement M
 put-leaves-from-spec =
@@ -137,7 +156,6 @@ put-leaves-from-spec =
     (tie.spec
     Inv-loop
     μ-loop
-    div-groups
     leaf-prefix-requires
     mul-from
     mul-from-2
@@ -145,6 +163,7 @@ put-leaves-from-spec =
     loop-holds
     mul-end
     add-end
+    add-numbered
     numbered-requires
     mul-hash-group
     sub-hash-group

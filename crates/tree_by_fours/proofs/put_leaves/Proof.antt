@@ -19,24 +19,24 @@ use Rattle.tree_by_fours.proofs.put_leaves.Statement.{statement}
 use Rattle.tree_by_fours.proofs.put_leaves.Tie as tie
 
 abbrev Inv-loop : tie.InvT-loop
-Inv-loop tree₀ messages₀ domain count width values all prefix h blocks size from₀ to₀ g₀ tree messages from to g =
+Inv-loop out₀ messages₀ domain count width first groups values all prefix h blocks size from₀ to₀ g₀ out messages from to g =
     (from ≡ 2 * (width * g)) × (to ≡ 32 * g)
-    × Walk (leafPrefix domain count width) h prefix (24 + 16 * width) all (count / width) g tree₀ messages₀ tree messages
-    × (stored tree to (flat (leavesFrom hash domain count width g (runs width (all - g) (drop (width * g) (words values)))))
-    ≡ stored tree₀ 0 (flat (leavesFrom hash domain count width 0 (runs width all (words values)))))
+    × Walk (leafPrefix domain count width) h prefix (24 + 16 * width) all groups g out₀ messages₀ out messages
+    × (stored out to (flat (leavesFrom hash domain count width (first + g) (runs width (all - g) (drop (width * g) (words values)))))
+    ≡ stored out₀ 0 (flat (leavesFrom hash domain count width first (runs width all (words values)))))
 
 abbrev μ-loop : tie.MeasureT-loop
-μ-loop tree₀ messages₀ domain count width values all prefix h blocks size from₀ to₀ g₀ tree messages from to g = all - g
+μ-loop out₀ messages₀ domain count width first groups values all prefix h blocks size from₀ to₀ g₀ out messages from to g = all - g
 
 -- where the function began, seen from a turn
 abbrev start-of : tie.In-loop Inv-loop μ-loop → tie.Start Inv-loop μ-loop
 start-of c = search
 
 -- the four groups of a turn are within the values
-four-fit : (c : tie.In-loop Inv-loop μ-loop) → let a = start-of c .args in a .width * c .before .loop .g + 4 * a .width ≤ a .count
+four-fit : (c : tie.In-loop Inv-loop μ-loop) → let a = start-of c .args in a .width * c .before .loop .g + 4 * a .width ≤ a .width * a .groups
 four-fit c =
     let walk = c .before .loop .inv .2 in
-    four-room _ _ _ (start-of c .pre .0 .shaped .shape) (omega (arith, four-left walk (c .loop-test .taken), walk .begun .within))
+    four-room _ _ _ (omega (arith, four-left walk (c .loop-test .taken), walk .begun .within))
 
 add-by-fours : tie.Need-add-by-fours Inv-loop μ-loop
 add-by-fours c = search needs
@@ -47,14 +47,11 @@ mul-by-fours c = search needs
 add-by-fours-2 : tie.Need-add-by-fours-2 Inv-loop μ-loop
 add-by-fours-2 c = search needs
 
-div-by-fours : tie.Need-div-by-fours Inv-loop μ-loop
-div-by-fours c = search needs
-
 by-fours-requires : tie.Need-by-fours-requires Inv-loop μ-loop
 by-fours-requires c κs = search needs
 
 returns : tie.Need-returns Inv-loop μ-loop
-returns c = (sym (c .if1 .taken) ∙ c .before .by-fours .ensures, leaves-none _ _ _ _ _)
+returns c = (sym (c .if1 .taken) ∙ c .before .by-fours .ensures, leaves-none _ _ _ _ _ _)
 
 slice-aggregate-leaf-prefix : tie.Need-slice-aggregate-leaf-prefix Inv-loop μ-loop
 slice-aggregate-leaf-prefix c = search needs
@@ -90,7 +87,7 @@ loop-holds c =
       search needs,
       walk-begin _ _ _ _ _ _ _ _ _ _ _ _ p (omega arith) (after-begin .begin .ensures .0) (after-begin .begin .ensures .1)
           (after-by-fours .by-fours .ensures) (omega (arith, p .end)),
-      leaves-begin _ _ _ _ _ _,
+      leaves-begin _ _ _ _ _ _ _,
     )
 
 mul-end : tie.Need-mul-end Inv-loop μ-loop
@@ -98,6 +95,12 @@ mul-end c = search needs
 
 add-end : tie.Need-add-end Inv-loop μ-loop
 add-end c = omega (arith, four-fit c)
+
+add-numbered : tie.Need-add-numbered Inv-loop μ-loop
+add-numbered c =
+    let start : tie.Start Inv-loop μ-loop = search in
+    let at-loop : tie.At-loop Inv-loop μ-loop = search in
+    omega (arith, at-loop .loop .inv .2 .begun .within, start .pre .0 .within, start .pre .0 .shaped .groups-le)
 
 numbered-requires : tie.Need-numbered-requires Inv-loop μ-loop
 numbered-requires c κs = search needs
@@ -124,11 +127,17 @@ put-leaf-rests-requires c κs =
     let a = start .args in
     let y = start .pre .0 in
     record {
-      halves = group-length (now (a .values)) (q .from) (8 * a .width) (omega (arith, four-fit in-loop, y .values-is, q .inv .0));
+      halves = group-length (now (a .values)) (q .from) (8 * a .width) (omega (arith, four-fit in-loop, y .values-are, q .inv .0));
       chunk = walk .begun .fits (omega arith);
       strides = omega arith;
-      numbers =
-          omega (arith, after-numbered .numbered .ensures, four-left walk (in-loop .loop-test .taken), walk .begun .within, y .shaped .groups-le);
+      numbers = omega (
+        arith,
+        after-numbered .numbered .ensures,
+        four-left walk (in-loop .loop-test .taken),
+        walk .begun .within,
+        y .within,
+        y .shaped .groups-le,
+      );
     }
 
 put-digests-requires : tie.Need-put-digests-requires Inv-loop μ-loop
@@ -139,14 +148,14 @@ put-digests-requires c κs =
     let walk = in-loop .before .loop .inv .2 in
     let more = in-loop .loop-test .taken in (
       walk-common walk more _ _ (after-put-leaf-rests .put-leaf-rests .ensures) (omega arith) (omega (arith, walk .strides-long, start .pre .1)),
-      omega (arith, in-loop .before .loop .inv .1, four-left walk more, walk .begun .within, walk .tree-long, start .pre .0 .tree-is),
+      omega (arith, in-loop .before .loop .inv .1, four-left walk more, walk .begun .within, walk .tree-long, start .pre .0 .room),
     )
 
 add-g : tie.Need-add-g Inv-loop μ-loop
 add-g c =
     let start : tie.Start Inv-loop μ-loop = search in
     let at-loop : tie.At-loop Inv-loop μ-loop = search in
-    omega (arith, at-loop .loop .inv .2 .begun .within, start .pre .0 .shaped .groups-le)
+    omega (arith, at-loop .loop .inv .2 .begun .within, start .pre .0 .within, start .pre .0 .shaped .groups-le)
 
 loop-less : tie.Need-loop-less Inv-loop μ-loop
 loop-less c = search needs
@@ -164,7 +173,7 @@ loop-again c =
       omega arith,
       omega (arith, p .end),
       walk-turn walk more _ _ f _ (search needs) (search needs),
-      leaves-turn _ _ _ _ _ _ (inv .0) _ _ _ (walk .begun .sized) (walk .prefixes) f _ _ _ _ _ _ (four-left walk more) p (inv .3),
+      leaves-turn _ _ _ _ _ _ _ (inv .0) _ _ _ (walk .begun .sized) (walk .prefixes) f _ _ _ _ _ _ (four-left walk more) p (inv .3),
     )
 
 same-length : tie.Need-same-length Inv-loop μ-loop
@@ -176,7 +185,7 @@ same-length-2 c = search needs
 returns-2 : tie.Need-returns-2 Inv-loop μ-loop
 returns-2 c =
     let after-by-fours : tie.After-by-fours Inv-loop μ-loop = search in
-    (after-by-fours .by-fours .ensures, leaves-end _ _ _ _ _ _ _ _ _ (c .loop-test .left) (c .before .loop .inv .3))
+    (after-by-fours .by-fours .ensures, leaves-end _ _ _ _ _ _ _ _ _ _ (c .loop-test .left) (c .before .loop .inv .3))
 
 pub put-leaves-spec : {M : Type 1} → statement M
 put-leaves-spec =
@@ -187,7 +196,6 @@ put-leaves-spec =
     add-by-fours
     mul-by-fours
     add-by-fours-2
-    div-by-fours
     by-fours-requires
     returns
     slice-aggregate-leaf-prefix
@@ -201,6 +209,7 @@ put-leaves-spec =
     loop-holds
     mul-end
     add-end
+    add-numbered
     numbered-requires
     mul-put-leaf-rests
     sub-put-leaf-rests

@@ -1,30 +1,31 @@
 -- `test_lines::bytes::put_halves` is safe and ends.
 use borrow.Author.Needs.{needs}
+use Prim.Native.Nat.{_-_}
 use mathlib.Core.Path.{_≡_}
 use lib.ListN.{length}
 use Rattle.test_lines.proofs.bytes.put_halves.Statement.{statement}
 use Rattle.test_lines.proofs.bytes.put_halves.Tie as tie
 
 abbrev Inv-loop : tie.InvT-loop
-Inv-loop out₀ at s end₀ place₀ left₀ out end place left = (length out ≡ length out₀)
+Inv-loop out₀ at s end₀ i₀ out end i = length out ≡ length out₀
 
 abbrev μ-loop : tie.MeasureT-loop
-μ-loop out₀ at s end₀ place₀ left₀ out end place left = left
+μ-loop out₀ at s end₀ i₀ out end i = length s - i
 
 loop-holds : tie.Need-loop-holds Inv-loop μ-loop
 loop-holds c = search needs
 
-half-at-requires : tie.Need-half-at-requires Inv-loop μ-loop
-half-at-requires c κs = search needs
+mul-put-number : tie.Need-mul-put-number Inv-loop μ-loop
+mul-put-number c = search needs
 
-put-half-requires : tie.Need-put-half-requires Inv-loop μ-loop
-put-half-requires c κs = search needs
+shared-slice-read-put-number : tie.Need-shared-slice-read-put-number Inv-loop μ-loop
+shared-slice-read-put-number c = search needs
 
-wrapping-add-usize-requires : tie.Need-wrapping-add-usize-requires Inv-loop μ-loop
-wrapping-add-usize-requires c κs = search needs
+put-number-requires : tie.Need-put-number-requires Inv-loop μ-loop
+put-number-requires c κs = search needs
 
-sub-left : tie.Need-sub-left Inv-loop μ-loop
-sub-left c = search needs
+add-i : tie.Need-add-i Inv-loop μ-loop
+add-i c = search needs
 
 loop-less : tie.Need-loop-less Inv-loop μ-loop
 loop-less c = search needs
@@ -45,10 +46,10 @@ put-halves-spec =
     Inv-loop
     μ-loop
     loop-holds
-    half-at-requires
-    put-half-requires
-    wrapping-add-usize-requires
-    sub-left
+    mul-put-number
+    shared-slice-read-put-number
+    put-number-requires
+    add-i
     loop-less
     loop-again
     same-length

@@ -7,10 +7,10 @@ use Rattle.test_lines.proofs.pieces.put_argument.Statement.{statement}
 use Rattle.test_lines.proofs.pieces.put_argument.Tie as tie
 
 abbrev Inv-loop : tie.InvT-loop
-Inv-loop s words store out₀ at end₀ from₀ out end from = (length out ≡ length out₀)
+Inv-loop letter s bytes₀ words₀ at end₀ from₀ bytes words end from = (length bytes ≡ length bytes₀) × (length words ≡ length words₀)
 
 abbrev μ-loop : tie.MeasureT-loop
-μ-loop s words store out₀ at end₀ from₀ out end from = length s - from
+μ-loop letter s bytes₀ words₀ at end₀ from₀ bytes words end from = length s - from
 
 loop-holds : tie.Need-loop-holds Inv-loop μ-loop
 loop-holds c = search needs
@@ -33,6 +33,9 @@ loop-again c = search needs
 same-length : tie.Need-same-length Inv-loop μ-loop
 same-length c = search needs
 
+same-length-2 : tie.Need-same-length-2 Inv-loop μ-loop
+same-length-2 c = search needs
+
 returns : tie.Need-returns Inv-loop μ-loop
 returns c = search needs
 
@@ -49,4 +52,5 @@ put-argument-spec =
     loop-less
     loop-again
     same-length
+    same-length-2
     returns)

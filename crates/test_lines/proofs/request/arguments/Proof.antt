@@ -7,16 +7,16 @@ use Rattle.test_lines.proofs.request.arguments.Statement.{statement}
 use Rattle.test_lines.proofs.request.arguments.Tie as tie
 
 abbrev Inv-loop : tie.InvT-loop
-Inv-loop letters s from store bytes₀ words₀ place₀ at₀ bytes words place at = (length bytes ≡ length bytes₀) × (length words ≡ length words₀)
+Inv-loop letters s from bytes₀ words₀ place₀ at₀ bytes words place at = (length bytes ≡ length bytes₀) × (length words ≡ length words₀)
 
 abbrev μ-loop : tie.MeasureT-loop
-μ-loop letters s from store bytes₀ words₀ place₀ at₀ bytes words place at = length letters - at
+μ-loop letters s from bytes₀ words₀ place₀ at₀ bytes words place at = length letters - at
 
 loop-holds : tie.Need-loop-holds Inv-loop μ-loop
 loop-holds c = search needs
 
-byte-at-requires : tie.Need-byte-at-requires Inv-loop μ-loop
-byte-at-requires c κs = search needs
+shared-slice-read-letter : tie.Need-shared-slice-read-letter Inv-loop μ-loop
+shared-slice-read-letter c = search needs
 
 piece-requires : tie.Need-piece-requires Inv-loop μ-loop
 piece-requires c κs = search needs
@@ -30,11 +30,11 @@ row-of-requires c κs = search needs
 push-requires : tie.Need-push-requires Inv-loop μ-loop
 push-requires c κs = search needs
 
+find-requires : tie.Need-find-requires Inv-loop μ-loop
+find-requires c κs = search needs
+
 wrapping-add-usize-requires : tie.Need-wrapping-add-usize-requires Inv-loop μ-loop
 wrapping-add-usize-requires c κs = search needs
-
-wrapping-add-usize-requires-2 : tie.Need-wrapping-add-usize-requires-2 Inv-loop μ-loop
-wrapping-add-usize-requires-2 c κs = search needs
 
 add-at : tie.Need-add-at Inv-loop μ-loop
 add-at c = search needs
@@ -61,13 +61,13 @@ arguments-spec =
     Inv-loop
     μ-loop
     loop-holds
-    byte-at-requires
+    shared-slice-read-letter
     piece-requires
     value-requires
     row-of-requires
     push-requires
+    find-requires
     wrapping-add-usize-requires
-    wrapping-add-usize-requires-2
     add-at
     loop-less
     loop-again

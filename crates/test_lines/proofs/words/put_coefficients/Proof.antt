@@ -7,10 +7,10 @@ use Rattle.test_lines.proofs.words.put_coefficients.Statement.{statemen
 use Rattle.test_lines.proofs.words.put_coefficients.Tie as tie
 
 abbrev Inv-loop : tie.InvT-loop
-Inv-loop out₀ c end₀ b₀ out end b = (length out ≡ length out₀)
+Inv-loop out₀ c b₀ out b = length out ≡ length out₀
 
 abbrev μ-loop : tie.MeasureT-loop
-μ-loop out₀ c end₀ b₀ out end b = 128 - b
+μ-loop out₀ c b₀ out b = 128 - b
 
 loop-holds : tie.Need-loop-holds Inv-loop μ-loop
 loop-holds c = search needs
@@ -21,11 +21,11 @@ mul-w c = search needs
 array-copy-out-w : tie.Need-array-copy-out-w Inv-loop μ-loop
 array-copy-out-w c = search needs
 
-put-half-requires : tie.Need-put-half-requires Inv-loop μ-loop
-put-half-requires c κs = search needs
+mul-put : tie.Need-mul-put Inv-loop μ-loop
+mul-put c = search needs
 
-put-half-requires-2 : tie.Need-put-half-requires-2 Inv-loop μ-loop
-put-half-requires-2 c κs = search needs
+put-requires : tie.Need-put-requires Inv-loop μ-loop
+put-requires c κs = search needs
 
 add-b : tie.Need-add-b Inv-loop μ-loop
 add-b c = search needs
@@ -51,8 +51,8 @@ put-coefficients-spec =
     loop-holds
     mul-w
     array-copy-out-w
-    put-half-requires
-    put-half-requires-2
+    mul-put
+    put-requires
     add-b
     loop-less
     loop-again

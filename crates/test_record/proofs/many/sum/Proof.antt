@@ -1,13 +1,12 @@
 -- `test_record::many::sum` is safe and ends.
-use Prim.Native.Nat.{_-_}
-use mathlib.Core.Path.{_≡_}
-use lib.ListN.{length}
 use borrow.Author.Needs.{needs}
+use Prim.Native.Nat.{_≤_, _-_}
+use lib.ListN.{length}
 use Rattle.test_record.proofs.many.sum.Statement.{statement}
 use Rattle.test_record.proofs.many.sum.Tie as tie
 
 abbrev Inv-loop : tie.InvT-loop
-Inv-loop tally total₀ i₀ total i = length tally ≡ length tally
+Inv-loop tally total₀ i₀ total i = 0 ≤ i
 
 abbrev μ-loop : tie.MeasureT-loop
 μ-loop tally total₀ i₀ total i = length tally - i
@@ -15,8 +14,11 @@ abbrev μ-loop : tie.MeasureT-loop
 loop-holds : tie.Need-loop-holds Inv-loop μ-loop
 loop-holds c = search needs
 
-half-in-requires : tie.Need-half-in-requires Inv-loop μ-loop
-half-in-requires c κs = search needs
+mul-wrapping-add-u64 : tie.Need-mul-wrapping-add-u64 Inv-loop μ-loop
+mul-wrapping-add-u64 c = search needs
+
+shared-slice-read-wrapping-add-u64 : tie.Need-shared-slice-read-wrapping-add-u64 Inv-loop μ-loop
+shared-slice-read-wrapping-add-u64 c = search needs
 
 wrapping-add-u64-requires : tie.Need-wrapping-add-u64-requires Inv-loop μ-loop
 wrapping-add-u64-requires c κs = search needs
@@ -40,7 +42,8 @@ sum-spec =
     Inv-loop
     μ-loop
     loop-holds
-    half-in-requires
+    mul-wrapping-add-u64
+    shared-slice-read-wrapping-add-u64
     wrapping-add-u64-requires
     add-i
     loop-less

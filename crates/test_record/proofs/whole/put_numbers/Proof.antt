@@ -5,9 +5,6 @@ use mathlib.Core.Path.{_≡_}
 use lib.ListN.{length}
 use Rattle.test_record.proofs.whole.put_numbers.Statement.{statement}
 use Rattle.test_record.proofs.whole.put_numbers.Tie as tie
-use Rattle.test_record.proofs.whole.put_numbers.Reads as reads
-use Rattle.test_record.proofs.whole.put_numbers.Lts as lts
-use Rattle.test_lines.proofs.bytes.half_in.Reads as half-in-reads
 
 abbrev Inv-loop : tie.InvT-loop
 Inv-loop out₀ a i₀ out i = (length out ≡ length out₀)
@@ -18,8 +15,8 @@ abbrev μ-loop : tie.MeasureT-loop
 loop-holds : tie.Need-loop-holds Inv-loop μ-loop
 loop-holds c = search needs
 
-half-in-requires : tie.Need-half-in-requires Inv-loop μ-loop
-half-in-requires c κs = search needs
+number-requires : tie.Need-number-requires Inv-loop μ-loop
+number-requires c κs = search needs
 
 mul-out : tie.Need-mul-out Inv-loop μ-loop
 mul-out c = search needs
@@ -49,7 +46,7 @@ put-numbers-spec =
     Inv-loop
     μ-loop
     loop-holds
-    half-in-requires
+    number-requires
     mul-out
     slice-write-out
     add-i

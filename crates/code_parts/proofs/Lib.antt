@@ -1,0 +1,4 @@
+pub mod Lengths
+pub mod Block
+pub mod FoldPart
+pub mod Joined

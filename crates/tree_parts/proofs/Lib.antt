@@ -1,0 +1,3 @@
+pub mod LeavesPart
+pub mod SomeParents
+pub mod Joined
