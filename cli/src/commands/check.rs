@@ -19,8 +19,9 @@ use crate::writing::{make, may_be_made};
 use dequmlo::{QueryRecord, Root, Statement, Word};
 use std::path::PathBuf;
 
-pub const TAKEN: [&str; 15] = [
+pub const TAKEN: [&str; 16] = [
     "--seal",
+    "--older",
     "--file",
     "--part",
     "--offset",
@@ -110,6 +111,7 @@ impl Examined {
     fn refused(seal: &Seal, item: Item, sentence: String) -> Examined {
         let mut found = Found::default();
         found.declined(item, sentence);
+        found.notes.extend(seal.notes.iter().cloned());
         Examined {
             found,
             positions: Vec::new(),

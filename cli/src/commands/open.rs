@@ -18,8 +18,9 @@ use crate::writing::{beside, Target};
 use dequmlo::{Deposit, Refusal, Word};
 use std::path::Path;
 
-pub const TAKEN: [&str; 13] = [
+pub const TAKEN: [&str; 14] = [
     "--seal",
+    "--older",
     "--file",
     "--part",
     "--offset",
@@ -63,7 +64,7 @@ pub fn run(options: &Options) -> Result<Outcome, Failure> {
         Ok(table) => table,
         Err(sentence) => return Ok(Outcome::declined(sentence)),
     };
-    let not_the_file = || Ok(Outcome::declined(another_file(&path)));
+    let not_the_file = || Ok(Outcome::declined(another_file(&path)).notes(seal.notes.clone()));
     if table.len() != seal.sizes.table_words {
         return not_the_file();
     }

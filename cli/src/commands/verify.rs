@@ -14,13 +14,13 @@ use dequmlo::{Deposit, Word};
 use std::collections::BTreeMap;
 use std::path::Path;
 
-pub const TAKEN: [&str; 3] = ["--seal", "--opening", "--json"];
+pub const TAKEN: [&str; 4] = ["--seal", "--older", "--opening", "--json"];
 
 pub fn run(options: &Options) -> Result<Outcome, Failure> {
     options.expect(1, "one FILE or FOLDER", &TAKEN)?;
     let file = &options.operands[0];
     let folder = options.needed_path("--seal", SEAL_FOLDER)?;
-    let seal = Seal::read(&folder)?;
+    let seal = Seal::read(&folder, options.has("--older"))?;
     if file.is_dir() {
         if options.given("--opening") {
             return Err(Failure("--opening goes with a file; of a project, the seal's own manifest says what changed".into()));
