@@ -23,6 +23,11 @@ pub struct Parameters {
 
 impl Parameters {
     /// The names that [`Parameters::named`] knows.
+    ///
+    /// ```
+    /// use dequmlo::Parameters;
+    /// assert!(Parameters::NAMES.iter().all(|name| Parameters::named(name).is_some()));
+    /// ```
     pub const NAMES: [&'static str; 6] = [
         "default",
         "fastchunk",

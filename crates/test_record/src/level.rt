@@ -1,4 +1,5 @@
-// Levels, profiles, committing and the last level: eval.rs, and docs/SPECIFICATION.md's `tail-list`.
+// Levels, profiles and the parameters of seals, committing and the last level: eval.rs, and docs/SPECIFICATION.md's `tail-list`.
+use code_profile::Named;
 use code_profile::Parameters;
 use code_profile::Profile;
 use test_lines::answer::Answer;
@@ -34,20 +35,27 @@ fn level_domain(n: usize, s: &[u8], y: &mut [u8]) -> Answer {
     length(end)
 }
 
-// The default, or one of the four profiles.
-fn parameters(profile: usize) -> Parameters {
-    match profile {
-        1 => code_profile::parameters_of(Profile::FastChunk),
-        2 => code_profile::parameters_of(Profile::Balanced),
-        3 => code_profile::parameters_of(Profile::CompactWrap),
-        4 => code_profile::parameters_of(Profile::DeepWrap),
-        _ => code_profile::default_parameters(),
+// A profile by its number, 0 being the Rust's default.
+fn profile(number: usize) -> Profile {
+    match number {
+        1 => Profile::FastChunk,
+        2 => Profile::Balanced,
+        3 => Profile::CompactWrap,
+        4 => Profile::DeepWrap,
+        _ => Profile::FirstDefault,
     }
 }
 
+// What a seal names: a profile by its number, or, as number 5, none.
+fn named(number: usize) -> Named {
+    if number == 5 {
+        return Named::No;
+    }
+    Named::Yes(profile(number))
+}
+
 // k, the query count, the domain's length, and the domain with zeros after it.
-fn profile(n: usize, y: &mut [u8]) -> Answer {
-    let p = parameters(n);
+fn parameters(p: Parameters, y: &mut [u8]) -> Answer {
     let domain = p.domain;
     put_part(y, 0, &domain, 0, 24);
     Answer {
@@ -66,11 +74,13 @@ fn tails(s: &[u8], w: &mut [u64]) -> Answer {
     three(r.number, r.n, r.k)
 }
 
-pub fn answer(place: usize, n: usize, s: &[u8], y: &mut [u8]) -> Answer {
+pub fn answer(place: usize, n: Numbers, s: &[u8], y: &mut [u8]) -> Answer {
     match place {
-        0 => length(code_level::fold_tree_width(n)),
-        1 => level_domain(n, s, y),
-        2 => profile(n, y),
+        0 => length(code_level::fold_tree_width(n.0)),
+        1 => level_domain(n.0, s, y),
+        2 => parameters(code_profile::parameters_of(profile(n.0)), y),
+        3 => parameters(code_profile::seal_parameters(named(n.0), n.1 != 0), y),
+        4 => parameters(code_profile::writer_parameters(named(n.0)), y),
         _ => no_room(),
     }
 }

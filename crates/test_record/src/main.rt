@@ -33,10 +33,9 @@ use test_lines::request::words_in;
 
 fn on_levels(line: usize, place: usize, bytes: &[u8], words: &[u64]) {
     let mut y = [0xa5u8; 1024];
-    let n = numbers_in(words);
     let a = level::answer(
         place,
-        n.0,
+        numbers_in(words),
         bytes_in(words, bytes, 0),
         first(&mut y, item(words, OUT_BYTES, 0)),
     );
@@ -174,8 +173,8 @@ fn run(s: &[u8], line: usize, kept: &[u8]) {
 fold_tree_width n
 level_domain bnB
 profile nB
-none n
-none n
+seal_parameters nnB
+writer_parameters nB
 none n
 none n
 none n
