@@ -22,9 +22,9 @@
 
 /* The version of this header, which is that of the archive beside it. */
 #define DEQUMLO_VERSION_MAJOR 0
-#define DEQUMLO_VERSION_MINOR 3
+#define DEQUMLO_VERSION_MINOR 4
 #define DEQUMLO_VERSION_PATCH 0
-#define DEQUMLO_VERSION "0.3.0"
+#define DEQUMLO_VERSION "0.4.0"
 
 #ifdef __cplusplus
 extern "C" {
@@ -279,13 +279,19 @@ uint32_t dequmlo_materialize(size_t n, const uint64_t *z, size_t z_length, dequm
 dequmlo_answered dequmlo_eval_at(size_t n, const uint64_t *z, size_t z_length, dequmlo_coefficients rb, const uint64_t *point,
                                  size_t point_length);
 
-/* ---- parameters of the profiles. These refuse nothing. */
+/* ---- parameters of the profiles, and of seals that name none. These refuse nothing. */
 
-dequmlo_parameters dequmlo_default_parameters(void); /* k 1, 40 queries, "magnetar/pcs/default" */
+dequmlo_parameters dequmlo_default_parameters(void); /* k 2, 40 queries, "magnetar/pcs/default": for a seal that is written with no profile named */
 dequmlo_parameters dequmlo_fastchunk(void);          /* k 1, 40 queries, "magnetar/pcs/fastchunk" */
 dequmlo_parameters dequmlo_balanced(void);           /* k 2, 40 queries, "magnetar/pcs/balanced" */
 dequmlo_parameters dequmlo_compactwrap(void);        /* k 3, 20 queries, "magnetar/pcs/compactwrap" */
 dequmlo_parameters dequmlo_deepwrap(void);           /* k 4, 14 queries, "magnetar/pcs/deepwrap" */
+dequmlo_parameters dequmlo_firstdefault(void);       /* k 1, 40 queries, "magnetar/pcs/default": the default before version 0.4.0 */
+
+/* Under which parameters a seal is checked that names no profile, nor k and a base domain: `dequmlo_firstdefault`'s where it was made before
+   version 0.4.0, which `older` says (0 is no, every other number is yes), else `dequmlo_default_parameters`'. A seal that names a profile is
+   checked under that profile's, however old it is. */
+dequmlo_parameters dequmlo_unnamed_parameters(uint32_t older);
 
 #ifdef __cplusplus
 }

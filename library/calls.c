@@ -195,14 +195,20 @@ static void ring(void) {
 
 static void profile(dequmlo_parameters p, size_t k, size_t queries, const char *domain) {
     MUST(p.k == k && p.queries == queries && p.length == strlen(domain) && memcmp(p.domain, domain, p.length) == 0);
+    for (size_t i = p.length; i < sizeof p.domain; i++) MUST(p.domain[i] == 0);
 }
 
 static void parameters(void) {
-    profile(dequmlo_default_parameters(), 1, 40, "magnetar/pcs/default");
+    profile(dequmlo_default_parameters(), 2, 40, "magnetar/pcs/default");
     profile(dequmlo_fastchunk(), 1, 40, "magnetar/pcs/fastchunk");
     profile(dequmlo_balanced(), 2, 40, "magnetar/pcs/balanced");
     profile(dequmlo_compactwrap(), 3, 20, "magnetar/pcs/compactwrap");
     profile(dequmlo_deepwrap(), 4, 14, "magnetar/pcs/deepwrap");
+    profile(dequmlo_firstdefault(), 1, 40, "magnetar/pcs/default");
+    /* 0 is no; every other number is yes, also one that a byte or a bit of it would take for no. */
+    profile(dequmlo_unnamed_parameters(0), 2, 40, "magnetar/pcs/default");
+    const uint32_t yes[] = {1, 2, 256, 65536, 0x80000000, UINT32_MAX};
+    for (size_t i = 0; i < sizeof yes / sizeof *yes; i++) profile(dequmlo_unnamed_parameters(yes[i]), 1, 40, "magnetar/pcs/default");
 }
 
 int main(void) {

@@ -7,9 +7,9 @@ import struct
 
 import records
 from lines import FILL, shown
-from model import CHUNK_END, CHUNK_START, PARENT, ROOT_NODE, blake3, compress
+from model import CHUNK_END, CHUNK_START, PARENT, PROFILES, ROOT_NODE, blake3, compress
 from model import derive, encode, equality_table, extension, fold_tree_width, gamma_message, leaf_message, level_domain, mul, node_message, path
-from model import fold as fold_first, number as number_bytes, part, root_of_path, shift, tree
+from model import fold as fold_first, number as number_bytes, part, root_of_path, seal_parameters as parameters_of_seal, shift, tree
 from records import Deposit, first_no, query, query_bytes, tail_bytes
 
 OPERATIONS = {}
@@ -721,8 +721,25 @@ def run(n, k, position, base, table, calls, challenges, claim, first, second, le
     return [0, number, number_of_tail, compared], [held, left, done]
 
 
+# By number: the Rust's default is the first default; 5 names none.
+NUMBERED = ["firstdefault", "fastchunk", "balanced", "compactwrap", "deepwrap", None]
+
+
+def parameters(given, out):
+    k, queries, domain = given
+    return [k, queries, len(domain)], [domain.ljust(out, b"\0")]
+
+
 @operation
 def profile(which, out):
-    """docs/SPECIFICATION.md's default; the four profiles are the Rust's to say."""
-    assert which == 0
-    return [1, 40, 20], [b"magnetar/pcs/default".ljust(out, b"\0")]
+    return parameters(PROFILES[NUMBERED[which]], out)
+
+
+@operation
+def seal_parameters(which, older, out):
+    return parameters(parameters_of_seal(NUMBERED[which], older), out)
+
+
+@operation
+def writer_parameters(which, out):
+    return parameters(PROFILES[NUMBERED[which] or "default"], out)

@@ -474,7 +474,10 @@ def run_lines():
 def level_lines():
     yield from ("fold_tree_width %d" % length for length in (1, 2, 8, 16))
     yield from ("level_domain 61 %d %d" % (level, 8 + len(str(level))) for level in (0, 9, 10, 20))
-    yield "profile 0 24"
+    yield from ("profile %d 24" % which for which in range(5))
+    yield "# named or not, older than the change of the default or not"
+    yield from ("seal_parameters %d %d 24" % (which, older) for which in range(6) for older in (0, 1))
+    yield from ("writer_parameters %d 24" % which for which in range(6))
 
 
 def commit_lines():
@@ -521,7 +524,8 @@ def all_levels_lines():
 def difference_lines():
     yield from ["# 6: base domains of 81 and 200 bytes", "commit 2 0 64x81 0x4 0 8 32", "commit 2 0 64x200 0x4 0 8 32"]
     yield from ["# 8: n = 0", "build_query 0 0 0 5 00x32 4", "check_query - 0 0 0 - 00x32 00x4"]
-    yield from ["build_tail 0 0 5 00x32 28", "check_tail - 0 0 00x32 5 00x4", "# 9", "profile 0 24"]
+    yield from ["build_tail 0 0 5 00x32 28", "check_tail - 0 0 00x32 5 00x4"]
+    yield from ["# 9: the Rust's default, and ours", "profile 0 24", "seal_parameters 5 0 24", "writer_parameters 5 24"]
 
 
 # ---- files

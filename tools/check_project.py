@@ -1,7 +1,7 @@
 #!/usr/bin/env python3
 """Checks an opening of a file of a project by docs/SPECIFICATION.md alone. It needs Python 3.6 or later and check_seal.py beside it.
 
-    tools/check_project.py OPENING --seal FOLDER --file PATH --offset B,B,.. --challenges FILE [--roots FILE] [--claim WORD]
+    tools/check_project.py OPENING --seal FOLDER [--older] --file PATH --offset B,B,.. --challenges FILE [--roots FILE] [--claim WORD]
 
 It commits the manifest that the opening shows, compares its root with the project's (SPECIFICATION 16.5), and then checks the records under the part's root as
 check_seal.py does. `manifest: no` or a later `no` says which of the two failed. Committing takes some minutes where the manifest has megabytes.
@@ -118,7 +118,7 @@ def manifest(text):
 
 def check_file(asked):
     """Prints the answer for the manifest, and then those for the records. Whether all are yes."""
-    base, n, k, root = read_seal(Path(asked.seal))
+    base, n, k, root = read_seal(Path(asked.seal), asked.older)
     shown = Path(asked.OPENING) / "manifest.txt"
     text = content(shown, PART) if shown.is_file() else b""
     files = manifest(text) if len(text) <= PART and root_of(base, k, text) == (n, root) else None
@@ -140,6 +140,7 @@ def main():
     parser.add_argument("OPENING")
     for name in ("--seal", "--challenges", "--file"):
         parser.add_argument(name, required=True)
+    parser.add_argument("--older", action="store_true")
     parser.add_argument("--offset", required=True, type=lambda text: [int(offset) for offset in text.split(",")])
     parser.add_argument("--roots")
     parser.add_argument("--claim")

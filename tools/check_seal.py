@@ -1,10 +1,11 @@
 #!/usr/bin/env python3
 """Checks an opening of a deposit seal by docs/SPECIFICATION.md alone: neither the proved library nor the program is needed, only Python 3.6 or later.
 
-    tools/check_seal.py OPENING --seal FOLDER --challenges FILE --at P,P,.. [--roots FILE] [--claim WORD]
+    tools/check_seal.py OPENING --seal FOLDER [--older] --challenges FILE --at P,P,.. [--roots FILE] [--claim WORD]
     tools/check_seal.py --try
 
-Challenges, positions and --roots, roots that were kept, are the checker's own; --claim is a value that is expected. A line for each position and one for
+Challenges, positions and --roots, roots that were kept, are the checker's own; --claim is a value that is expected. --older says that a seal which names
+neither k nor a base domain was made before version 0.4.0 (SPECIFICATION 6.10). A line for each position and one for
 the tail: `yes`, or `no` with the number of the first question that was answered with no (SPECIFICATION 8.2), its level where it has one, and the question.
 The last line is the verdict on all of it. --try tries this file on the values of SPECIFICATION 12. Exit status: 0 yes, 1 no, 2 nothing could be checked.
 """
@@ -166,6 +167,11 @@ class Level:
         return at
 
 
+# 6.9. The default, and FirstDefault, which has the same base domain.
+
+DEFAULT_DOMAIN, DEFAULT_K, FIRST_DEFAULT_K = b"magnetar/pcs/default", 2, 1
+
+
 # 7. Records.
 
 
@@ -291,12 +297,14 @@ def digests(path):
     return [hexadecimal(path, line, 32) for line in lines(path)]
 
 
-def parameters(path):
-    """n, k and the base domain, a line each."""
-    found = re.fullmatch(r"n (0|[1-9][0-9]?)\nk ([0-9])\n(?:domain ([!-~]+)|domain-hex ?((?:[0-9a-f]{2})*))", "\n".join(lines(path)))
+def parameters(path, older):
+    """n, k and the base domain, a line each; where the line n is alone, the other two are those of SPECIFICATION 6.10."""
+    found = re.fullmatch(r"n (0|[1-9][0-9]?)(?:\nk ([0-9])\n(?:domain ([!-~]+)|domain-hex ?((?:[0-9a-f]{2})*)))?", "\n".join(lines(path)))
     if not found:
-        raise CannotCheck(f"{path} does not have its three lines n, k and domain")
+        raise CannotCheck(f"{path} does not have its three lines n, k and domain, nor the line n alone")
     n, k, text, digits = found.groups()
+    if k is None:
+        return int(n), FIRST_DEFAULT_K if older else DEFAULT_K, DEFAULT_DOMAIN
     return int(n), int(k), text.encode() if text else bytes.fromhex(digits)
 
 
@@ -311,15 +319,15 @@ def answered(name, check, *given):
     return True
 
 
-def read_seal(folder):
-    """The base domain, n, k and the root. A seal whose check lines are not those of its files is damaged (SPECIFICATION 15.5)."""
+def read_seal(folder, older):
+    """The base domain, n, k and the root, of a seal that is said to be older or not. One whose check lines are not its files' is damaged (SPECIFICATION 15.5)."""
     check = folder / "check.txt"
     then = {line[66:]: line[:64] for line in written(check)} if check.exists() else None
     for name in ("parameters.txt", "root.txt"):
         text = "".join(line + "\n" for line in written(folder / name))
         if then is not None and digest((text.lower() if name == "root.txt" else text).encode()).hex() != then.get(name):
             raise CannotCheck(f"the seal is damaged: {name} and its line in check.txt do not agree")
-    n, k, base = parameters(folder / "parameters.txt")
+    n, k, base = parameters(folder / "parameters.txt", older)
     return base, n, k, digests(folder / "root.txt")[0]
 
 
@@ -378,6 +386,7 @@ def main():
     parser = argparse.ArgumentParser(description=__doc__, formatter_class=argparse.RawDescriptionHelpFormatter)
     parser.add_argument("OPENING")
     parser.add_argument("--seal", required=True)
+    parser.add_argument("--older", action="store_true")
     parser.add_argument("--challenges", required=True)
     parser.add_argument("--at", required=True, type=lambda text: sorted({int(position) for position in text.split(",")}))
     parser.add_argument("--roots")
@@ -387,7 +396,7 @@ def main():
             yes = try_this_file()
         else:
             asked = parser.parse_args()
-            yes = check_opening(asked, *read_seal(Path(asked.seal)))
+            yes = check_opening(asked, *read_seal(Path(asked.seal), asked.older))
     except (CannotCheck, OSError) as why:
         print(f"nothing was checked: {why}", file=sys.stderr)
         return 2

@@ -164,6 +164,24 @@ def derive(base, n, k):
     return [int.from_bytes(blake3(gamma_message(base, n, k, j, i))[:16], "little") for j in range(k) for i in range(n)]
 
 
+# ---- parameters
+
+# SPECIFICATION 6.9: k, how many queries, and the base domain.
+PROFILES = {
+    "default": (2, 40, b"magnetar/pcs/default"),
+    "fastchunk": (1, 40, b"magnetar/pcs/fastchunk"),
+    "balanced": (2, 40, b"magnetar/pcs/balanced"),
+    "compactwrap": (3, 20, b"magnetar/pcs/compactwrap"),
+    "deepwrap": (4, 14, b"magnetar/pcs/deepwrap"),
+    "firstdefault": (1, 40, b"magnetar/pcs/default"),
+}
+
+
+def seal_parameters(named, older):
+    """SPECIFICATION 6.10: of a seal that names this profile, or none."""
+    return PROFILES[named or ("firstdefault" if older else "default")]
+
+
 # ---- trees, and levels
 
 

@@ -7,12 +7,12 @@ record at each position. With --check the file is compared and not written."""
 import pathlib
 import sys
 
-from model import blake3, derive, encode, fold, fold_tree_width, level_domain, tree
+from model import PROFILES, blake3, derive, encode, fold, fold_tree_width, level_domain, tree
 from records import Deposit, query, query_bytes, tail_bytes
 
 STORED = pathlib.Path(__file__).resolve().parent.parent / "cli" / "tests" / "model.txt"
-PROFILES = {"default": 1, "fastchunk": 1, "balanced": 2, "compactwrap": 3, "deepwrap": 4}
-FILES = [(0, "default"), (1, "balanced"), (16, "compactwrap"), (17, "deepwrap"), (48, "balanced"), (49, "fastchunk"), (600, "balanced")]
+FILES = [(0, "default"), (0, "firstdefault"), (1, "balanced"), (16, "compactwrap"), (17, "deepwrap"), (48, "balanced"), (49, "fastchunk")]
+FILES += [(49, "default"), (49, "firstdefault"), (600, "balanced")]
 SEED = "dice"
 
 
@@ -34,7 +34,7 @@ class Sealed(Deposit):
 
     def __init__(self, data, profile):
         table = table_of(data)
-        n, k, base = len(table).bit_length() - 1, PROFILES[profile], b"magnetar/pcs/" + profile.encode()
+        n, (k, _, base) = len(table).bit_length() - 1, PROFILES[profile]
         self.n, self.k, self.base, self.challenges = n, k, base, [challenge(l) for l in range(n)]
         self.levels = [encode(n, k, table, derive(base, n, k))]
         for r in self.challenges:

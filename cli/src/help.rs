@@ -39,8 +39,8 @@ const COMMANDS: [Command; 12] = [
     },
     Command {
         name: "check",
-        usage: "seal check OPENING --seal FOLDER --asked FOLDER [--report FILE]\n\
-                seal check OPENING --seal FOLDER --challenges FILE (--at P,P,.. | --positions FILE) [--roots FILE] [--claim WORD] [--report FILE]",
+        usage: "seal check OPENING --seal FOLDER [--older] --asked FOLDER [--report FILE]\n\
+                seal check OPENING --seal FOLDER [--older] --challenges FILE (--at P,P,.. | --positions FILE) [--roots FILE] [--claim WORD] [--report FILE]",
         does: "Checks an opening by the checker's own request, or challenges and positions. For trying it out: --seed TEXT [--count N], which draws both.\n    \
                Of a project's opening, --file PATH and --offset B,B,.. say what is asked about; its manifest is checked first.\n    \
                --own-questions checks by those that the holder chose instead: that is never an acceptance, and ends with 3.",
@@ -73,8 +73,8 @@ const COMMANDS: [Command; 12] = [
     },
     Command {
         name: "explain",
-        usage: "seal explain [NUMBER]",
-        does: "Says what the number of a refusal means, and what to ask the holder for.",
+        usage: "seal explain [NUMBER | older]",
+        does: "Says what the number of a refusal means, and what to ask the holder for; or which seals --older is for.",
         takes: &["--json"],
     },
     Command {
@@ -99,8 +99,9 @@ const COMMANDS: [Command; 12] = [
 
 const FOR_ALL: &str = "\
 --json prints one object for programs, whatever happens. A folder that exists is left alone; --force replaces it where it holds exactly what
-this program wrote, a seal by a seal and an opening by an opening. Profiles: default, fastchunk, balanced, compactwrap, deepwrap; `seal commit`
-takes the default where none is named.";
+this program wrote, a seal by a seal and an opening by an opening. Profiles: default, fastchunk, balanced, compactwrap, deepwrap, firstdefault;
+`seal commit` takes the default, k 2, where none is named. Wherever --seal is given, --older says that a seal which names neither k nor a base domain
+was made before version 0.4.0, when the default had k 1.";
 
 const STATUSES: &str = "\
 Exit status: 0 accepted, or done; 1 refused; 2 could not run: wrong use, a file that cannot be read, a damaged seal, a full disk; 3 sound, but

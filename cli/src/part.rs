@@ -111,7 +111,7 @@ pub struct RefusedManifest {
 
 impl RefusedManifest {
     pub fn outcome(self) -> Outcome {
-        Outcome::declined(format!("manifest: {}", self.sentence))
+        Outcome::declined(format!("manifest: {}", self.sentence)).notes(self.seal.notes)
     }
 }
 
@@ -122,7 +122,7 @@ pub fn asked_seal(
     opening: Option<&Path>,
 ) -> Result<Result<Seal, RefusedManifest>, Failure> {
     let folder = options.needed_path("--seal", SEAL_FOLDER)?;
-    let seal = Seal::read(&folder)?;
+    let seal = Seal::read(&folder, options.has("--older"))?;
     if options.path("--file").is_none() {
         // What the holder puts into an opening does not decide what is asked about.
         if folder.join(MANIFEST).exists() {
@@ -147,16 +147,17 @@ pub fn asked_seal(
             "{} is no project's seal: it has no {MANIFEST}",
             folder.display()
         ))),
-        (Err(Unfit::Another(what)), None) => Err(damaged_manifest(&folder, &what)),
+        (Err(Unfit::Another(what)), None) => Err(damaged_manifest(&folder, &seal, &what)),
     }
 }
 
-/// A seal whose own manifest is not the one that was sealed.
-pub fn damaged_manifest(folder: &Path, what: &str) -> Failure {
-    Failure(format!(
-        "the seal in {} is damaged: its {MANIFEST} is not the one that was sealed: {what}. Take the seal from a copy of it",
-        folder.display()
-    ))
+/// A seal whose own manifest is not the one that was sealed; or one that names no parameters and was made under others.
+pub fn damaged_manifest(folder: &Path, seal: &Seal, what: &str) -> Failure {
+    let folder = folder.display();
+    Failure(match &seal.assumed {
+        None => format!("the seal in {folder} is damaged: its {MANIFEST} is not the one that was sealed: {what}. Take the seal from a copy of it"),
+        Some(assumed) => format!("the seal in {folder} and its {MANIFEST} do not agree: {what}. Note that {assumed}"),
+    })
 }
 
 fn part_seal(

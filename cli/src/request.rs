@@ -76,10 +76,17 @@ impl Request {
                 "the request in {shown} is damaged or cannot be read, so nothing was done by it: {what}. Take it from a copy, or ask for it again"
             ))
         })?;
-        if request.shape != seal.shape || request.root != seal.root {
+        if request.root != seal.root {
             return Err(Failure(format!(
                 "the request in {shown} is about another seal: it names the root {}, and this seal's is {}",
                 request.root, seal.root
+            )));
+        }
+        if request.shape != seal.shape {
+            let assumed = seal.assumed.as_ref();
+            return Err(Failure(format!(
+                "the request in {shown} is about another seal: it names another n, k or base domain{}",
+                assumed.map_or(String::new(), |assumed| format!(". Note that {assumed}"))
             )));
         }
         Ok(request)

@@ -1,7 +1,7 @@
 //! A seal: a small folder with the parameters, the root, their check lines, and a summary for a person. The first two begin with the line of
 //! their format (format.rs).
 //!
-//!     parameters.txt   n, k and the base domain (shape.rs)
+//!     parameters.txt   n, k and the base domain (shape.rs); n alone where others wrote it so
 //!     root.txt         64 hexadecimal digits
 //!     summary.txt      what this is, in sentences; no check reads it
 //!     check.txt        the digest of each of the three (check_lines.rs); seals of version 0.1.0 have none
@@ -35,6 +35,8 @@ pub struct Seal {
     pub summary: Option<String>,
     /// Whether its own check lines say that it is as it was written.
     pub vouched: bool,
+    /// What is said of its k and base domain where it names neither.
+    pub assumed: Option<String>,
     /// What a verdict under this seal has to say of it.
     pub notes: Vec<String>,
     /// Where it is that of a part of a project, which one.
@@ -42,8 +44,9 @@ pub struct Seal {
 }
 
 impl Seal {
-    /// Reads a seal. One that is damaged is a failure and not a refusal: it is the office's own, and no opening is to blame.
-    pub fn read(folder: &Path) -> Result<Seal, Failure> {
+    /// Reads a seal, as one older than version 0.4.0 or not, which counts where it names neither k nor a base domain. One that is damaged is a
+    /// failure and not a refusal: it is the office's own, and no opening is to blame.
+    pub fn read(folder: &Path, older: bool) -> Result<Seal, Failure> {
         if !folder.is_dir() {
             return Err(Failure(format!(
                 "there is no seal {}: give the folder that `seal commit` wrote",
@@ -51,7 +54,7 @@ impl Seal {
             )));
         }
         all_known(folder, &[PARAMETERS, ROOT])?;
-        parts(folder).map_err(|Failure(what)| {
+        parts(folder, older).map_err(|Failure(what)| {
             Failure(format!(
                 "the seal in {} is damaged or cannot be read, so nothing was checked and nothing is said of an opening: {what}. Take the seal from a copy \
                  of it",
@@ -112,8 +115,8 @@ impl Seal {
     }
 }
 
-fn parts(folder: &Path) -> Result<Seal, Failure> {
-    let parameters = Shape::read(folder)?;
+fn parts(folder: &Path, older: bool) -> Result<Seal, Failure> {
+    let parameters = Shape::of_seal(folder, older)?;
     let path = folder.join(ROOT);
     let text = text_inside(folder, ROOT, most_bytes(1, 64))?;
     let root: Root = one(&path, &text)?;
@@ -132,15 +135,32 @@ fn parts(folder: &Path) -> Result<Seal, Failure> {
         }
         None => notes.push(format!("the seal has no {CHECK}, as an earlier version wrote it: damage to the seal itself cannot be told from a wrong opening")),
     }
+    let assumed = (!parameters.named).then(|| assumed(&parameters.shape, older));
+    notes.extend(assumed.clone());
+    if parameters.named && older {
+        notes.push("the seal names its k and its base domain, and is read under these whenever it was made: --older changes nothing".into());
+    }
     Ok(Seal {
         shape: parameters.shape,
         sizes: parameters.sizes,
         root,
+        assumed,
         summary: lines.as_ref().and_then(|lines| summary(folder, lines)),
         vouched: lines.is_some(),
         notes,
         part: None,
     })
+}
+
+/// What is said of a seal that names neither k nor a base domain.
+fn assumed(shape: &Shape, older: bool) -> String {
+    let (k, domain) = (shape.k, shape.shown_domain());
+    let why = if older {
+        format!("--older says that it was made before version 0.4.0, so it is read under those of that time, k {k} and {domain} (the profile firstdefault)")
+    } else {
+        format!("it is read under the default's, k {k} and {domain}; if it was made before version 0.4.0, when the default had k 1, give --older")
+    };
+    format!("the seal names neither k nor a base domain: {why}")
 }
 
 /// The line of a summary that says what the seal stands for.

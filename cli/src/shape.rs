@@ -4,6 +4,8 @@
 //!     n 12
 //!     k 2
 //!     domain magnetar/pcs/balanced     (or domain-hex and hexadecimal digits)
+//!
+//! `seal commit` writes all three. A seal that others wrote may have the line n alone: it names neither k nor a base domain.
 
 use crate::format::{marked, Body};
 use crate::hex;
@@ -27,6 +29,8 @@ pub struct Shape {
 /// What a folder's `parameters.txt` says.
 pub struct Read {
     pub shape: Shape,
+    /// Whether the text names k and the base domain.
+    pub named: bool,
     /// The sizes that it fixes.
     pub sizes: Sizes,
     /// The file's text as it was written.
@@ -35,26 +39,44 @@ pub struct Read {
     pub untidy: bool,
 }
 
-impl Shape {
-    pub fn read(folder: &Path) -> Result<Read, Failure> {
+impl Read {
+    /// Where the text has the line n alone, k and the base domain are those of `unnamed`, if there are any.
+    fn of(folder: &Path, unnamed: Option<Parameters>) -> Result<Read, Failure> {
         let path = folder.join(PARAMETERS);
         let text = text_inside(folder, PARAMETERS, MOST_BYTES)?;
         let body = Body::of(&path, &text)?;
-        let shape = Shape::of_text(body.text).ok_or_else(|| {
-            Failure(format!(
-                "{} does not have its three lines n, k and domain as `seal commit` writes them",
-                path.display()
-            ))
-        })?;
+        let whole = Shape::of_text(body.text).map(|shape| (shape.text(), shape));
+        let named = whole.is_some();
+        let (content, shape) = whole
+            .or_else(|| of_n_alone(body.text, unnamed?))
+            .ok_or_else(|| {
+                Failure(format!(
+                    "{} does not have its three lines n, k and domain as `seal commit` writes them",
+                    path.display()
+                ))
+            })?;
         let sizes = Sizes::of(shape.n, shape.k)
             .map_err(|refusal| Failure(format!("{}: {refusal}", path.display())))?;
-        let written = body.written(&shape.text());
+        let written = body.written(&content);
         Ok(Read {
             untidy: text != written,
             shape,
+            named,
             sizes,
             written,
         })
+    }
+}
+
+impl Shape {
+    /// The shape that an opening or a request names.
+    pub fn read(folder: &Path) -> Result<Read, Failure> {
+        Read::of(folder, None)
+    }
+
+    /// The shape of a seal. One that names neither k nor a base domain has those of a seal that names no profile, older than version 0.4.0 or not.
+    pub fn of_seal(folder: &Path, older: bool) -> Result<Read, Failure> {
+        Read::of(folder, Some(Parameters::unnamed(older)))
     }
 
     /// The bytes of `parameters.txt`.
@@ -122,6 +144,13 @@ impl Shape {
     }
 }
 
+/// The text of n alone, as it is written, and the shape that it has under these parameters.
+fn of_n_alone(text: &str, Parameters { k, domain, .. }: Parameters) -> Option<(String, Shape)> {
+    let n: usize = text.trim_end().strip_prefix("n ")?.parse().ok()?;
+    let written = format!("n {n}\n");
+    (written.trim_end() == text.trim_end()).then_some((written, Shape { n, k, domain }))
+}
+
 /// A domain that a line of text can show: at least one graphic character, no blank.
 fn plain(domain: &[u8]) -> bool {
     !domain.is_empty() && domain.iter().all(u8::is_ascii_graphic)
@@ -129,7 +158,8 @@ fn plain(domain: &[u8]) -> bool {
 
 #[cfg(test)]
 mod tests {
-    use super::Shape;
+    use super::{of_n_alone, Shape};
+    use dequmlo::Parameters;
 
     fn shape(domain: &[u8]) -> Shape {
         Shape {
@@ -176,6 +206,40 @@ mod tests {
             " n 1\nk 2\ndomain d\n",
         ] {
             assert_eq!(Shape::of_text(text), None, "{text:?}");
+        }
+    }
+
+    #[test]
+    fn n_alone_has_the_parameters_that_are_given() {
+        for text in ["n 12\n", "n 12", "n 12 \r\n\n"] {
+            let (written, shape) = of_n_alone(text, Parameters::unnamed(true)).unwrap();
+            assert_eq!((&*written, shape.n, shape.k), ("n 12\n", 12, 1), "{text:?}");
+            assert_eq!(shape.profile().unwrap().0, "firstdefault");
+            assert_eq!(Shape::of_text(text), None);
+        }
+        for text in [
+            "",
+            "n 012\n",
+            "n +1\n",
+            "n 1\nk 2\n",
+            "n 1\ndomain d\n",
+            "k 1\n",
+            "n \n",
+        ] {
+            assert!(
+                of_n_alone(text, Parameters::default()).is_none(),
+                "{text:?}"
+            );
+        }
+    }
+
+    /// The numbers of the default before version 0.4.0 are those of a profile, and those of the default now of another.
+    #[test]
+    fn the_profile_is_found_by_k_and_domain() {
+        for (k, name) in [(1, Some("firstdefault")), (2, Some("default")), (3, None)] {
+            let domain = b"magnetar/pcs/default".to_vec();
+            let shape = Shape { n: 12, k, domain };
+            assert_eq!(shape.profile().map(|(name, _)| name), name);
         }
     }
 }

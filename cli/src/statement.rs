@@ -80,6 +80,7 @@ pub fn misfits(seal: &Seal, shown: &Shown, roots: &Roots, challenges: &[Word]) -
     let mut notes = Vec::new();
     match &shown.shape {
         Ok(shape) if *shape == seal.shape => (),
+        Ok(_) if seal.assumed.is_some() => notes.push("the opening names another n, k or base domain than the seal is read under".into()),
         Ok(_) => notes.push("the opening names another n, k or base domain than the seal: it was made for another seal".into()),
         Err(Failure(what)) => notes.push(format!("the opening does not say for which n, k and base domain it was made: {what}")),
     }

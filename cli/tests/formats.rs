@@ -2,10 +2,9 @@
 
 mod desk;
 
-use desk::{Desk, CHECK, FORMAT};
+use desk::{kept, Desk, CHECK, FORMAT};
 use std::fs;
 use std::path::Path;
-use std::process::Command;
 
 /// The texts that a check reads, and the summaries.
 const MARKED: [&str; 6] = [
@@ -86,13 +85,6 @@ fn a_line_that_is_taken_off_is_damage() {
     desk.check().says(0, &[]);
 }
 
-/// Files that a version of this program made, of those that are kept for ever.
-fn kept(version: &str) -> std::path::PathBuf {
-    Path::new(env!("CARGO_MANIFEST_DIR"))
-        .join("tests/fixtures/v1")
-        .join(version)
-}
-
 /// The names of the folders in a folder.
 fn folders(folder: &Path) -> Vec<String> {
     fs::read_dir(folder)
@@ -103,28 +95,22 @@ fn folders(folder: &Path) -> Vec<String> {
         .collect()
 }
 
-/// A desk with the files that a version made.
-fn desk_of(version: &str) -> Desk {
-    let desk = Desk::new(&format!("kept-{version}"));
-    let copied = Command::new("cp")
-        .arg("-r")
-        .arg(kept(version).join("."))
-        .arg(&desk.0)
-        .status();
-    assert!(copied.unwrap().success());
-    desk
-}
-
 #[test]
 fn what_earlier_versions_made_is_accepted() {
     let versions = folders(&kept(""));
-    for known in ["0.1.0", "0.2.0", "0.3.0"] {
+    for known in ["0.1.0", "0.2.0", "0.3.0", "0.4.0"] {
         assert!(versions.iter().any(|v| v == known), "{known} is missing");
     }
     for version in versions {
-        let desk = desk_of(&version);
-        desk.check()
-            .says(0, &["verdict: accepted: 3 records and the tail"]);
+        let desk = Desk::kept(&format!("kept-{version}"), &version);
+        // The default had other numbers before version 0.4.0, and its seals name them.
+        let profile = match version.as_str() {
+            "0.1.0" | "0.2.0" | "0.3.0" => "firstdefault",
+            _ => "default",
+        };
+        let accepted =
+            "verdict: accepted: 3 records and the tail, fewer than the 40 positions of the profile";
+        desk.check().says(0, &[&format!("{accepted} {profile}")]);
         desk.run("tail plan.txt.opening --seal plan.txt.seal")
             .says(3, &[]);
         desk.run("open plan.txt --seal plan.txt.seal --seed dice --at 7,0,127 --out again")
@@ -134,7 +120,7 @@ fn what_earlier_versions_made_is_accepted() {
         // Requests and projects came with version 0.3.0.
         if version != "0.1.0" && version != "0.2.0" {
             requests_are_accepted(&desk);
-            projects_are_accepted(&desk);
+            projects_are_accepted(&desk, profile);
         }
         // A damaged one is still told from a sound one.
         desk.damage("plan.txt.opening/query-7.record", 60);
@@ -153,7 +139,7 @@ fn requests_are_accepted(desk: &Desk) {
         .says(0, &["drew 40 positions"]);
 }
 
-fn projects_are_accepted(desk: &Desk) {
+fn projects_are_accepted(desk: &Desk, profile: &str) {
     let of = "--seal house.seal --file plans/north.txt";
     desk.run("verify house --seal house.seal")
         .says(0, &["yes: house is the project that was sealed"]);
@@ -169,7 +155,10 @@ fn projects_are_accepted(desk: &Desk) {
         "ask {of} --asked house.asked --answer house.answer --out house.more"
     ))
     .says(0, &["drew 40 positions"]);
-    desk.run("commit house --out house.again").says(0, &[]);
+    desk.run(&format!(
+        "commit house --profile {profile} --out house.again"
+    ))
+    .says(0, &[]);
     assert_eq!(
         desk.value("house.again/root.txt"),
         desk.value("house.seal/root.txt")

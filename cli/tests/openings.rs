@@ -233,10 +233,10 @@ fn a_folder_of_very_many_files_is_refused_at_once() {
 #[test]
 fn an_opening_of_every_position_is_no_folder_of_too_many_files() {
     let desk = Desk::opened("every-position");
-    let all: Vec<String> = (0..128).map(|p| p.to_string()).collect();
+    let all: Vec<String> = (0..256).map(|p| p.to_string()).collect();
     desk.write("all", all.join("\n").as_bytes());
     desk.run("open plan.txt --seal plan.txt.seal --seed dice --positions all --out whole")
-        .says(0, &["opened 128 positions"]);
+        .says(0, &["opened 256 positions"]);
     desk.run("check whole --seal plan.txt.seal --seed dice --positions all")
-        .says(0, &["accepted: 128 records and the tail"]);
+        .says(0, &["accepted: 256 records and the tail"]);
 }

@@ -214,7 +214,7 @@ fn json_has_the_number_the_level_and_the_sentence() {
     );
     desk.run("check plan.txt.opening --seal absent --seed dice --json")
         .says(2, &["\"verdict\": \"could-not-run\", \"accepted\": false, \"exit\": 2, \"number\": null, \"level\": null, \"sentence\": \"there is no seal absent"]);
-    desk.run("open plan.txt --seal plan.txt.seal --seed dice --at 128 --out b --json")
+    desk.run("open plan.txt --seal plan.txt.seal --seed dice --at 256 --out b --json")
         .says(1, &["\"number\": 11, \"level\": null"]);
     desk.run("explain 26 --json").says(
         0,

@@ -17,7 +17,7 @@ fn a_seal_and_an_opening_are_plain_files() {
     );
     assert_eq!(
         desk.text("plan.txt.seal/parameters.txt"),
-        "format 1\nn 6\nk 1\ndomain magnetar/pcs/default\n"
+        "format 1\nn 6\nk 2\ndomain magnetar/pcs/default\n"
     );
     let names = [
         "challenges.txt",
@@ -206,7 +206,7 @@ fn the_tail_by_itself() {
     desk.run(tail).says(
         0,
         &[
-            "tail: accepted; the last level has 2 words",
+            "tail: accepted; the last level has 4 words",
             &format!("tail 0 {claim}"),
             "tail 1 ",
         ],
@@ -234,7 +234,7 @@ fn another_file_cannot_be_opened_under_a_seal() {
         ))
         .says(1, &["is not the file that was sealed: its root is another"]);
     }
-    desk.run("open plan.txt --seal plan.txt.seal --seed dice --at 128 --force")
+    desk.run("open plan.txt --seal plan.txt.seal --seed dice --at 256 --force")
         .says(1, &["refused, 11:"]);
     desk.check().says(0, &[]);
 }

@@ -67,8 +67,8 @@ fn the_page_of_an_acceptance() {
         "Positions drawn, after the holder&#39;s roots were there: 20",
         &root,
         "tail</td><td class=\"mark\">✓ accepted",
-        "level 0: 128 words",
-        "level 6: 2 words",
+        "level 0: 256 words",
+        "level 6: 4 words",
     ] {
         assert!(page.contains(text), "{text:?} is not in {page}");
     }
@@ -163,7 +163,7 @@ fn names_of_others_are_no_markup() {
         "open", &name, "--seal", "s", "--asked", "q", "--out", "answer",
     ])
     .says(0, &[]);
-    desk.run("ask --seal s --asked q --answer answer --count 128")
+    desk.run("ask --seal s --asked q --answer answer --count 256")
         .says(0, &[]);
     let opening = format!("o{name}");
     desk.seal([
@@ -174,7 +174,7 @@ fn names_of_others_are_no_markup() {
     desk.seal([
         "check", &opening, "--seal", "s", "--asked", "q", "--report", "r.html",
     ])
-    .says(0, &["accepted: 128 records"]);
+    .says(0, &["accepted: 256 records"]);
     let page = desk.text("r.html");
     is_a_whole_page(&page);
     for text in [

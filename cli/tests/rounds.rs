@@ -83,7 +83,7 @@ fn a_request_is_plain_files_with_their_format() {
         0,
         &[
             "kept the holder's roots and claim, and drew 3 positions into plan.txt.asked; send that folder to the holder",
-            "each position is one place looked at, of 128",
+            "each position is one place looked at, of 256",
             "at most (1 - f)^3, which is 72.9 % for a tenth of the places and 97.1 % for a hundredth",
         ],
     );
@@ -134,8 +134,8 @@ fn what_is_drawn_is_not_drawn_twice() {
     desk.run(&format!("{ASK_AGAIN} --count 1000 --out c")).says(
         0,
         &[
-            "drew 128 positions",
-            "all 128 places of the deposit are looked at",
+            "drew 256 positions",
+            "all 256 places of the deposit are looked at",
         ],
     );
     // Each of them is a request of its own, and the answer is to all of them.
@@ -341,8 +341,8 @@ fn a_request_that_is_not_in_order_is_the_checker_s_own() {
         ),
         (
             "positions.txt",
-            "format 1\n7\n128\n",
-            "position 128 is outside this seal",
+            "format 1\n7\n256\n",
+            "position 256 is outside this seal",
         ),
         (
             "positions.txt",

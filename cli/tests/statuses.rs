@@ -34,7 +34,7 @@ fn every_command_ends_with_the_status_that_is_documented() {
         ),
         (
             1,
-            "open plan.txt --seal plan.txt.seal --seed dice --at 128 --out d".into(),
+            "open plan.txt --seal plan.txt.seal --seed dice --at 256 --out d".into(),
         ),
         (2, "open plan.txt --seal plan.txt.seal --out d".into()),
         (2, "open plan.txt --seal absent --seed dice --out d".into()),

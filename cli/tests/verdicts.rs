@@ -32,10 +32,10 @@ fn a_check_needs_the_checker_s_own_questions() {
     .says(0, &["verdict: accepted: 3 records and the tail"]);
     desk.run("check plan.txt.opening --seal plan.txt.seal --seed dice --at ,")
         .says(2, &["no position is asked for"]);
-    desk.run("check plan.txt.opening --seal plan.txt.seal --seed dice --at 128")
+    desk.run("check plan.txt.opening --seal plan.txt.seal --seed dice --at 256")
         .says(
             2,
-            &["position 128 is outside this seal, whose positions go from 0 to 127"],
+            &["position 256 is outside this seal, whose positions go from 0 to 255"],
         );
 }
 

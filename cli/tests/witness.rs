@@ -363,7 +363,7 @@ fn the_witness_numbers_each_damage_of_the_tail() {
 fn the_witness_accepts_what_earlier_versions_wrote() {
     let desk = Desk::new("witness-fixtures");
     let fixtures = concat!(env!("CARGO_MANIFEST_DIR"), "/tests/fixtures/v1");
-    for version in ["0.1.0", "0.2.0", "0.3.0"] {
+    for version in ["0.1.0", "0.2.0", "0.3.0", "0.4.0"] {
         let folder = format!("{fixtures}/{version}");
         fs::copy(
             format!("{folder}/plan.txt.opening/challenges.txt"),
@@ -373,6 +373,33 @@ fn the_witness_accepts_what_earlier_versions_wrote() {
         let opening = format!("{folder}/plan.txt.opening --seal {folder}/plan.txt.seal");
         let words = format!("{opening} --challenges challenges.txt --at 0,7,127");
         witness(&desk, &words).says(0, &["position 127: yes\ntail: yes\nyes\n"]);
+    }
+}
+
+/// Under a seal that names neither k nor a base domain both go by the same rule.
+#[test]
+fn the_witness_on_a_seal_that_names_nothing() {
+    for (bytes, first) in [(40, "16 at level 0"), (960, "17 at level 0")] {
+        let desk = Desk::new(&format!("witness-unnamed-{bytes}"));
+        desk.write("plan.txt", &desk::plan()[..bytes]);
+        for (profile, accepted, refused, record, tail) in [
+            ("firstdefault", "--older", "", first, "27"),
+            ("default", "", "--older", "14", "14"),
+        ] {
+            desk.run(&format!("commit plan.txt --profile {profile} --force"))
+                .says(0, &[]);
+            desk.run("open plan.txt --seal plan.txt.seal --seed dice --at 0,3 --force")
+                .says(0, &[]);
+            desk.keep("challenges.txt");
+            // Both ways where the seal names its own.
+            both(&desk, 0, &[0, 3], "");
+            both(&desk, 0, &[0, 3], "--older");
+            desk.unname("plan.txt.seal");
+            both(&desk, 0, &[0, 3], accepted);
+            let said = both(&desk, 1, &[0, 3], refused);
+            let numbers = ["position 0", "position 3", "tail"].map(|name| &*said[name]);
+            assert_eq!(numbers, [record, record, tail], "{profile}");
+        }
     }
 }
 
@@ -494,6 +521,25 @@ fn the_witness_checks_a_file_of_a_project() {
     }
     fs::remove_file(desk.path("house.opening/manifest.txt")).unwrap();
     both_on_a_file(&desk, 1, path, "0");
+}
+
+#[test]
+fn the_witness_on_a_project_whose_seal_names_nothing() {
+    let desk = Desk::kept("witness-unnamed-project", "0.3.0");
+    fs::copy(
+        desk.path("house.opening/challenges.txt"),
+        desk.path("challenges.txt"),
+    )
+    .unwrap();
+    let (path, offset) = (&b"plans/north.txt"[..], "100");
+    both_on_a_file(&desk, 0, path, offset);
+    desk.unname("house.seal");
+    both_on_a_file(&desk, 1, path, offset);
+    let words = "house.opening --seal house.seal --older --challenges challenges.txt --file plans/north.txt --offset 100";
+    python(&desk, "check_project.py", words.split_whitespace())
+        .says(0, &["manifest: yes\n", "tail: yes\nyes\n"]);
+    desk.run(&format!("check {words}"))
+        .says(0, &["manifest: accepted", "verdict: accepted: 1 record"]);
 }
 
 /// Texts that a seal stands for and that are no manifests, or are.

@@ -242,7 +242,7 @@ const REQUESTS: &[Request] = &[
     Request {
         name: "profile",
         arguments: "which:number room",
-        answer: "k, query count, the domain's length, the domain with zeros after it; 0 is the default",
+        answer: "k, query count, the domain's length, the domain with zeros after it; 0 is the Rust's default",
         call: profile,
     },
     Request {

@@ -1,4 +1,4 @@
-//! The parameters of the profiles.
+//! The parameters of the profiles, and those that a seal is written and checked under.
 
 use crate::raw;
 
@@ -23,12 +23,18 @@ pub struct Parameters {
 
 impl Parameters {
     /// The names that [`Parameters::named`] knows.
-    pub const NAMES: [&'static str; 5] = [
+    ///
+    /// ```
+    /// use dequmlo::Parameters;
+    /// assert!(Parameters::NAMES.iter().all(|name| Parameters::named(name).is_some()));
+    /// ```
+    pub const NAMES: [&'static str; 6] = [
         "default",
         "fastchunk",
         "balanced",
         "compactwrap",
         "deepwrap",
+        "firstdefault",
     ];
 
     /// The parameters of a profile by its name.
@@ -40,6 +46,7 @@ impl Parameters {
             "balanced" => Some(Parameters::balanced()),
             "compactwrap" => Some(Parameters::compactwrap()),
             "deepwrap" => Some(Parameters::deepwrap()),
+            "firstdefault" => Some(Parameters::firstdefault()),
             _ => None,
         }
     }
@@ -67,10 +74,52 @@ impl Parameters {
     pub fn deepwrap() -> Parameters {
         of(unsafe { raw::dequmlo_deepwrap() })
     }
+
+    /// k 1, 40 queries, and the default's domain: what the default was before version 0.4.0.
+    ///
+    /// ```
+    /// use dequmlo::Parameters;
+    /// let (first, now) = (Parameters::firstdefault(), Parameters::default());
+    /// assert_eq!((first.k, now.k), (1, 2));
+    /// assert_eq!((first.queries, &first.domain), (now.queries, &now.domain));
+    /// ```
+    #[must_use]
+    pub fn firstdefault() -> Parameters {
+        of(unsafe { raw::dequmlo_firstdefault() })
+    }
+
+    /// The parameters under which a seal is checked: those of the profile that it names. Where it names none, those of `firstdefault` if it is
+    /// older than version 0.4.0, else the default's. None where no profile has this name. A seal that names k and a base domain itself is
+    /// checked under these, and needs no such answer.
+    ///
+    /// ```
+    /// use dequmlo::Parameters;
+    /// // A seal that names nothing and was made when the default had k 1; and one that was made since.
+    /// assert_eq!(Parameters::of_seal(None, true), Some(Parameters::firstdefault()));
+    /// assert_eq!(Parameters::of_seal(None, false), Some(Parameters::default()));
+    /// // What a seal names counts, however old it is.
+    /// for older in [false, true] {
+    ///     assert_eq!(Parameters::of_seal(Some("deepwrap"), older), Some(Parameters::deepwrap()));
+    ///     assert_eq!(Parameters::of_seal(Some("unheard-of"), older), None);
+    /// }
+    /// ```
+    #[must_use]
+    pub fn of_seal(named: Option<&str>, older: bool) -> Option<Parameters> {
+        match named {
+            Some(name) => Parameters::named(name),
+            None => Some(Parameters::unnamed(older)),
+        }
+    }
+
+    /// The parameters under which a seal is checked that names no profile; see [`Parameters::of_seal`].
+    #[must_use]
+    pub fn unnamed(older: bool) -> Parameters {
+        of(unsafe { raw::dequmlo_unnamed_parameters(u32::from(older)) })
+    }
 }
 
 impl Default for Parameters {
-    /// k 1, 40 queries.
+    /// k 2, 40 queries: what a seal is written under whose writer names no profile.
     fn default() -> Parameters {
         of(unsafe { raw::dequmlo_default_parameters() })
     }

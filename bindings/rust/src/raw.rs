@@ -351,4 +351,6 @@ extern "C" {
     pub fn dequmlo_balanced() -> Parameters;
     pub fn dequmlo_compactwrap() -> Parameters;
     pub fn dequmlo_deepwrap() -> Parameters;
+    pub fn dequmlo_firstdefault() -> Parameters;
+    pub fn dequmlo_unnamed_parameters(older: u32) -> Parameters;
 }

@@ -14,9 +14,9 @@ use crate::statement::{checker_s_own, first_difference, statement, Roots};
 use crate::writing::{beside, Target};
 use std::path::{Path, PathBuf};
 
-pub const TAKEN: [&str; 10] = [
-    "--seal", "--file", "--part", "--asked", "--answer", "--count", "--by", "--out", "--force",
-    "--json",
+pub const TAKEN: [&str; 11] = [
+    "--seal", "--older", "--file", "--part", "--asked", "--answer", "--count", "--by", "--out",
+    "--force", "--json",
 ];
 
 pub fn run(options: &Options) -> Result<Outcome, Failure> {
@@ -101,7 +101,7 @@ fn second(options: &Options, asked: &Path, answer: &Path) -> Result<Outcome, Fai
     };
     notes.extend(changed_note(&shown.changed()));
     if let Some(refused) = refused(&seal, &request, &shown)? {
-        return Ok(refused.notes(notes));
+        return Ok(refused.notes(notes).notes(seal.notes));
     }
     if !shown.positions().is_empty() {
         notes.push(

@@ -19,7 +19,7 @@ use crate::writing::{make, may_be_made};
 use dequmlo::{QueryRecord, Root, Statement, Word};
 use std::path::PathBuf;
 
-pub const TAKEN: [&str; 15] = asking_and([
+pub const TAKEN: [&str; 16] = asking_and([
     "--roots",
     "--claim",
     "--own-questions",
@@ -100,6 +100,7 @@ impl Examined {
     fn refused(seal: &Seal, item: Item, sentence: String) -> Examined {
         let mut found = Found::default();
         found.declined(item, sentence);
+        found.notes.extend(seal.notes.iter().cloned());
         Examined {
             found,
             positions: Vec::new(),

@@ -84,22 +84,20 @@ fn told(shape: &Shape, root: &Root, file: &Path, bytes: usize, folder: &Path) ->
 
 /// k and the base domain: a profile's, or both given; the default where nothing is.
 fn parameters(options: &Options) -> Result<(usize, Vec<u8>), Failure> {
-    match (
-        options.text("--profile")?,
-        options.number("--k")?,
-        options.text("--domain")?,
-    ) {
-        (Some(name), None, None) => {
+    let profile = options.text("--profile")?;
+    match (options.number("--k")?, options.text("--domain")?) {
+        (None, None) => {
             let names = Parameters::NAMES.join(", ");
-            let p = Parameters::named(&name)
-                .ok_or_else(|| Failure(format!("there is no profile {name}; there are {names}")))?;
+            let name = profile.as_deref();
+            let p = Parameters::of_seal(name, false).ok_or_else(|| {
+                Failure(format!(
+                    "there is no profile {}; there are {names}",
+                    name.unwrap_or_default()
+                ))
+            })?;
             Ok((p.k, p.domain))
         }
-        (None, Some(k), Some(domain)) => Ok((k, domain.into_bytes())),
-        (None, None, None) => {
-            let p = Parameters::default();
-            Ok((p.k, p.domain))
-        }
+        (Some(k), Some(domain)) if profile.is_none() => Ok((k, domain.into_bytes())),
         _ => Err(Failure(
             "give --profile alone, or --k and --domain together".into(),
         )),

@@ -15,8 +15,9 @@ use crate::statement::{roots, statement};
 use crate::writing::{beside, Target};
 use dequmlo::{Collision, QueryRecord, Refusal, Statement};
 
-pub const TAKEN: [&str; 10] = [
+pub const TAKEN: [&str; 11] = [
     "--seal",
+    "--older",
     "--file",
     "--part",
     "--opening",

@@ -18,7 +18,7 @@ use crate::writing::{beside, Target};
 use dequmlo::{Deposit, Refusal, Threads, Word};
 use std::path::Path;
 
-pub const TAKEN: [&str; 14] = asking_and(["--out", "--force", "--threads", "--json"]);
+pub const TAKEN: [&str; 15] = asking_and(["--out", "--force", "--threads", "--json"]);
 
 pub fn run(options: &Options) -> Result<Outcome, Failure> {
     options.expect(1, "one FILE", &TAKEN)?;
@@ -50,7 +50,7 @@ pub fn run(options: &Options) -> Result<Outcome, Failure> {
         Ok(table) => table,
         Err(sentence) => return Ok(Outcome::declined(sentence)),
     };
-    let not_the_file = || Ok(Outcome::declined(another_file(&path)));
+    let not_the_file = || Ok(Outcome::declined(another_file(&path)).notes(seal.notes.clone()));
     if table.len() != seal.sizes.table_words {
         return not_the_file();
     }

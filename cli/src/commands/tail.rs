@@ -8,7 +8,9 @@ use crate::shown::{changed_note, Shown};
 use crate::statement::{checker_s_own, claim, roots, statement};
 use dequmlo::Word;
 
-pub const TAKEN: [&str; 6] = ["--seal", "--file", "--part", "--roots", "--claim", "--json"];
+pub const TAKEN: [&str; 7] = [
+    "--seal", "--older", "--file", "--part", "--roots", "--claim", "--json",
+];
 
 pub fn run(options: &Options) -> Result<Outcome, Failure> {
     options.expect(1, "one OPENING", &TAKEN)?;

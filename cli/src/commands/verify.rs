@@ -14,14 +14,14 @@ use dequmlo::{Deposit, Threads, Word};
 use std::collections::BTreeMap;
 use std::path::Path;
 
-pub const TAKEN: [&str; 4] = ["--seal", "--opening", "--threads", "--json"];
+pub const TAKEN: [&str; 5] = ["--seal", "--older", "--opening", "--threads", "--json"];
 
 pub fn run(options: &Options) -> Result<Outcome, Failure> {
     options.expect(1, "one FILE or FOLDER", &TAKEN)?;
     let file = &options.operands[0];
     let folder = options.needed_path("--seal", SEAL_FOLDER)?;
     let threads = options.threads()?;
-    let seal = Seal::read(&folder)?;
+    let seal = Seal::read(&folder, options.has("--older"))?;
     if file.is_dir() {
         if options.given("--opening") {
             return Err(Failure("--opening goes with a file; of a project, the seal's own manifest says what changed".into()));

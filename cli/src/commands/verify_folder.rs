@@ -48,7 +48,7 @@ pub fn run(
                 format!("the seal has no {MANIFEST}, so it cannot be said which files differ");
             return Ok(outcome.notes([note]).notes(seal.notes));
         }
-        Err(Unfit::Another(what)) => return Err(damaged_manifest(folder, &what)),
+        Err(Unfit::Another(what)) => return Err(damaged_manifest(folder, &seal, &what)),
     };
     let mut found_now = Differences::between(&then, &now);
     found_now.new.extend(

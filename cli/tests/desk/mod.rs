@@ -71,6 +71,29 @@ impl Desk {
         desk
     }
 
+    /// A desk with the files that a version of this program made.
+    pub fn kept(name: &str, version: &str) -> Desk {
+        let desk = Desk::new(name);
+        let mut copy = Command::new("cp");
+        copy.arg("-r").arg(kept(version).join(".")).arg(&desk.0);
+        assert!(copy.status().unwrap().success());
+        desk
+    }
+
+    /// Takes k and the base domain out of a seal, as of one that names neither; check lines are written anew where it has any.
+    pub fn unname(&self, seal: &str) {
+        let name = format!("{seal}/parameters.txt");
+        let text = self.text(&name);
+        let lines = text
+            .lines()
+            .filter(|line| !line.starts_with('k') && !line.starts_with("domain"));
+        let left: String = lines.map(|line| format!("{line}\n")).collect();
+        self.write(&name, left.as_bytes());
+        if self.path(seal).join("check.txt").exists() {
+            self.vouch(seal);
+        }
+    }
+
     pub fn path(&self, name: &str) -> PathBuf {
         self.0.join(name)
     }
@@ -188,6 +211,13 @@ impl Desk {
     pub fn check(&self) -> Run {
         self.run(CHECK)
     }
+}
+
+/// Where the files are that a version of this program made, of those that are kept for ever.
+pub fn kept(version: &str) -> PathBuf {
+    Path::new(env!("CARGO_MANIFEST_DIR"))
+        .join("tests/fixtures/v1")
+        .join(version)
 }
 
 /// The file that is sealed.

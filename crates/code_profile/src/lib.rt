@@ -1,13 +1,21 @@
-// The parameters of commitments, after `PcsParams`: the default and the four profiles.
+// The parameters of commitments, after `PcsParams`: the default, the five profiles, and those that a seal is checked and written under.
 ghost use mathlib.Core.Path.{_≡_};
-ghost use Rattle.theory_record.specs.Profiles.{defaultParameters, FastChunk, Balanced, CompactWrap, DeepWrap, parametersOf, fieldsOf};
-ghost use Rattle.code_profile.specs.Meaning.{parameters, profile};
+ghost use Rattle.theory_record.specs.Profiles.{FastChunk, Balanced, CompactWrap, DeepWrap, FirstDefault, parametersOf, fieldsOf};
+ghost use Rattle.theory_record.specs.Profiles.{No, defaultParameters, checkedUnder, writtenUnder};
+ghost use Rattle.code_profile.specs.Meaning.{parameters, profile, named};
 
 pub enum Profile {
     FastChunk,
     Balanced,
     CompactWrap,
     DeepWrap,
+    FirstDefault,
+}
+
+// The profile that a seal or its writer names, if any.
+pub enum Named {
+    No,
+    Yes(Profile),
 }
 
 // k, how many queries, and the base domain: the first `length` bytes of `domain`, zeros after them.
@@ -18,12 +26,12 @@ pub struct Parameters {
     pub length: usize,
 }
 
-// k 1, 40 queries, "magnetar/pcs/default".
+// k 2, 40 queries, "magnetar/pcs/default".
 pub fn default_parameters() -> Parameters
     ensures { λ r. ⌜ parameters r ≡ fieldsOf defaultParameters ⌝ }
 {
     Parameters {
-        k: 1,
+        k: 2,
         queries: 40,
         domain: *b"magnetar/pcs/default\0\0\0\0",
         length: 20,
@@ -78,6 +86,18 @@ fn deepwrap() -> Parameters
     }
 }
 
+// k 1, 40 queries, "magnetar/pcs/default": what the default was before it had k 2.
+fn firstdefault() -> Parameters
+    ensures { λ r. ⌜ parameters r ≡ fieldsOf (parametersOf FirstDefault) ⌝ }
+{
+    Parameters {
+        k: 1,
+        queries: 40,
+        domain: *b"magnetar/pcs/default\0\0\0\0",
+        length: 20,
+    }
+}
+
 // The parameters of a profile.
 pub fn parameters_of(p: Profile) -> Parameters
     ensures { λ r. ⌜ parameters r ≡ fieldsOf (parametersOf (profile p)) ⌝ }
@@ -87,5 +107,37 @@ pub fn parameters_of(p: Profile) -> Parameters
         Profile::Balanced => balanced(),
         Profile::CompactWrap => compactwrap(),
         Profile::DeepWrap => deepwrap(),
+        Profile::FirstDefault => firstdefault(),
+    }
+}
+
+// Under which parameters a seal is checked that names no profile: the first default's where it is older than the change of the default, else the default's.
+pub fn unnamed_parameters(older: bool) -> Parameters
+    ensures { λ r. ⌜ parameters r ≡ fieldsOf (checkedUnder No older) ⌝ }
+{
+    if older {
+        firstdefault()
+    } else {
+        default_parameters()
+    }
+}
+
+// Under which parameters a seal is checked: those of the profile that it names, or else those of a seal that names none.
+pub fn seal_parameters(name: Named, older: bool) -> Parameters
+    ensures { λ r. ⌜ parameters r ≡ fieldsOf (checkedUnder (named name) older) ⌝ }
+{
+    match name {
+        Named::Yes(p) => parameters_of(p),
+        Named::No => unnamed_parameters(older),
+    }
+}
+
+// Under which parameters a seal is written: those of the profile that its writer names, or else the default's.
+pub fn writer_parameters(name: Named) -> Parameters
+    ensures { λ r. ⌜ parameters r ≡ fieldsOf (writtenUnder (named name)) ⌝ }
+{
+    match name {
+        Named::Yes(p) => parameters_of(p),
+        Named::No => default_parameters(),
     }
 }

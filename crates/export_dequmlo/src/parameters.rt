@@ -1,7 +1,10 @@
-// The default parameters and those of the four profiles: one function each, so that nothing is asked and nothing refused.
+// The default parameters and those of the five profiles, one function each, and those of a seal that names no profile: nothing is asked and nothing refused.
 use code_profile::Profile;
 ghost use mathlib.Core.Path.{_≡_};
-ghost use Rattle.theory_record.specs.Profiles.{defaultParameters, FastChunk, Balanced, CompactWrap, DeepWrap, parametersOf, fieldsOf};
+ghost use mathlib.Core.Bool.{not};
+ghost use lib.Dec.{eqb};
+ghost use Rattle.theory_record.specs.Profiles.{FastChunk, Balanced, CompactWrap, DeepWrap, FirstDefault, parametersOf, fieldsOf};
+ghost use Rattle.theory_record.specs.Profiles.{No, defaultParameters, checkedUnder};
 ghost use Rattle.code_profile.specs.Meaning as M;
 ghost use Rattle.export_dequmlo.specs.Answers.{parameters};
 
@@ -34,7 +37,7 @@ fn exported_of(p: Profile) -> Parameters
     exported(code_profile::parameters_of(p))
 }
 
-// k 1, 40 queries, "magnetar/pcs/default".
+// k 2, 40 queries, "magnetar/pcs/default".
 #[no_mangle]
 pub extern "C" fn dequmlo_default_parameters() -> Parameters
     ensures { λ r. ⌜ parameters r ≡ fieldsOf defaultParameters ⌝ }
@@ -72,4 +75,21 @@ pub extern "C" fn dequmlo_deepwrap() -> Parameters
     ensures { λ r. ⌜ parameters r ≡ fieldsOf (parametersOf DeepWrap) ⌝ }
 {
     exported_of(Profile::DeepWrap)
+}
+
+// k 1, 40 queries, "magnetar/pcs/default": what the default was before it had k 2.
+#[no_mangle]
+pub extern "C" fn dequmlo_firstdefault() -> Parameters
+    ensures { λ r. ⌜ parameters r ≡ fieldsOf (parametersOf FirstDefault) ⌝ }
+{
+    exported_of(Profile::FirstDefault)
+}
+
+// Under which parameters a seal is checked that names no profile: the first default's where it is older than the change of the default, else the
+// default's. Every number but 0 says that it is older.
+#[no_mangle]
+pub extern "C" fn dequmlo_unnamed_parameters(older: u32) -> Parameters
+    ensures { λ r. ⌜ parameters r ≡ fieldsOf (checkedUnder No (not (eqb older 0))) ⌝ }
+{
+    exported(code_profile::unnamed_parameters(older != 0))
 }

@@ -386,14 +386,14 @@ pub struct Params {
     pub length: usize,
 }
 
-// The default, or profile 1 to 4.
+// The first default, which is the Rust's, or profile 1 to 4.
 fn parameters_of(number: usize) -> Parameters {
     match number {
         1 => code_profile::parameters_of(Profile::FastChunk),
         2 => code_profile::parameters_of(Profile::Balanced),
         3 => code_profile::parameters_of(Profile::CompactWrap),
         4 => code_profile::parameters_of(Profile::DeepWrap),
-        _ => code_profile::default_parameters(),
+        _ => code_profile::parameters_of(Profile::FirstDefault),
     }
 }
 

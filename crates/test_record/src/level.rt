@@ -1,4 +1,5 @@
-// Levels, profiles, trees of levels and the last level: eval.rs, and docs/SPECIFICATION.md's `tail-list`.
+// Levels, profiles and the parameters of seals, trees of levels and the last level: eval.rs, and docs/SPECIFICATION.md's `tail-list`.
+use code_profile::Named;
 use code_profile::Parameters;
 use code_profile::Profile;
 use test_lines::answer::Answer;
@@ -36,20 +37,27 @@ fn level_domain(n: usize, s: &[u8], y: &mut [u8]) -> Answer {
     length(end)
 }
 
-// The default, or one of the four profiles.
-fn parameters(profile: usize) -> Parameters {
-    match profile {
-        1 => code_profile::parameters_of(Profile::FastChunk),
-        2 => code_profile::parameters_of(Profile::Balanced),
-        3 => code_profile::parameters_of(Profile::CompactWrap),
-        4 => code_profile::parameters_of(Profile::DeepWrap),
-        _ => code_profile::default_parameters(),
+// A profile by its number, 0 being the Rust's default.
+fn profile(number: usize) -> Profile {
+    match number {
+        1 => Profile::FastChunk,
+        2 => Profile::Balanced,
+        3 => Profile::CompactWrap,
+        4 => Profile::DeepWrap,
+        _ => Profile::FirstDefault,
     }
 }
 
+// What a seal names: a profile by its number, or, as number 5, none.
+fn named(number: usize) -> Named {
+    if number == 5 {
+        return Named::No;
+    }
+    Named::Yes(profile(number))
+}
+
 // k, the query count, the domain's length, and the domain with zeros after it.
-fn profile(n: usize, y: &mut [u8]) -> Answer {
-    let p = parameters(n);
+fn parameters(p: Parameters, y: &mut [u8]) -> Answer {
     let domain = p.domain;
     put_all(y, 0, &domain);
     Answer {
@@ -70,10 +78,12 @@ pub fn answer(place: usize, n: Numbers, a: &[u64], s: &[u8], y: &mut [u8]) -> An
     match place {
         0 => length(code_level::fold_tree_width(n.0)),
         1 => level_domain(n.0, s, y),
-        2 => profile(n.0, y),
+        2 => parameters(code_profile::parameters_of(profile(n.0)), y),
         3 => domain_length(n.0, s),
         4 => one(code_level::domain::level_domain(s, n.0, y)),
         5 => one(code_commit::level::level_tree(n.0, n.1, n.2, s, a, y)),
+        6 => parameters(code_profile::seal_parameters(named(n.0), n.1 != 0), y),
+        7 => parameters(code_profile::writer_parameters(named(n.0)), y),
         _ => no_room(),
     }
 }

@@ -147,8 +147,8 @@ profile nB
 domain_length bn
 domain_into bnB
 level_tree nnnbwB
-none n
-none n
+seal_parameters nnB
+writer_parameters nB
 check_query bnnnwbb
 check_tail bnnbwb
 build_query nnnwbB

@@ -32,7 +32,7 @@ pub const WRONG: &[Wrong<Eval>] = &[
     ),
     (
         "parameters",
-        "k 2 by default",
+        "k 2 for the Rust's default",
         Eval {
             parameters: |number| {
                 let mut made = parameters(number);
