@@ -1,5 +1,5 @@
 // The code, after code.rs: the shifts L(eps), the codeword of a table, and folds. A table of words is lent as u64 halves, two to a word,
-// the low half first. A refused call changes no lent byte.
+// the low half first. A refused call changes no lent byte. `encode_block` requires: it is a helper for the crate that makes blocks one by one.
 ghost use mathlib.Core.Path.{_≡_};
 ghost use Prim.Native.Nat.{_+_, _*_, _^_, _<_};
 ghost use lib.ListN.{length};
