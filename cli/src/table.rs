@@ -54,8 +54,8 @@ pub fn table_of(bytes: &[u8]) -> Result<Vec<Word>, String> {
     Ok(table)
 }
 
-/// Fails where there is no memory for all levels and trees of a deposit of this shape, the room for a fold, and the table twice. (Memory that
-/// runs out later would end the program without a sentence.)
+/// Fails where there is no memory for the table, all levels and trees of a deposit of this shape, and the room for a fold. (Memory that runs out
+/// later would end the program without a sentence.)
 pub fn room_for(shape: &Shape) -> Result<(), Failure> {
     room_for_many(shape.n, shape.k, 1).map(|_| ())
 }
@@ -67,7 +67,7 @@ pub fn room_for_many(n: usize, k: usize, most: usize) -> Result<usize, Failure> 
         Ok(sizes) => sizes,
         Err(_) => return Ok(most),
     };
-    let words = sizes.levels_words + sizes.half_words + 2 * sizes.table_words;
+    let words = sizes.levels_words + sizes.half_words + sizes.table_words;
     let bytes = 16 * words + sizes.trees_bytes;
     let room = |times: &usize| Vec::<u8>::new().try_reserve_exact(times * bytes).is_ok();
     (1..=most).rev().find(room).ok_or_else(|| {

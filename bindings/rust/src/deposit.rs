@@ -12,7 +12,7 @@ use crate::word::{halves, words, Word};
 use std::fmt;
 
 /// A committed table: its gammas, its codeword (level 0) and level 0's tree. The buffers have room for all levels, which [`Deposit::fold`]
-/// fills.
+/// fills; until then the room behind level 0 takes no memory, since the system makes a page of zeros when it is first written.
 pub struct Deposit {
     base: Vec<u8>,
     sizes: Sizes,
@@ -40,39 +40,27 @@ impl Deposit {
     /// # Ok::<(), dequmlo::Refusal>(())
     /// ```
     pub fn commit(base: &[u8], k: usize, table: &[Word]) -> Result<Deposit, Refusal> {
-        let sizes = Sizes::of(variables(table.len())?, k)?;
-        let table = halves(table);
-        let mut gammas = vec![0u64; 2 * sizes.gamma_words];
-        let mut levels = Vec::with_capacity(2 * sizes.levels_words);
-        levels.resize(2 * sizes.codeword_words, 0u64);
-        let mut trees = Vec::with_capacity(sizes.trees_bytes);
-        trees.resize(sizes.tree_bytes, 0u8);
-        Refusal::unless_done(unsafe {
-            raw::dequmlo_commit(
-                sizes.n,
-                k,
-                base.as_ptr(),
-                base.len(),
-                table.as_ptr(),
-                table.len(),
-                gammas.as_mut_ptr(),
-                gammas.len(),
-                levels.as_mut_ptr(),
-                levels.len(),
-                trees.as_mut_ptr(),
-                trees.len(),
-            )
-        })?;
-        Ok(Deposit {
-            base: base.to_vec(),
-            sizes,
-            gammas,
-            levels,
-            trees,
+        Deposit::made(base, k, table, |sizes, table, gammas, codeword, tree| {
+            Refusal::unless_done(unsafe {
+                raw::dequmlo_commit(
+                    sizes.n,
+                    k,
+                    base.as_ptr(),
+                    base.len(),
+                    table.as_ptr(),
+                    table.len(),
+                    gammas.as_mut_ptr(),
+                    gammas.len(),
+                    codeword.as_mut_ptr(),
+                    codeword.len(),
+                    tree.as_mut_ptr(),
+                    tree.len(),
+                )
+            })
         })
     }
 
-    /// The same on this many threads, which give the same bytes: the blocks of the codeword, and the leaves and parents of its tree, are divided
+    /// The same on this many threads, which give the same bytes: blocks of the codeword and halves of them, and the leaves and parents of its tree, are divided
     /// over them. It needs its buffers and at most 128 KiB of stack a thread.
     pub fn commit_on(
         threads: Threads,
@@ -83,19 +71,35 @@ impl Deposit {
         if threads.number() == 1 {
             return Deposit::commit(base, k, table);
         }
+        Deposit::made(base, k, table, |sizes, table, gammas, codeword, tree| {
+            let on = Commitment {
+                threads,
+                sizes,
+                base,
+            };
+            on.commit(table, gammas, codeword, tree)
+        })
+    }
+
+    /// The deposit of a table, its buffers written by `make`, which is given the table's halves, the gammas, the codeword and level 0's tree. Where
+    /// it answers no refusal it has written all of them.
+    fn made(
+        base: &[u8],
+        k: usize,
+        table: &[Word],
+        make: impl FnOnce(Sizes, &[u64], &mut [u64], &mut [u64], &mut [u8]) -> Result<(), Refusal>,
+    ) -> Result<Deposit, Refusal> {
         let sizes = Sizes::of(variables(table.len())?, k)?;
-        let table = halves(table);
         let mut gammas = vec![0u64; 2 * sizes.gamma_words];
-        let mut levels = Vec::with_capacity(2 * sizes.levels_words);
-        levels.resize(2 * sizes.codeword_words, 0u64);
-        let mut trees = Vec::with_capacity(sizes.trees_bytes);
-        trees.resize(sizes.tree_bytes, 0u8);
-        let on = Commitment {
-            threads,
+        let mut levels = vec![0u64; 2 * sizes.levels_words];
+        let mut trees = vec![0u8; sizes.trees_bytes];
+        make(
             sizes,
-            base,
-        };
-        on.commit(&table, &mut gammas, &mut levels, &mut trees)?;
+            halves(table),
+            &mut gammas,
+            &mut levels[..2 * sizes.codeword_words],
+            &mut trees[..sizes.tree_bytes],
+        )?;
         Ok(Deposit {
             base: base.to_vec(),
             sizes,
@@ -114,7 +118,7 @@ impl Deposit {
     /// Level 0's root: what the office keeps.
     #[must_use]
     pub fn root(&self) -> Root {
-        root_of(&self.trees)
+        root_of(&self.trees[..self.sizes.tree_bytes])
     }
 
     /// The gammas (j, i), j outer.
@@ -126,58 +130,61 @@ impl Deposit {
     /// The codeword: 2^k blocks, of which the first is the table.
     #[must_use]
     pub fn codeword(&self) -> Vec<Word> {
-        words(&self.levels)
+        words(&self.levels[..2 * self.sizes.codeword_words])
     }
 
     /// Folds by one challenge for each variable and builds every level's tree. Refused with 5 where there are fewer or more challenges.
-    pub fn fold(mut self, challenges: &[Word]) -> Result<Folded, Refusal> {
-        let sizes = self.sizes;
-        let challenges = halves(challenges);
-        let mut half = vec![0u64; 2 * sizes.half_words];
-        let mut roots = vec![0u8; sizes.roots_bytes];
-        self.levels.resize(2 * sizes.levels_words, 0);
-        self.trees.resize(sizes.trees_bytes, 0);
-        Refusal::unless_done(unsafe {
-            raw::dequmlo_fold_levels(
-                sizes.n,
-                sizes.k,
-                self.base.as_ptr(),
-                self.base.len(),
-                challenges.as_ptr(),
-                challenges.len(),
-                self.levels.as_mut_ptr(),
-                self.levels.len(),
-                half.as_mut_ptr(),
-                half.len(),
-                self.trees.as_mut_ptr(),
-                self.trees.len(),
-                roots.as_mut_ptr(),
-                roots.len(),
-            )
-        })?;
-        Ok(Folded {
-            sizes,
-            levels: self.levels,
-            trees: self.trees,
-            roots: roots.chunks_exact(32).map(root_of).collect(),
+    pub fn fold(self, challenges: &[Word]) -> Result<Folded, Refusal> {
+        self.folded(|sizes, base, levels, trees| {
+            let challenges = halves(challenges);
+            let mut half = vec![0u64; 2 * sizes.half_words];
+            let mut roots = vec![0u8; sizes.roots_bytes];
+            Refusal::unless_done(unsafe {
+                raw::dequmlo_fold_levels(
+                    sizes.n,
+                    sizes.k,
+                    base.as_ptr(),
+                    base.len(),
+                    challenges.as_ptr(),
+                    challenges.len(),
+                    levels.as_mut_ptr(),
+                    levels.len(),
+                    half.as_mut_ptr(),
+                    half.len(),
+                    trees.as_mut_ptr(),
+                    trees.len(),
+                    roots.as_mut_ptr(),
+                    roots.len(),
+                )
+            })?;
+            Ok(roots.chunks_exact(32).map(root_of).collect())
         })
     }
 
     /// The same on this many threads, which give the same bytes. On more than one there is no room for a fold beside the levels, and level 0's
     /// tree is not made again.
-    pub fn fold_on(mut self, threads: Threads, challenges: &[Word]) -> Result<Folded, Refusal> {
+    pub fn fold_on(self, threads: Threads, challenges: &[Word]) -> Result<Folded, Refusal> {
         if threads.number() == 1 || challenges.len() != self.sizes.n {
             return self.fold(challenges);
         }
+        self.folded(|sizes, base, levels, trees| {
+            let on = Commitment {
+                threads,
+                sizes,
+                base,
+            };
+            on.fold(challenges, levels, trees)
+        })
+    }
+
+    /// The folded deposit, its further levels and trees written by `make`, which is given the base domain and the room for all levels and all
+    /// trees, with level 0 and its tree at their front. Where it answers the roots it has written all of them.
+    fn folded(
+        mut self,
+        make: impl FnOnce(Sizes, &[u8], &mut [u64], &mut [u8]) -> Result<Vec<Root>, Refusal>,
+    ) -> Result<Folded, Refusal> {
         let sizes = self.sizes;
-        self.levels.resize(2 * sizes.levels_words, 0);
-        self.trees.resize(sizes.trees_bytes, 0);
-        let on = Commitment {
-            threads,
-            sizes,
-            base: &self.base,
-        };
-        let roots = on.fold(challenges, &mut self.levels, &mut self.trees)?;
+        let roots = make(sizes, &self.base, &mut self.levels, &mut self.trees)?;
         Ok(Folded {
             sizes,
             levels: self.levels,
