@@ -1,8 +1,12 @@
-//! Times committing and folding on one thread and on more, in one run: `cargo run --release --example time_threads -- THREADS ROUNDS n,k n,k ..`, or all
-//! cores, 3 rounds and 18,2 where nothing is said. A line has what was timed, n, k, how many threads, the nanoseconds of the best round, and how many
-//! times faster that is than one thread, with tabs between; bench/run reads them.
+//! Times committing and folding in one run: on one thread and on more in buffers that are kept from round to round, and on more in new ones.
+//!
+//!     cargo run --release --example time_threads -- THREADS ROUNDS n,k n,k ..
+//!
+//! All cores, 3 rounds and 18,2 where nothing is said. A line has what was timed, n, k, how many threads, `kept` or `new`, the nanoseconds of the best
+//! round, and how many times faster that is than one thread, with tabs between; bench/run reads them.
 
-use dequmlo::{Deposit, Threads, Word};
+use dequmlo::{Buffers, Deposit, Root, Threads, Word};
+use std::mem;
 use std::time::{Duration, Instant};
 
 /// A base domain of 20 bytes, as the rest of the benchmark has it.
@@ -24,25 +28,81 @@ fn timed<T>(best: &mut Duration, work: impl FnOnce() -> T) -> T {
     done
 }
 
-/// The best times of committing and of folding, on one thread and on these. On one thread folding makes level 0's tree again.
-fn best_times(threads: Threads, rounds: usize, n: usize, k: usize) -> [[Duration; 2]; 2] {
-    let (table, challenges) = drawn(n);
-    let mut best = [[Duration::MAX; 2]; 2];
-    for _ in 0..rounds {
-        let mut roots = Vec::new();
-        for (i, on) in [Threads::of(1), threads].into_iter().enumerate() {
-            let deposit = timed(&mut best[0][i], || Deposit::commit_on(on, BASE, k, &table))
-                .expect("it can be committed");
-            let folded = timed(&mut best[1][i], || deposit.fold_on(on, &challenges))
-                .expect("it can be folded");
-            roots.push(folded.roots());
+/// One way to make a deposit, and its best times.
+struct Way {
+    threads: Threads,
+    keeps: bool,
+    commit: Duration,
+    fold: Duration,
+}
+
+impl Way {
+    fn new(threads: Threads, keeps: bool) -> Way {
+        Way {
+            threads,
+            keeps,
+            commit: Duration::MAX,
+            fold: Duration::MAX,
         }
-        assert_eq!(
-            roots[0], roots[1],
-            "every number of threads gives the same roots"
+    }
+
+    /// A round: the roots. New buffers are given back to the system when both times are taken.
+    fn round(
+        &mut self,
+        kept: &mut Buffers,
+        k: usize,
+        table: &[Word],
+        challenges: &[Word],
+    ) -> Vec<Root> {
+        let on = self.threads;
+        let buffers = if self.keeps {
+            mem::take(kept)
+        } else {
+            Buffers::default()
+        };
+        let commit = || Deposit::commit_in(buffers, on, BASE, k, table);
+        let deposit = timed(&mut self.commit, commit).expect("it can be committed");
+        let fold = || deposit.fold_on(on, challenges);
+        let folded = timed(&mut self.fold, fold).expect("it can be folded");
+        let roots = folded.roots();
+        if self.keeps {
+            *kept = folded.into_buffers();
+        }
+        roots
+    }
+}
+
+/// One thread, these threads, and these in new buffers. On one thread folding makes level 0's tree again.
+fn ways(threads: Threads, rounds: usize, n: usize, k: usize) -> [Way; 3] {
+    let (table, challenges) = drawn(n);
+    let mut ways = [
+        Way::new(Threads::of(1), true),
+        Way::new(threads, true),
+        Way::new(threads, false),
+    ];
+    // The first round makes the buffers that are kept, so it does not count.
+    let mut kept = Buffers::default();
+    let roots = Way::new(threads, true).round(&mut kept, k, &table, &challenges);
+    for _ in 0..rounds {
+        for way in &mut ways {
+            let same = way.round(&mut kept, k, &table, &challenges) == roots;
+            assert!(same, "every way gives the same roots");
+        }
+    }
+    ways
+}
+
+/// A line for each way of doing this.
+fn print(what: &str, n: usize, k: usize, ways: &[Way], took: impl Fn(&Way) -> Duration) {
+    for way in ways {
+        println!(
+            "{what}\t{n}\t{k}\t{}\t{}\t{}\t{:.2}",
+            way.threads.number(),
+            if way.keeps { "kept" } else { "new" },
+            took(way).as_nanos(),
+            took(&ways[0]).as_secs_f64() / took(way).as_secs_f64()
         );
     }
-    best
 }
 
 fn main() {
@@ -63,15 +123,8 @@ fn main() {
         _ => vec![(18, 2)],
     };
     for (n, k) in sizes {
-        let best = best_times(threads, rounds, n, k);
-        for (what, [one, more]) in ["commit", "all folds with trees"].iter().zip(best) {
-            for (number, took) in [(1, one), (threads.number(), more)] {
-                println!(
-                    "{what}\t{n}\t{k}\t{number}\t{}\t{:.2}",
-                    took.as_nanos(),
-                    one.as_secs_f64() / took.as_secs_f64()
-                );
-            }
-        }
+        let ways = ways(threads, rounds, n, k);
+        print("commit", n, k, &ways, |way| way.commit);
+        print("all folds with trees", n, k, &ways, |way| way.fold);
     }
 }
