@@ -34,7 +34,7 @@ impl fmt::Debug for Buffers {
     }
 }
 
-/// Each of these gives as much of a buffer as the sizes fix, which the archive asks for: the rest is an earlier deposit's.
+/// What is given of a buffer is as much as the sizes fix, which the archive asks for: the rest is an earlier deposit's.
 impl Buffers {
     /// Buffers that are large enough, these where they are.
     pub(crate) fn with_room(self, sizes: &Sizes) -> Buffers {
