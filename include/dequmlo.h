@@ -189,6 +189,13 @@ uint32_t dequmlo_gammas(size_t n, size_t k, const uint8_t *base, size_t base_len
 uint32_t dequmlo_codeword_block(size_t n, size_t k, size_t eps, const uint64_t *table, size_t table_length, const uint64_t *gammas,
                                 size_t gammas_length, uint64_t *out, size_t out_length);
 
+/* Half a block of the codeword of a table: words half * 2^(n-1) to half * 2^(n-1) + 2^(n-1) - 1 of the codeword, so that block eps has the halves
+   2 * eps and 2 * eps + 1. The halves of block 0 are copies and cost nothing; each other one costs half a block and a fold.
+   - table: 2^n words. gammas: k * n words. out: 2^(n-1) words.
+   Refuses: 4 (n is not from 1 to 20, k), 5 (a length), 11 (half is not below 2^(k+1)). */
+uint32_t dequmlo_codeword_half(size_t n, size_t k, size_t half, const uint64_t *table, size_t table_length, const uint64_t *gammas,
+                               size_t gammas_length, uint64_t *out, size_t out_length);
+
 /* Entries of a fold, from entry `first` on, as many as `out` has words: a part of what `dequmlo_fold` makes.
    - codeword: all 2^(n+k) words. out: any number of words.
    Refuses: 4 (n, k), 5 (a length), 6 (var is not below n), 11 (the entries do not end within the fold). */

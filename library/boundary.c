@@ -90,6 +90,10 @@ static answer run_codeword_block(const call *c, const lent *b) {
     return plain(dequmlo_codeword_block(c->numbers[0], c->numbers[1], c->numbers[2], WORDS(0), WORDS(1), WORDS(2)));
 }
 
+static answer run_codeword_half(const call *c, const lent *b) {
+    return plain(dequmlo_codeword_half(c->numbers[0], c->numbers[1], c->numbers[2], WORDS(0), WORDS(1), WORDS(2)));
+}
+
 static answer run_fold_part(const call *c, const lent *b) {
     return plain(dequmlo_fold_part(c->numbers[0], c->numbers[1], c->numbers[2], c->word, c->numbers[3], WORDS(0), WORDS(1)));
 }
@@ -409,6 +413,17 @@ int main(void) {
     number(&block, 2, 1 << K, 11);
     number(&block, 2, (size_t)-1, 11);
     for (size_t i = 0; i < 3; i++) number_first(&block, 2, 1 << K, i, block.slice[i].count - 1, 5);
+
+    call half = {"codeword_half", run_codeword_half, {N, K, 2}, 3,
+                 {reads(table, 8, 2 << N, 5), reads(scratch, 8, 2 * K * N, 5), writes(scratch, 8, 1 << N)}, 0, {0, 0}};
+    lengths(&half);
+    sizes(&half, 0, 1, 1);
+    number(&half, 0, N + 1, 5);
+    number(&half, 2, 0, 0);
+    number(&half, 2, (2 << K) - 1, 0);
+    number(&half, 2, 2 << K, 11);
+    number(&half, 2, (size_t)-1, 11);
+    for (size_t i = 0; i < 3; i++) number_first(&half, 2, 2 << K, i, half.slice[i].count - 1, 5);
 
     /* The fold has 8 entries; the part is 3 of them. */
     call fold_part = {"fold_part", run_fold_part, {N, K, 0, 2}, 2, {reads(all_levels, 8, 2 * words, 5), writes_any(scratch, 8, 6)}, 0, {3, 4}};

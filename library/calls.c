@@ -57,7 +57,7 @@ static void trees(void) {
     MUST(d.number == 0 && memcmp(d.bytes, tree + 192, 32) == 0);
 }
 
-/* Blocks are those of the codeword; a fold and level 0's tree, divided into parts of this many entries or digests, are those made whole. */
+/* Blocks and their halves are those of the codeword; a fold and level 0's tree, divided into parts of this many entries or digests, are those made whole. */
 static void parts(size_t n, size_t k, size_t each) {
     seal s = sealed(n, k, 0, n + k);
     size_t words = level_words(n, k, 0), width = dequmlo_fold_tree_width(words), groups = words / width, size = tree_bytes(words), block = (size_t)2 << n;
@@ -67,6 +67,10 @@ static void parts(size_t n, size_t k, size_t each) {
     MUST(dequmlo_level_domain((const uint8_t *)s.base, strlen(s.base), 0, domain, length) == 0);
     for (size_t eps = 0; eps < (size_t)1 << k; eps++)
         MUST(dequmlo_codeword_block(n, k, eps, s.table, block, s.gammas, 2 * k * n, made + eps * block, block) == 0);
+    MUST(memcmp(made, s.levels, 16 * words) == 0);
+    memset(made, 0x5a, 16 * words);
+    for (size_t half = 0; half < (size_t)2 << k; half++)
+        MUST(dequmlo_codeword_half(n, k, half, s.table, block, s.gammas, 2 * k * n, made + half * (block / 2), block / 2) == 0);
     MUST(memcmp(made, s.levels, 16 * words) == 0);
     for (size_t var = 0; var < n; var++) {
         MUST(dequmlo_fold(n, k, var, s.claim, s.levels, 2 * words, folded, words).number == 0);

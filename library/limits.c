@@ -135,6 +135,14 @@ static uint32_t codeword_block(const size_t *v) {
     return number;
 }
 
+/* n, k, half. The same half as in the codeword that was committed. */
+static uint32_t codeword_half(const size_t *v) {
+    size_t n = v[0], k = v[1], words = ((size_t)1 << n) / 2;
+    uint32_t number = dequmlo_codeword_half(n, k, v[2], WORDS(TABLE, (size_t)1 << n), WORDS(GAMMAS, k * n), WORDS(HALF, words));
+    if (number == 0 && n == 20) MUST(memcmp(halves_of(HALF, words), halves_of(LEVELS, levels_words(n, k)) + 2 * words * v[2], 16 * words) == 0);
+    return number;
+}
+
 /* n, k, variable, first entry, entries. By 1 the last pair folds to the last word. */
 static uint32_t fold_part(const size_t *v) {
     size_t n = v[0], k = v[1], words = level_words(n, k, 0);
@@ -367,6 +375,14 @@ static const row rows[] = {
     {CALL(codeword_block), {0, 0, 1}, 11},
     {CALL(codeword_block), {21, 4, 15}, 4},
     {CALL(codeword_block), {20, 5, 15}, 4},
+
+    {CALL(codeword_half), {1, 0, 1}, 0},
+    {CALL(codeword_half), {20, 4, 31}, 0},
+    {CALL(codeword_half), {20, 4, 32}, 11},
+    {CALL(codeword_half), {1, 0, 2}, 11},
+    {CALL(codeword_half), {0, 0, 0}, 4},
+    {CALL(codeword_half), {21, 4, 31}, 4},
+    {CALL(codeword_half), {20, 5, 31}, 4},
 
     {CALL(fold_part), {20, 4, 19, MOST / 2 - 1, 1}, 0},
     {CALL(fold_part), {20, 4, 0, 0, MOST / 2}, 0},

@@ -35,6 +35,10 @@ static void codeword_block(void) {
     size_t block = (size_t)2 << s.n;
     MUST(dequmlo_codeword_block(s.n, s.k, 1, s.table, block, s.gammas, 2 * s.k * s.n, words, block) == 0);
 }
+static void codeword_half(void) {
+    size_t half = (size_t)1 << s.n;
+    MUST(dequmlo_codeword_half(s.n, s.k, 2, s.table, 2 * half, s.gammas, 2 * s.k * s.n, words, half) == 0);
+}
 static void fold_part(void) { MUST(dequmlo_fold_part(s.n, s.k, 0, s.claim, 1, s.levels, 2 * level_words(s.n, s.k, 0), words, 1000) == 0); }
 static void gammas(void) { MUST(dequmlo_gammas(s.n, s.k, BASE, s.gammas, 2 * s.k * s.n) == 0); }
 static void next_part(void) { MUST(dequmlo_next_part(s.n, s.k, 0, s.claim, 1, s.levels, 2 * level_words(s.n, s.k, 0), words, 1000) == 0); }
@@ -60,6 +64,12 @@ static void compare(void) {
 static void partial_evals(void) { MUST(dequmlo_partial_evals(s.n, s.table, (size_t)2 << s.n, table, (size_t)2 << s.n, words, 256) == 0); }
 static void fold_partials(void) { MUST(dequmlo_fold_partials(words, 256, rows).number == 0); }
 static void materialize(void) { MUST(dequmlo_materialize(s.n, s.challenges, 2 * s.n, rows, table, (size_t)2 << s.n) == 0); }
+static void small_answers(void) {
+    static volatile size_t kept;
+    kept = dequmlo_sizes(s.n, s.k).levels + dequmlo_fold_tree_width(16) + dequmlo_level_domain_length(BASE, 8).length;
+    kept += dequmlo_default_parameters().k + dequmlo_unnamed_parameters(1).k + dequmlo_firstdefault().k;
+    kept += dequmlo_fastchunk().k + dequmlo_balanced().k + dequmlo_compactwrap().k + dequmlo_deepwrap().k;
+}
 static void eval_at(void) { MUST(dequmlo_eval_at(s.n, s.challenges, 2 * s.n, rows, s.challenges, 2 * s.n).number == 0); }
 
 typedef struct {
@@ -101,6 +111,7 @@ int main(void) {
         {"level_leaves", level_leaves},
         {"level_parents", level_parents},
         {"codeword_block", codeword_block},
+        {"codeword_half", codeword_half},
         {"fold_part", fold_part},
         {"tree_leaves", tree_leaves},
         {"tree_parents", tree_parents},
@@ -115,6 +126,7 @@ int main(void) {
         {"fold_partials", fold_partials},
         {"materialize", materialize},
         {"eval_at", eval_at},
+        {"sizes and parameters", small_answers},
     };
     static const function empty = {"nothing", nothing};
     s = sealed(8, 2, 100, 1);

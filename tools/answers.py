@@ -259,6 +259,16 @@ def codeword_block(n, k, eps, table, gammas, out):
 
 
 @operation
+def codeword_half(n, k, half, table, gammas, out):
+    ranged = n > 0 and in_range(n, k)
+    sized = ranged and halves(table) == 2 << n and halves(gammas) == 2 * n * k and out == 1 << n
+    number = no((4, ranged), (5, sized), (11, ranged and half < 2 << k))
+    if number:
+        return [number], []
+    return [0], [packed(encode(n, k, ints(table), ints(gammas))[half << n - 1 : half + 1 << n - 1])]
+
+
+@operation
 def fold_part(n, k, var, r, first, values, out):
     sized = in_range(n, k) and halves(values) == 2 << n + k and out % 2 == 0
     number = no((4, in_range(n, k)), (5, sized), (6, var < n), (11, in_range(n, k) and first + out // 2 <= (1 << n + k) // 2))
@@ -477,6 +487,10 @@ def domain_into(base, level, out):
     return done(no((4, level <= 20), (5, out == len(domain)), (7, len(base) <= 200)), domain)
 
 
+def has_level(n, k, l):
+    return 1 <= n and in_range(n, k) and l <= n
+
+
 def level_sizes(n, k, l):
     """Halves of the level's words, and bytes of its tree."""
     count, width, _ = records.shape(n, k, l)
@@ -485,12 +499,38 @@ def level_sizes(n, k, l):
 
 @operation
 def level_tree(n, k, l, base, values, out):
-    number = no((4, 1 <= n and in_range(n, k) and l <= n))
+    number = no((4, has_level(n, k, l)))
     if number == 0:
         number = no((5, (halves(values), out) == level_sizes(n, k, l)), (7, len(base) <= 200))
     if number:
         return [number], []
     return [0], [b"".join(tree(level_domain(base, l), fold_tree_width(len(values) // 16), ints(values)))]
+
+
+@operation
+def next_part(n, k, l, r, first, values, out):
+    number = no((4, has_level(n, k, l + 1)))
+    if number == 0:
+        count, _, _ = records.shape(n, k, l)
+        number = no((5, halves(values) == 2 * count and out % 2 == 0), (11, first + out // 2 <= count // 2))
+    return done(number, *([packed(fold_first(ints(values), ints(r)[0])[first : first + out // 2])] if number == 0 else []))
+
+
+@operation
+def level_leaves(n, k, l, base, first, values, out):
+    number = no((4, has_level(n, k, l)))
+    if number == 0:
+        count, width, _ = records.shape(n, k, l)
+        number = no((5, halves(values) == 2 * count and out % 32 == 0), (7, len(base) <= 200), (11, first + out // 32 <= count // width))
+    if number:
+        return [number], []
+    return [0], [b"".join(tree(level_domain(base, l), width, ints(values)))[32 * first : 32 * first + out]]
+
+
+@operation
+def level_parents(n, k, l, base, height, children, out):
+    number = no((4, has_level(n, k, l)), (5, len(children) % 64 == 0 and out == len(children) // 2), (7, len(base) <= 200))
+    return [number], [] if number else parents(level_domain(base, l), height, children, out)[1]
 
 
 @operation

@@ -127,6 +127,11 @@ def code(some):
     yield from ["codeword_block 0 0 0 7 - 2", "codeword_block 0 0 1 7 - 2", "codeword_block 21 0 0 7 - 2", "codeword_block 1 5 0 5,9 3 4"]
     yield from ["codeword_block 1 1 1 5,9 7 4", "codeword_block 1 1 2 5,9 7 3", "codeword_block 1 1 2 5,h9 7 4", "codeword_block 1 1 2 5,9 - 4"]
     yield from ["codeword_block 21 5 40 5 7 4", "codeword_block 20 4 16 0x80 0x80 160"]
+    yield from ["codeword_half 3 2 %d %s %s 8" % (half, table, gammas) for half in range(9)]
+    yield from ["codeword_half 1 0 %d 5,9 - 2" % half for half in range(3)] + ["codeword_half 1 1 %d 5,9 7 2" % half for half in range(5)]
+    yield from ["codeword_half 0 0 0 7 - 1", "codeword_half 0 5 9 7 - 2", "codeword_half 21 0 0 7 - 2", "codeword_half 1 5 0 5,9 3 2"]
+    yield from ["codeword_half 1 1 4 5,9 7 3", "codeword_half 1 1 4 5,9 7 4", "codeword_half 1 1 4 5,h9 7 2", "codeword_half 1 1 4 5,9 - 2"]
+    yield from ["codeword_half 21 5 40 5 7 4", "codeword_half 20 4 32 0x80 0x80 160"]
     for var, first, entries in [(0, 0, 8), (0, 3, 2), (1, 0, 3), (1, 3, 5), (2, 1, 6), (2, 7, 1), (2, 8, 0), (0, 8, 0)]:
         yield "fold_part 3 1 %d 2 %d ~w9x16 %d" % (var, first, 2 * entries)
     yield from ["fold_part 3 1 0 2 8 ~w9x16 2", "fold_part 3 1 0 2 9 ~w9x16 0", "fold_part 3 1 0 2 0 ~w9x16 18", "fold_part 3 1 0 2 18446744073709551615 ~w9x16 2"]

@@ -521,6 +521,21 @@ def all_levels_lines():
     yield "fold_levels 5 2 61 1,2,3,4,5 9x128 %d 128 %d 192" % (2 * (128 + 64 + 32 + 16 + 8 + 4), 32 * (31 + 15 + 7 + 3 + 7 + 3))
 
 
+def level_part_lines():
+    """Parts of a level of eight words and of its tree: the first, one between, the last, all and none; then 4, 5, 7 and 11, alone and in pairs."""
+    values, past = ",".join(str(3 * i + 1) for i in range(8)), (1 << 64) - 1
+    for first, count in [(0, 1), (1, 2), (3, 1), (0, 4), (4, 0)]:
+        yield "next_part 2 1 0 9 %d %s %d" % (first, values, 2 * count)
+        yield "level_leaves 2 1 0 61 %d %s %d" % (first, values, 32 * count)
+        yield "level_parents 2 1 0 61 %d ~b1x%d %d" % (first, 64 * count, 32 * count)
+    yield from in_pairs("next_part", [2, 1, 1, 9, 1, "5,9,3,7", 2], [(2, 2), (6, 3), (4, past)])
+    yield from ["next_part 0 1 0 9 0 5,9 0", "next_part 2 5 1 9 1 5,9,3,7 2", "next_part 2 1 1 9 1 5,9,3 2", "next_part 2 1 1 9 1 5,9,3,7 4"]
+    yield from in_pairs("level_leaves", [3, 1, 3, "61x200", 0, "5,9", 32], [(2, 4), (6, 33), (3, "61x201"), (4, past)])
+    yield from ["level_leaves 21 1 3 61 0 5,9 32", "level_leaves 3 5 3 61 0 5,9 32", "level_leaves 3 1 3 61 0 5,9,3 32", "level_leaves 3 1 3 61 1 5,9 32"]
+    yield from in_pairs("level_parents", [1, 1, 1, "61x200", 0, "~b1x128", 64], [(2, 2), (6, 63), (3, "61x201")])
+    yield from ["level_parents 0 1 0 61 0 ~b1x64 32", "level_parents 1 5 1 61 0 ~b1x64 32", "level_parents 1 1 1 61 0 ~b1x96 48"]
+
+
 def difference_lines():
     yield from ["# 6: base domains of 81 and 200 bytes", "commit 2 0 64x81 0x4 0 8 32", "commit 2 0 64x200 0x4 0 8 32"]
     yield from ["# 8: n = 0", "build_query 0 0 0 5 00x32 4", "check_query - 0 0 0 - 00x32 00x4"]
@@ -553,7 +568,7 @@ def files():
     compare_store = Store()
     return [
         ("levels.txt", text([*level_lines(), *commit_lines()])),
-        ("all_levels.txt", text(all_levels_lines())),
+        ("all_levels.txt", text([*all_levels_lines(), *level_part_lines()])),
         ("accepted.txt", text(case_lines(accepted()))),
         ("query.txt", text(case_lines(query_cases()))),
         ("tail.txt", text(case_lines(tail_cases()))),

@@ -3,11 +3,12 @@
 use crate::manifest::{escaped, part_count, part_place, Entry, Manifest};
 use crate::outcome::{Failure, Outcome};
 use crate::progress::Progress;
-use crate::reading::{not_a_file, reason, shown_name, shown_path, stretch, unreadable};
-use crate::table::{room_for_many, table_of, variables};
-use dequmlo::{Deposit, Refusal, Root, Threads};
+use crate::reading::{not_a_file, reason, shown_name, shown_path, stretch_in, unreadable};
+use crate::table::{room_for_many, table_in, table_of, variables};
+use dequmlo::{Buffers, Deposit, Refusal, Root, Threads, Word};
 use std::ffi::OsStr;
 use std::fs;
+use std::mem;
 use std::os::unix::ffi::OsStrExt;
 use std::path::{Path, PathBuf};
 use std::sync::atomic::{AtomicU64, AtomicUsize, Ordering};
@@ -65,20 +66,20 @@ pub fn written_path(path: &[u8]) -> String {
     shown_name(OsStr::new(&escaped(path)))
 }
 
-/// The bytes of a part of a file. The file must still have the length that it had when the folder was looked through.
-pub fn part_of_file(path: &Path, bytes: u64, index: usize) -> Result<Vec<u8>, Failure> {
+/// The bytes of a part of a file, in place of what is there. The file must still have the length that it had when the folder was looked through.
+fn part_of_file(read: &mut Vec<u8>, path: &Path, bytes: u64, index: usize) -> Result<(), Failure> {
     let (start, size) = part_place(bytes, index);
     let is_last = index + 1 == part_count(bytes);
     // One byte behind the last part shows that the file has grown.
     let most = if is_last { size + 1 } else { size };
-    let read = stretch(path, start, most).map_err(|e| unreadable(path, e))?;
+    stretch_in(read, path, start, most).map_err(|e| unreadable(path, e))?;
     if read.len() != size {
         return Err(Failure(format!(
             "{} was changed while the project was read; run the command again when nobody writes into it",
             shown_path(path)
         )));
     }
-    Ok(read)
+    Ok(())
 }
 
 /// Why the parts of a project were not committed.
@@ -102,6 +103,26 @@ pub fn root_of(bytes: &[u8], threads: Threads, k: usize, domain: &[u8]) -> Resul
     Deposit::commit_on(threads, domain, k, &table).map(|deposit| deposit.root())
 }
 
+/// What a thread keeps from one part to the next, so that the system makes its pages once.
+#[derive(Default)]
+struct Kept {
+    bytes: Vec<u8>,
+    table: Vec<Word>,
+    buffers: Buffers,
+}
+
+impl Kept {
+    /// The root of the bytes that were read.
+    fn root(&mut self, k: usize, domain: &[u8]) -> Result<Root, Refusal> {
+        table_in(&mut self.table, &self.bytes).expect("no more bytes than a deposit has");
+        let buffers = mem::take(&mut self.buffers);
+        let deposit = Deposit::commit_in(buffers, Threads::of(1), domain, k, &self.table)?;
+        let root = deposit.root();
+        self.buffers = deposit.into_buffers();
+        Ok(root)
+    }
+}
+
 /// The manifest of these files of a folder, whose parts are committed on so many threads, a part to a thread at a time.
 pub fn manifest_of(
     folder: &Path,
@@ -114,7 +135,7 @@ pub fn manifest_of(
     for (file, (_, bytes)) in files.iter().enumerate() {
         jobs.extend((0..part_count(*bytes)).map(|part| (file, part)));
     }
-    // The largest first, so that no core is left with one of them at the end.
+    // The largest first, so that no core is left with one of them at the end, and that the buffers of a thread's first part serve for all others.
     let size = |(file, part): &Job| part_place(files[*file].1, *part).1;
     jobs.sort_by_key(|job| std::cmp::Reverse(size(job)));
     let largest = variables(jobs.first().map_or(0, size));
@@ -125,12 +146,13 @@ pub fn manifest_of(
     thread::scope(|scope| {
         for _ in 0..threads {
             scope.spawn(|| {
+                let mut kept = Kept::default();
                 work.take(|(file, part)| {
                     let (path, bytes) = &files[file];
-                    let read = part_of_file(&file_path(folder, path), *bytes, part);
-                    let read = read.map_err(Stop::Failed)?;
-                    let root = root_of(&read, Threads::of(1), k, domain).map_err(Stop::Refused)?;
-                    Ok((root, read.len()))
+                    part_of_file(&mut kept.bytes, &file_path(folder, path), *bytes, part)
+                        .map_err(Stop::Failed)?;
+                    let root = kept.root(k, domain).map_err(Stop::Refused)?;
+                    Ok((root, kept.bytes.len()))
                 })
             });
         }
@@ -171,7 +193,7 @@ impl<'a> Work<'a> {
     }
 
     /// Does one part after another until there is none left, or until one was not done.
-    fn take(&self, commit: impl Fn(Job) -> Result<(Root, usize), Stop>) {
+    fn take(&self, mut commit: impl FnMut(Job) -> Result<(Root, usize), Stop>) {
         while let Some(job) = self.jobs.get(self.next.fetch_add(1, Ordering::Relaxed)) {
             let committed = commit(*job);
             let mut done = self.done.lock().expect("no part ends with a fault");
@@ -212,9 +234,11 @@ mod tests {
     fn a_file_that_grew_or_shrank_since_it_was_listed_is_not_read() {
         let path = std::env::temp_dir().join(format!("seal-part-{}", std::process::id()));
         std::fs::write(&path, b"plans").unwrap();
-        assert_eq!(part_of_file(&path, 5, 0).unwrap(), b"plans");
+        let mut read = b"the part before, which was longer".to_vec();
+        assert!(part_of_file(&mut read, &path, 5, 0).is_ok());
+        assert_eq!(read, b"plans");
         for bytes in [0, 4, 6, PART, PART + 1] {
-            let said = part_of_file(&path, bytes, 0).err().unwrap().0;
+            let said = part_of_file(&mut read, &path, bytes, 0).err().unwrap().0;
             assert!(said.contains("was changed while"), "{said}");
         }
         std::fs::remove_file(path).unwrap();

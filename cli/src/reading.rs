@@ -47,12 +47,19 @@ pub fn inside(folder: &Path, name: &str, most: usize) -> Result<Vec<u8>, Unread>
 
 /// The bytes of a regular file, no link, from a place on: so many, or fewer where it ends before.
 pub fn stretch(path: &Path, start: u64, size: usize) -> Result<Vec<u8>, Unread> {
+    let mut bytes = Vec::new();
+    stretch_in(&mut bytes, path, start, size).map(|()| bytes)
+}
+
+/// The same in place of what is there.
+pub fn stretch_in(bytes: &mut Vec<u8>, path: &Path, start: u64, size: usize) -> Result<(), Unread> {
     regular(fs::symlink_metadata(path)?.file_type())?;
     let mut file = opened(path, O_NOFOLLOW)?;
-    let mut bytes = Vec::with_capacity(size);
+    bytes.clear();
+    bytes.reserve_exact(size);
     file.seek(SeekFrom::Start(start))?;
-    file.take(size as u64).read_to_end(&mut bytes)?;
-    Ok(bytes)
+    file.take(size as u64).read_to_end(bytes)?;
+    Ok(())
 }
 
 /// The first bytes of a file that the command line names, which may be a link to one.

@@ -38,24 +38,31 @@ pub const MOST_BYTES: usize = 16 * ((1 << 20) - 1);
 
 /// The table of these bytes, or a sentence where they are too many.
 pub fn table_of(bytes: &[u8]) -> Result<Vec<Word>, String> {
+    let mut table = Vec::new();
+    table_in(&mut table, bytes).map(|()| table)
+}
+
+/// The same in place of what is there.
+pub fn table_in(table: &mut Vec<Word>, bytes: &[u8]) -> Result<(), String> {
     if bytes.len() > MOST_BYTES {
         return Err(format!(
             "the file has more than {MOST_BYTES} bytes, the most that a deposit has (n = 20); divide it and seal each part"
         ));
     }
     let count = words_of(bytes.len());
-    let mut table = vec![Word(0); count];
+    table.clear();
+    table.resize(count, Word(0));
     for (word, chunk) in table.iter_mut().zip(bytes.chunks(16)) {
         let mut padded = [0; 16];
         padded[..chunk.len()].copy_from_slice(chunk);
         *word = Word(u128::from_le_bytes(padded));
     }
     table[count - 1] = Word(bytes.len() as u128);
-    Ok(table)
+    Ok(())
 }
 
-/// Fails where there is no memory for all levels and trees of a deposit of this shape, the room for a fold, and the table twice. (Memory that
-/// runs out later would end the program without a sentence.)
+/// Fails where there is no memory for the table, all levels and trees of a deposit of this shape, and the room for a fold. (Memory that runs out
+/// later would end the program without a sentence.)
 pub fn room_for(shape: &Shape) -> Result<(), Failure> {
     room_for_many(shape.n, shape.k, 1).map(|_| ())
 }
@@ -67,7 +74,7 @@ pub fn room_for_many(n: usize, k: usize, most: usize) -> Result<usize, Failure> 
         Ok(sizes) => sizes,
         Err(_) => return Ok(most),
     };
-    let words = sizes.levels_words + sizes.half_words + 2 * sizes.table_words;
+    let words = sizes.levels_words + sizes.half_words + sizes.table_words;
     let bytes = 16 * words + sizes.trees_bytes;
     let room = |times: &usize| Vec::<u8>::new().try_reserve_exact(times * bytes).is_ok();
     (1..=most).rev().find(room).ok_or_else(|| {
@@ -90,7 +97,7 @@ fn words_of(bytes: usize) -> usize {
 
 #[cfg(test)]
 mod tests {
-    use super::{table_of, MOST_BYTES};
+    use super::{table_in, table_of, MOST_BYTES};
     use dequmlo::Word;
 
     #[test]
@@ -101,6 +108,15 @@ mod tests {
             table_of(&[255; 17]).unwrap(),
             [Word(u128::MAX), Word(255), Word(0), Word(17)]
         );
+    }
+
+    #[test]
+    fn nothing_of_the_table_before_stays() {
+        let mut table = table_of(&[255; 100]).unwrap();
+        for bytes in [&[1; 17][..], &[2; 100], b"", &[3; 200]] {
+            table_in(&mut table, bytes).unwrap();
+            assert_eq!(table, table_of(bytes).unwrap());
+        }
     }
 
     #[test]

@@ -1,4 +1,4 @@
-//! The Rust's own times, on one thread, best of several: `name<TAB>ns`.
+//! The Rust's own times, best of several: `name<TAB>ns`. On one thread; and what it divides over its threads, on more.
 
 use magnetar_field::{avx, eq, gf128};
 use magnetar_hash::MerkleTree;
@@ -23,13 +23,23 @@ pub fn run(kind: &str, large: bool) {
     }
 }
 
-/// Runs the work `rounds` times; the shortest time, over `items`.
-fn best(rounds: usize, items: usize, mut work: impl FnMut()) -> f64 {
+/// Prints the times of what the Rust divides, on this many threads; their names say that it is on threads.
+pub fn run_divided(kind: &str, threads: &str, large: bool) {
+    println!("# kind {kind}, {threads} threads, best of several, ns an operation");
+    divided(18, 2, 15);
+    if large {
+        divided(20, 4, 5);
+    }
+}
+
+/// Runs the work `rounds` times; the shortest time, over `items`. What the work hands back is freed outside of its time.
+fn best<T>(rounds: usize, items: usize, mut work: impl FnMut() -> T) -> f64 {
     let mut least = f64::INFINITY;
     for _ in 0..rounds {
         let start = Instant::now();
-        work();
+        let made = work();
         least = least.min(start.elapsed().as_nanos() as f64);
+        drop(made);
     }
     least / items as f64
 }
@@ -139,6 +149,31 @@ fn hashes() {
     );
 }
 
+/// Committing and all folds with their trees.
+fn divided(n: usize, k: usize, rounds: usize) {
+    let (table, challenges) = (some_words(1 << n), some_words(n));
+    let codeword = Codeword::encode(&CodeParams::derive(n, k, DOMAIN), &table);
+    print_commit(&format!("commit_on_threads_n{n}_k{k}"), rounds, k, &table);
+    let name = format!("folds_with_trees_on_threads_n{n}_k{k}");
+    print_folds_with_trees(&name, rounds, &codeword, &challenges);
+}
+
+fn print_commit(name: &str, rounds: usize, k: usize, table: &[Word]) {
+    print(
+        name,
+        best(rounds, 1, || black_box(query::commit(k, DOMAIN, table))),
+    );
+}
+
+fn print_folds_with_trees(name: &str, rounds: usize, codeword: &Codeword, challenges: &[Word]) {
+    print(
+        name,
+        best(rounds, 1, || {
+            black_box(fold_all(codeword, challenges, build_level));
+        }),
+    );
+}
+
 /// Everything at one n and k.
 fn commitment(n: usize, k: usize, rounds: usize) {
     let name = |what: &str| format!("{what}_n{n}_k{k}");
@@ -159,24 +194,14 @@ fn commitment(n: usize, k: usize, rounds: usize) {
             black_box(MerkleTree::build_batched(&domain, &codeword.values, width));
         }),
     );
-    print(
-        &name("commit"),
-        best(rounds, 1, || {
-            black_box(query::commit(k, DOMAIN, &table));
-        }),
-    );
+    print_commit(&name("commit"), rounds, k, &table);
     print(
         &name("folds"),
         best(rounds, 1, || {
             black_box(fold_all(&codeword, &challenges, |_, _| ()));
         }),
     );
-    print(
-        &name("folds_with_trees"),
-        best(rounds, 1, || {
-            black_box(fold_all(&codeword, &challenges, build_level));
-        }),
-    );
+    print_folds_with_trees(&name("folds_with_trees"), rounds, &codeword, &challenges);
     if n == 16 {
         ring(n, &table, &challenges);
     }

@@ -19,7 +19,9 @@ oracle findings     show, by running it, where the Rust differs (docs/DIFFERENCE
 oracle records      print requests on records that the Rust built, intact and damaged
 oracle bench [--large]
                     print the Rust's times on one thread, `name<TAB>ns`;
-                    --large adds n = 20, k = 4";
+                    --large adds n = 20, k = 4
+oracle bench --threads N [--large]
+                    print its times of what it divides, on N threads";
 
 fn main() -> ExitCode {
     let words: Vec<String> = std::env::args().skip(1).collect();
@@ -28,9 +30,11 @@ fn main() -> ExitCode {
         print!("{USAGE}\n\n{}", requests::help());
         return ExitCode::SUCCESS;
     }
-    if let ["bench", ..] = words[..] {
-        // Read by the Rust's thread pool when it first starts.
-        std::env::set_var("RAYON_NUM_THREADS", "1");
+    // Read by the Rust's thread pool when it first starts.
+    match words[..] {
+        ["bench", "--threads", number, ..] => std::env::set_var("RAYON_NUM_THREADS", number),
+        ["bench", ..] => std::env::set_var("RAYON_NUM_THREADS", "1"),
+        _ => (),
     }
     if let ["finding-scalar"] = words[..] {
         // Started by `findings`, for the one kind that is refused below.
@@ -51,6 +55,8 @@ fn main() -> ExitCode {
         ["records"] => print!("{}", records::lines()),
         ["bench"] => bench::run(kind, false),
         ["bench", "--large"] => bench::run(kind, true),
+        ["bench", "--threads", number] => bench::run_divided(kind, number, false),
+        ["bench", "--threads", number, "--large"] => bench::run_divided(kind, number, true),
         _ => {
             eprintln!("{USAGE}");
             return ExitCode::from(2);

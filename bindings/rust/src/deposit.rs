@@ -1,5 +1,6 @@
 //! A deposit: its table committed, then folded by the checker's challenges, so that records can be built.
 
+use crate::buffers::Buffers;
 use crate::raw;
 use crate::record::{QueryRecord, TailRecord};
 use crate::refusal::Refusal;
@@ -12,13 +13,11 @@ use crate::word::{halves, words, Word};
 use std::fmt;
 
 /// A committed table: its gammas, its codeword (level 0) and level 0's tree. The buffers have room for all levels, which [`Deposit::fold`]
-/// fills.
+/// fills; until then the room behind level 0 takes no memory in new buffers, since the system makes a page of zeros when it is first written.
 pub struct Deposit {
     base: Vec<u8>,
     sizes: Sizes,
-    gammas: Vec<u64>,
-    levels: Vec<u64>,
-    trees: Vec<u8>,
+    buffers: Buffers,
 }
 
 /// The shape and the root; the buffers are megabytes.
@@ -40,69 +39,54 @@ impl Deposit {
     /// # Ok::<(), dequmlo::Refusal>(())
     /// ```
     pub fn commit(base: &[u8], k: usize, table: &[Word]) -> Result<Deposit, Refusal> {
-        let sizes = Sizes::of(variables(table.len())?, k)?;
-        let table = halves(table);
-        let mut gammas = vec![0u64; 2 * sizes.gamma_words];
-        let mut levels = Vec::with_capacity(2 * sizes.levels_words);
-        levels.resize(2 * sizes.codeword_words, 0u64);
-        let mut trees = Vec::with_capacity(sizes.trees_bytes);
-        trees.resize(sizes.tree_bytes, 0u8);
-        Refusal::unless_done(unsafe {
-            raw::dequmlo_commit(
-                sizes.n,
-                k,
-                base.as_ptr(),
-                base.len(),
-                table.as_ptr(),
-                table.len(),
-                gammas.as_mut_ptr(),
-                gammas.len(),
-                levels.as_mut_ptr(),
-                levels.len(),
-                trees.as_mut_ptr(),
-                trees.len(),
-            )
-        })?;
-        Ok(Deposit {
-            base: base.to_vec(),
-            sizes,
-            gammas,
-            levels,
-            trees,
-        })
+        Deposit::commit_on(Threads::of(1), base, k, table)
     }
 
-    /// The same on this many threads, which give the same bytes: the blocks of the codeword, and the leaves and parents of its tree, are divided
-    /// over them. It needs its buffers and at most 128 KiB of stack a thread.
+    /// The same on this many threads, which give the same bytes: blocks of the codeword and halves of them, and the leaves and parents of its
+    /// tree, are divided over them. It needs its buffers and at most 128 KiB of stack a thread.
     pub fn commit_on(
         threads: Threads,
         base: &[u8],
         k: usize,
         table: &[Word],
     ) -> Result<Deposit, Refusal> {
-        if threads.number() == 1 {
-            return Deposit::commit(base, k, table);
-        }
+        Deposit::commit_in(Buffers::default(), threads, base, k, table)
+    }
+
+    /// The same in the buffers of an earlier deposit, of whatever n and k, which it has left ([`Deposit::into_buffers`], [`Folded::into_buffers`]); nothing
+    /// of that one shows in this one. Where it is refused, the buffers are gone.
+    pub fn commit_in(
+        buffers: Buffers,
+        threads: Threads,
+        base: &[u8],
+        k: usize,
+        table: &[Word],
+    ) -> Result<Deposit, Refusal> {
         let sizes = Sizes::of(variables(table.len())?, k)?;
+        let mut buffers = buffers.with_room(&sizes);
+        let (gammas, codeword, tree) = buffers.committed_mut(&sizes);
         let table = halves(table);
-        let mut gammas = vec![0u64; 2 * sizes.gamma_words];
-        let mut levels = Vec::with_capacity(2 * sizes.levels_words);
-        levels.resize(2 * sizes.codeword_words, 0u64);
-        let mut trees = Vec::with_capacity(sizes.trees_bytes);
-        trees.resize(sizes.tree_bytes, 0u8);
-        let on = Commitment {
-            threads,
-            sizes,
-            base,
-        };
-        on.commit(&table, &mut gammas, &mut levels, &mut trees)?;
+        if threads.number() == 1 {
+            commit_whole(sizes, base, table, gammas, codeword, tree)?;
+        } else {
+            let on = Commitment {
+                threads,
+                sizes,
+                base,
+            };
+            on.commit(table, gammas, codeword, tree)?;
+        }
         Ok(Deposit {
             base: base.to_vec(),
             sizes,
-            gammas,
-            levels,
-            trees,
+            buffers,
         })
+    }
+
+    /// The buffers, for the next deposit.
+    #[must_use]
+    pub fn into_buffers(self) -> Buffers {
+        self.buffers
     }
 
     /// What n and k fix.
@@ -114,84 +98,113 @@ impl Deposit {
     /// Level 0's root: what the office keeps.
     #[must_use]
     pub fn root(&self) -> Root {
-        root_of(&self.trees)
+        root_of(self.buffers.tree(&self.sizes))
     }
 
     /// The gammas (j, i), j outer.
     #[must_use]
     pub fn gammas(&self) -> Vec<Word> {
-        words(&self.gammas)
+        words(self.buffers.gammas(&self.sizes))
     }
 
     /// The codeword: 2^k blocks, of which the first is the table.
     #[must_use]
     pub fn codeword(&self) -> Vec<Word> {
-        words(&self.levels)
+        words(self.buffers.codeword(&self.sizes))
     }
 
     /// Folds by one challenge for each variable and builds every level's tree. Refused with 5 where there are fewer or more challenges.
-    pub fn fold(mut self, challenges: &[Word]) -> Result<Folded, Refusal> {
-        let sizes = self.sizes;
-        let challenges = halves(challenges);
-        let mut half = vec![0u64; 2 * sizes.half_words];
-        let mut roots = vec![0u8; sizes.roots_bytes];
-        self.levels.resize(2 * sizes.levels_words, 0);
-        self.trees.resize(sizes.trees_bytes, 0);
-        Refusal::unless_done(unsafe {
-            raw::dequmlo_fold_levels(
-                sizes.n,
-                sizes.k,
-                self.base.as_ptr(),
-                self.base.len(),
-                challenges.as_ptr(),
-                challenges.len(),
-                self.levels.as_mut_ptr(),
-                self.levels.len(),
-                half.as_mut_ptr(),
-                half.len(),
-                self.trees.as_mut_ptr(),
-                self.trees.len(),
-                roots.as_mut_ptr(),
-                roots.len(),
-            )
-        })?;
-        Ok(Folded {
-            sizes,
-            levels: self.levels,
-            trees: self.trees,
-            roots: roots.chunks_exact(32).map(root_of).collect(),
+    pub fn fold(self, challenges: &[Word]) -> Result<Folded, Refusal> {
+        self.folded(|sizes, base, levels, trees| {
+            let challenges = halves(challenges);
+            let mut half = vec![0u64; 2 * sizes.half_words];
+            let mut roots = vec![0u8; sizes.roots_bytes];
+            Refusal::unless_done(unsafe {
+                raw::dequmlo_fold_levels(
+                    sizes.n,
+                    sizes.k,
+                    base.as_ptr(),
+                    base.len(),
+                    challenges.as_ptr(),
+                    challenges.len(),
+                    levels.as_mut_ptr(),
+                    levels.len(),
+                    half.as_mut_ptr(),
+                    half.len(),
+                    trees.as_mut_ptr(),
+                    trees.len(),
+                    roots.as_mut_ptr(),
+                    roots.len(),
+                )
+            })?;
+            Ok(roots.chunks_exact(32).map(root_of).collect())
         })
     }
 
     /// The same on this many threads, which give the same bytes. On more than one there is no room for a fold beside the levels, and level 0's
     /// tree is not made again.
-    pub fn fold_on(mut self, threads: Threads, challenges: &[Word]) -> Result<Folded, Refusal> {
+    pub fn fold_on(self, threads: Threads, challenges: &[Word]) -> Result<Folded, Refusal> {
         if threads.number() == 1 || challenges.len() != self.sizes.n {
             return self.fold(challenges);
         }
+        self.folded(|sizes, base, levels, trees| {
+            let on = Commitment {
+                threads,
+                sizes,
+                base,
+            };
+            on.fold(challenges, levels, trees)
+        })
+    }
+
+    /// The folded deposit, its further levels and trees written by `make`, which is given the base domain and the room for all levels and all
+    /// trees, with level 0 and its tree at their front. Where it answers the roots it has written all of them.
+    fn folded(
+        mut self,
+        make: impl FnOnce(Sizes, &[u8], &mut [u64], &mut [u8]) -> Result<Vec<Root>, Refusal>,
+    ) -> Result<Folded, Refusal> {
         let sizes = self.sizes;
-        self.levels.resize(2 * sizes.levels_words, 0);
-        self.trees.resize(sizes.trees_bytes, 0);
-        let on = Commitment {
-            threads,
-            sizes,
-            base: &self.base,
-        };
-        let roots = on.fold(challenges, &mut self.levels, &mut self.trees)?;
+        let (levels, trees) = self.buffers.folded_mut(&sizes);
+        let roots = make(sizes, &self.base, levels, trees)?;
         Ok(Folded {
             sizes,
-            levels: self.levels,
-            trees: self.trees,
+            buffers: self.buffers,
             roots,
         })
     }
 }
 
+/// The gammas, the codeword and level 0's tree of a table's halves in a single call.
+fn commit_whole(
+    sizes: Sizes,
+    base: &[u8],
+    table: &[u64],
+    gammas: &mut [u64],
+    codeword: &mut [u64],
+    tree: &mut [u8],
+) -> Result<(), Refusal> {
+    Refusal::unless_done(unsafe {
+        raw::dequmlo_commit(
+            sizes.n,
+            sizes.k,
+            base.as_ptr(),
+            base.len(),
+            table.as_ptr(),
+            table.len(),
+            gammas.as_mut_ptr(),
+            gammas.len(),
+            codeword.as_mut_ptr(),
+            codeword.len(),
+            tree.as_mut_ptr(),
+            tree.len(),
+        )
+    })
+}
+
 /// A deposit folded by a list of challenges: all levels and their trees, from which records are built.
 pub struct Folded {
     sizes: Sizes,
-    levels: Vec<u64>,
-    trees: Vec<u8>,
+    buffers: Buffers,
     roots: Vec<Root>,
 }
 
@@ -231,15 +244,19 @@ impl Folded {
 
     /// The query record at a position below 2^(n+k).
     pub fn query(&self, position: usize) -> Result<QueryRecord, Refusal> {
+        let (levels, trees) = (
+            self.buffers.levels(&self.sizes),
+            self.buffers.trees(&self.sizes),
+        );
         let mut out = vec![0u8; self.sizes.query_bytes];
         Refusal::unless_done(unsafe {
             raw::dequmlo_build_query(
                 out.as_mut_ptr(),
                 out.len(),
-                self.levels.as_ptr(),
-                self.levels.len(),
-                self.trees.as_ptr(),
-                self.trees.len(),
+                levels.as_ptr(),
+                levels.len(),
+                trees.as_ptr(),
+                trees.len(),
                 self.sizes.n,
                 self.sizes.k,
                 position,
@@ -251,7 +268,8 @@ impl Folded {
     /// The tail record.
     pub fn tail(&self) -> Result<TailRecord, Refusal> {
         let level = self.last_halves();
-        let tree = &self.trees[self.trees.len() - self.sizes.last_tree_bytes..];
+        let trees = self.buffers.trees(&self.sizes);
+        let tree = &trees[trees.len() - self.sizes.last_tree_bytes..];
         let mut out = vec![0u8; self.sizes.tail_bytes];
         Refusal::unless_done(unsafe {
             raw::dequmlo_build_tail(
@@ -268,7 +286,14 @@ impl Folded {
         Ok(TailRecord::from(out))
     }
 
+    /// The buffers, for the next deposit.
+    #[must_use]
+    pub fn into_buffers(self) -> Buffers {
+        self.buffers
+    }
+
     fn last_halves(&self) -> &[u64] {
-        &self.levels[self.levels.len() - 2 * self.sizes.last_level_words..]
+        let levels = self.buffers.levels(&self.sizes);
+        &levels[levels.len() - 2 * self.sizes.last_level_words..]
     }
 }

@@ -35,6 +35,7 @@
 
 #![warn(missing_docs, missing_debug_implementations)]
 
+mod buffers;
 pub mod code;
 mod deposit;
 mod parameters;
@@ -48,6 +49,7 @@ mod threads;
 pub mod tree;
 mod word;
 
+pub use buffers::Buffers;
 pub use deposit::{Deposit, Folded};
 pub use parameters::Parameters;
 pub use record::{Collision, QueryRecord, ShownLevel, Statement, TailRecord};

@@ -205,6 +205,17 @@ extern "C" {
         out: *mut u64,
         out_length: usize,
     ) -> u32;
+    pub fn dequmlo_codeword_half(
+        n: usize,
+        k: usize,
+        half: usize,
+        table: *const u64,
+        table_length: usize,
+        gammas: *const u64,
+        gammas_length: usize,
+        out: *mut u64,
+        out_length: usize,
+    ) -> u32;
     pub fn dequmlo_fold_part(
         n: usize,
         k: usize,

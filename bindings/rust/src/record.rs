@@ -169,7 +169,7 @@ impl Statement {
         Ok(Statement {
             base: base.to_vec(),
             sizes,
-            challenges: halves(challenges),
+            challenges: halves(challenges).to_vec(),
             roots: roots.iter().flat_map(|r| r.0).collect(),
         })
     }

@@ -46,30 +46,43 @@ impl Threads {
     }
 }
 
-/// How many entries of a fold, leaves or parents are a part: enough that handing one out costs nothing beside it, and few enough that a part
-/// stays in a core's cache.
+/// How many entries of a fold, or leaves with the parents above them, are a part: enough that handing one out costs nothing beside it, and few
+/// enough that a part stays in a core's cache and that no thread waits long for the last one.
 const ENTRIES: usize = 1 << 13;
-const LEAVES: usize = 1 << 10;
-const PARENTS: usize = 1 << 11;
+const LEAVES: usize = 1 << 9;
 
-/// Hands out consecutive parts of a whole, `each` elements a part and the last one shorter: a thread takes the next one until none is left. `make`
-/// is told where its part begins. The answer is a refusal of one of the parts, if there is one.
-fn in_parts<T: Send>(
+/// Digests of a tree, 32 bytes each, made already or not.
+type Digests = [u8];
+
+/// The heights of a tree from the lowest on, divided into so many parts: a list of heights for each, up to that at which a part has one digest.
+fn heights(tree: &mut Digests, parts: usize) -> Vec<Vec<&mut Digests>> {
+    let mut divided: Vec<Vec<&mut Digests>> = (0..parts).map(|_| Vec::new()).collect();
+    let (mut size, mut rest) = ((tree.len() + 32) / 2 / parts, tree);
+    while size >= 32 {
+        let (height, above) = rest.split_at_mut(size * parts);
+        for (part, digests) in divided.iter_mut().zip(height.chunks_mut(size)) {
+            part.push(digests);
+        }
+        (size, rest) = (size / 2, above);
+    }
+    divided
+}
+
+/// Hands out parts of a whole, each a thread's own: a thread takes the next one until none is left. The answer is a refusal of one of the parts, if
+/// there is one.
+fn in_parts<P>(
     threads: Threads,
-    whole: &mut [T],
-    each: usize,
-    make: impl Fn(usize, &mut [T]) -> u32 + Sync,
+    parts: impl Iterator<Item = P> + Send,
+    make: impl Fn(P) -> u32 + Sync,
 ) -> Result<(), Refusal> {
-    let count = (whole.len() + each - 1) / each;
-    let left = Mutex::new(whole.chunks_mut(each).enumerate());
+    let (count, _) = parts.size_hint();
+    let left = Mutex::new(parts);
     let refused = AtomicU32::new(0);
     let work = || loop {
         let next = left.lock().expect("no thread panics").next();
-        match next {
-            Some((i, part)) => match make(i * each, part) {
-                0 => {}
-                number => return refused.store(number, Ordering::Relaxed),
-            },
+        match next.map(&make) {
+            Some(0) => {}
+            Some(number) => return refused.store(number, Ordering::Relaxed),
             None => return,
         }
     };
@@ -96,7 +109,7 @@ impl Commitment<'_> {
         table: &[u64],
         gammas: &mut [u64],
         codeword: &mut [u64],
-        tree: &mut [u8],
+        tree: &mut Digests,
     ) -> Result<(), Refusal> {
         let Sizes { n, k, .. } = self.sizes;
         Refusal::unless_done(unsafe {
@@ -109,33 +122,55 @@ impl Commitment<'_> {
                 gammas.len(),
             )
         })?;
-        let gammas = &*gammas;
-        in_parts(self.threads, codeword, table.len(), |first, block| unsafe {
-            raw::dequmlo_codeword_block(
-                n,
-                k,
-                first / table.len(),
-                table.as_ptr(),
-                table.len(),
-                gammas.as_ptr(),
-                gammas.len(),
-                block.as_mut_ptr(),
-                block.len(),
-            )
-        })?;
+        self.encode(table, gammas, codeword)?;
         self.tree(0, codeword, tree)
+    }
+
+    /// The codeword. Block 0 is a copy. Of the others as many are made whole as give every thread the same number, and the rest in halves, which cost a
+    /// little more than blocks; the copy comes last.
+    fn encode(&self, table: &[u64], gammas: &[u64], codeword: &mut [u64]) -> Result<(), Refusal> {
+        let Sizes { n, k, .. } = self.sizes;
+        let (block, threads) = (table.len(), self.threads.number());
+        let whole = ((1 << k) - 1) / threads * threads;
+        let (first, made) = codeword.split_at_mut(block);
+        let (blocks, rest) = made.split_at_mut(whole * block);
+        let blocks = (1..).zip(blocks.chunks_mut(block));
+        let halves = (2 * (1 + whole)..).zip(rest.chunks_mut(block / 2));
+        let copies = first.chunks_mut(block / 2).enumerate();
+        let parts = blocks.chain(halves).chain(copies);
+        in_parts(self.threads, parts, |(number, part)| {
+            let make = if part.len() == block {
+                raw::dequmlo_codeword_block
+            } else {
+                raw::dequmlo_codeword_half
+            };
+            unsafe {
+                make(
+                    n,
+                    k,
+                    number,
+                    table.as_ptr(),
+                    table.len(),
+                    gammas.as_ptr(),
+                    gammas.len(),
+                    part.as_mut_ptr(),
+                    part.len(),
+                )
+            }
+        })
     }
 
     /// The level after a level, by its challenge.
     fn next(&self, level: usize, r: Word, values: &[u64], out: &mut [u64]) -> Result<(), Refusal> {
         let Sizes { n, k, .. } = self.sizes;
-        in_parts(self.threads, out, 2 * ENTRIES, |first, part| unsafe {
+        let parts = out.chunks_mut(2 * ENTRIES).enumerate();
+        in_parts(self.threads, parts, |(i, part)| unsafe {
             raw::dequmlo_next_part(
                 n,
                 k,
                 level,
                 r.raw(),
-                first / 2,
+                i * ENTRIES,
                 values.as_ptr(),
                 values.len(),
                 part.as_mut_ptr(),
@@ -144,51 +179,70 @@ impl Commitment<'_> {
         })
     }
 
-    /// A level's tree: its leaves, then height after height from the one below. Of its 2 × groups − 1 digests the first `groups` are leaves.
-    fn tree(&self, level: usize, values: &[u64], tree: &mut [u8]) -> Result<(), Refusal> {
+    /// A level's tree: parts of some leaves and all parents above them, then what is above the parts. Of its 2 × leaves − 1 digests the first
+    /// `leaves` are leaves, and each height stands behind the one below.
+    fn tree(&self, level: usize, values: &[u64], tree: &mut Digests) -> Result<(), Refusal> {
+        let leaves = (tree.len() + 32) / 64;
+        let parts = (leaves / LEAVES).max(1);
+        let each = leaves / parts;
+        let divided = heights(tree, parts).into_iter().enumerate();
+        in_parts(self.threads, divided, |(i, mut part)| {
+            match self.leaves(level, i * each, values, part[0]) {
+                0 => self.parents(level, 0, &mut part),
+                number => number,
+            }
+        })?;
+        // The roots of the parts are the lowest height of what is left.
+        let top = tree.len() - 32 * (2 * parts - 1);
+        let lowest = each.trailing_zeros() as usize;
+        let above = &mut heights(&mut tree[top..], 1)[0];
+        Refusal::unless_done(self.parents(level, lowest, above))
+    }
+
+    /// Leaves of a level's tree, from this one on.
+    fn leaves(&self, level: usize, first: usize, values: &[u64], out: &mut Digests) -> u32 {
         let Sizes { n, k, .. } = self.sizes;
-        let (mut below, mut above) = tree.split_at_mut((tree.len() + 32) / 64 * 32);
-        in_parts(self.threads, below, 32 * LEAVES, |first, part| unsafe {
+        unsafe {
             raw::dequmlo_level_leaves(
                 n,
                 k,
                 level,
                 self.base.as_ptr(),
                 self.base.len(),
-                first / 32,
+                first,
                 values.as_ptr(),
                 values.len(),
-                part.as_mut_ptr(),
-                part.len(),
+                out.as_mut_ptr(),
+                out.len(),
             )
-        })?;
-        for height in 0.. {
-            if above.is_empty() {
-                break;
-            }
-            let (made, rest) = above.split_at_mut(below.len() / 2);
-            let children = &*below;
-            in_parts(self.threads, made, 32 * PARENTS, |first, part| {
-                let pairs = &children[2 * first..2 * (first + part.len())];
-                unsafe {
-                    raw::dequmlo_level_parents(
-                        n,
-                        k,
-                        level,
-                        self.base.as_ptr(),
-                        self.base.len(),
-                        height,
-                        pairs.as_ptr(),
-                        pairs.len(),
-                        part.as_mut_ptr(),
-                        part.len(),
-                    )
-                }
-            })?;
-            below = made;
-            above = rest;
         }
-        Ok(())
+    }
+
+    /// Heights of a part of a level's tree, each from the one below; the first is made already, and this many are below it.
+    fn parents(&self, level: usize, lowest: usize, heights: &mut [&mut Digests]) -> u32 {
+        let Sizes { n, k, .. } = self.sizes;
+        for i in 1..heights.len() {
+            let (below, above) = heights.split_at_mut(i);
+            let (children, out) = (&*below[i - 1], &mut *above[0]);
+            let number = unsafe {
+                raw::dequmlo_level_parents(
+                    n,
+                    k,
+                    level,
+                    self.base.as_ptr(),
+                    self.base.len(),
+                    lowest + i - 1,
+                    children.as_ptr(),
+                    children.len(),
+                    out.as_mut_ptr(),
+                    out.len(),
+                )
+            };
+            if number != 0 {
+                return number;
+            }
+        }
+        0
     }
 
     /// Levels 1 to n behind level 0, by a challenge each, and their trees behind level 0's: what `dequmlo_fold_levels` leaves where level 0's
@@ -197,7 +251,7 @@ impl Commitment<'_> {
         &self,
         challenges: &[Word],
         levels: &mut [u64],
-        trees: &mut [u8],
+        trees: &mut Digests,
     ) -> Result<Vec<Root>, Refusal> {
         let (mut values, mut rest) = levels.split_at_mut(2 * self.sizes.codeword_words);
         let (first, mut trees) = trees.split_at_mut(self.sizes.tree_bytes);

@@ -14,6 +14,7 @@ use std::str::FromStr;
 /// assert!("1d".parse::<Word>().is_err());
 /// ```
 #[derive(Clone, Copy, Debug, Default, PartialEq, Eq, Hash)]
+#[repr(transparent)]
 pub struct Word(pub u128);
 
 /// The text is not 32 hexadecimal digits.
@@ -71,12 +72,14 @@ impl Word {
     }
 }
 
-/// The halves of words, the low half of each first.
-pub(crate) fn halves(words: &[Word]) -> Vec<u64> {
-    words
-        .iter()
-        .flat_map(|w| [w.0 as u64, (w.0 >> 64) as u64])
-        .collect()
+const _: () = assert!(
+    cfg!(target_endian = "little"),
+    "a word's low half lies first, as on x86-64, which the archive is for"
+);
+
+/// The halves of words, the low half of each first: the words as they lie, without a copy.
+pub(crate) fn halves(words: &[Word]) -> &[u64] {
+    unsafe { std::slice::from_raw_parts(words.as_ptr().cast(), 2 * words.len()) }
 }
 
 /// The words of halves.

@@ -165,6 +165,10 @@ fn what_is_public_can_be_printed() {
     );
     let folded = deposit.fold(&table[..2]).unwrap();
     assert!(format!("{folded:?}").starts_with("Folded { n: 2, k: 1, root: "));
+    assert_eq!(
+        format!("{:?}", folded.into_buffers()),
+        "Buffers { gamma_words: 2, levels_words: 14, trees_bytes: 352, .. }"
+    );
     let errors: [Box<dyn std::error::Error>; 2] = [
         Box::new("x".parse::<dequmlo::Word>().unwrap_err()),
         Box::new("x".parse::<dequmlo::Root>().unwrap_err()),

@@ -1,5 +1,5 @@
 -- A block of the codeword made in place, coordinate by coordinate; and the codeword, block by block.
-use mathlib.Core.Path.{_≡_, sym, ap, ap₂, _∙_}
+use mathlib.Core.Path.{_≡_, refl, sym, ap, ap₂, _∙_}
 use mathlib.Core.List.{List, _++_, append-assoc}
 use Prim.Native.Nat.{ℕ, zero, suc, _+_, _-_, _*_, _^_, _≤_, _<_}
 use native.Mathlib.Nat.{zero-mul, suc-mul, mul-comm, mul-left-comm, mul-le-mul-right}
@@ -9,24 +9,20 @@ use lib.ListN.{length, take, length-append}
 use lib.Pow.{pow-add}
 use lib.Seq.{take-all, take-at, length-take-le}
 use Rattle.theory_laws.specs.Table.{tab, at}
-use Rattle.theory_laws.proofs.Table.{at-tab, length-tab}
+use Rattle.theory_laws.proofs.Table.{at-tab, length-tab, is-tab}
 use Rattle.theory_field.specs.Words.{words}
 use Rattle.theory_multilinear.specs.Codeword.{shiftAt, shift, block, inBlocks, encode}
-use Rattle.theory_multilinear.proofs.Shift.{length-shift}
 use Rattle.theory_multilinear.proofs.Passes.{pass, passes, passes-tab, pass-next}
 use Rattle.theory_multilinear.proofs.Codeword.{inBlocks-next, first-block}
 use Rattle.field_runs.specs.Runs.{passList}
 use Rattle.code_codeword.specs.Answers.{blockOf}
+use Rattle.code_codeword.specs.helpers.Shifted.{shiftedOf, passedOf}
 use Rattle.theory_field.proofs.Words.{words-append}
 
 -- ---- a block
 
-pub shift-at : (n k : ℕ) (g : List ℕ) (eps i : ℕ) → i < n → at (shift n k g eps) i ≡ shiftAt n k g eps i
-unfolding shift
-shift-at n k g eps i h = at-tab n (shiftAt n k g eps) i h
-
 -- one more pass, of the list t that the passes before it left of u
-pub pass-turn : (n i d : ℕ) (ds u t t′ : List ℕ) → i < n → length ds ≡ n → d ≡ at ds i
+pass-turn : (n i d : ℕ) (ds u t t′ : List ℕ) → i < n → length ds ≡ n → d ≡ at ds i
     → t ≡ tab (2 ^ n) (passes 0 (take i ds) (at u)) → t′ ≡ passList i d t → t′ ≡ tab (2 ^ n) (passes 0 (take (i + 1) ds) (at u))
 unfolding passList
 pass-turn zero i d ds u t t′ h l ed et e = absurd (omega arith)
@@ -34,13 +30,37 @@ pass-turn (suc n) i d ds u t t′ h l ed et e =
     e ∙ ap (λ (m : ℕ). tab m (pass i d (at t))) (ap length et ∙ length-tab _ _)
     ∙ rw (ed, et) (pass-next n i ds (at u) (omega arith) (omega arith))
 
--- after the last pass
-pub passed : (n k i : ℕ) (g : List ℕ) (eps : ℕ) (u : List ℕ) → n ≤ i → ((v : ℕ) → at u v < 2 ^ 128)
-    → tab (2 ^ n) (passes 0 (take i (shift n k g eps)) (at u)) ≡ blockOf n k g eps u
-unfolding blockOf
-passed n k i g eps u h lt =
-    ap (λ (ds : List ℕ). tab (2 ^ n) (passes 0 ds (at u))) (take-all i (shift n k g eps) (omega (arith, length-shift n k g eps)))
-    ∙ rw (length-shift n k g eps) at (passes-tab (shift n k g eps) u lt)
+module _ (m n k : ℕ) (g : List ℕ) (eps : ℕ) where
+  -- no pass is done
+  pub none-passed : (u : List ℕ) → length u ≡ 2 ^ m → u ≡ passedOf 0 m n k g eps u
+  unfolding passedOf passes
+  none-passed u l = is-tab u (2 ^ m) (at u) l (λ v h. refl)
+
+  -- one more, by a coordinate of L(eps)
+  pub one-passed : (i d : ℕ) (u t t′ : List ℕ) → i < m → d ≡ shiftAt n k g eps i → t ≡ passedOf i m n k g eps u → t′ ≡ passList i d t
+      → t′ ≡ passedOf (i + 1) m n k g eps u
+  unfolding passedOf
+  one-passed i d u t t′ h ed et e =
+      pass-turn m i d (tab m (shiftAt n k g eps)) u t t′ h (length-tab m (shiftAt n k g eps)) (ed ∙ sym (at-tab m (shiftAt n k g eps) i h)) et e
+
+  -- all are
+  pub all-passed : (u : List ℕ) → ((v : ℕ) → at u v < 2 ^ 128) → passedOf m m n k g eps u ≡ shiftedOf m n k g eps u
+  unfolding passedOf shiftedOf
+  all-passed u lt =
+      let ds = tab m (shiftAt n k g eps) in
+      ap (λ (es : List ℕ). tab (2 ^ m) (passes 0 es (at u))) (take-all m ds (omega (arith, length-tab m (shiftAt n k g eps))))
+      ∙ rw (length-tab m (shiftAt n k g eps)) at (passes-tab ds u lt)
+
+-- shifted by all coordinates it is the block
+pub shifted-block : (n k : ℕ) (g : List ℕ) (eps : ℕ) (t : List ℕ) → shiftedOf n n k g eps t ≡ blockOf n k g eps t
+unfolding shiftedOf blockOf shift
+shifted-block n k g eps t = refl
+
+-- a table of one word is every block
+pub block-of-one : (n k : ℕ) (g : List ℕ) (eps : ℕ) (t : List ℕ) → n ≡ 0 → length t ≡ 2 ^ n → ((v : ℕ) → at t v < 2 ^ 128)
+    → blockOf n k g eps t ≡ t
+block-of-one n k g eps t e l lt =
+    sym (none-passed n n k g eps t l ∙ ap (λ (i : ℕ). passedOf i n n k g eps t) (sym e) ∙ all-passed n n k g eps t lt ∙ shifted-block n k g eps t)
 
 -- block 0 is the table
 pub block-of-zero : (n k : ℕ) (g : List ℕ) (eps : ℕ) (t : List ℕ) → eps ≡ 0 → length t ≡ 2 ^ n → ((v : ℕ) → at t v < 2 ^ 128)

@@ -1,7 +1,8 @@
 // The code, after code.rs: the shifts L(eps), the codeword of a table, and folds. A table of words is lent as u64 halves, two to a word,
-// the low half first. A refused call changes no lent byte. `encode_block` requires: it is a helper for the crate that makes blocks one by one.
+// the low half first. A refused call changes no lent byte. `coordinate`, `shift_table` and `encode_block` require: they are helpers for the crate
+// that makes parts of the codeword one by one.
 ghost use mathlib.Core.Path.{_≡_};
-ghost use Prim.Native.Nat.{_+_, _*_, _^_, _<_};
+ghost use Prim.Native.Nat.{_+_, _*_, _^_, _<_, _≤_};
 ghost use lib.ListN.{length};
 ghost use Rattle.theory_laws.specs.Questions.{onDone};
 ghost use Rattle.theory_field.specs.Words.{words};
@@ -11,6 +12,7 @@ ghost use Rattle.theory_multilinear.specs.Codeword as C;
 ghost use Rattle.theory_code.specs.Questions.{shiftNumber, encodeNumber, foldNumber};
 ghost use Rattle.code_codeword.specs.Answers.{blockOf, encodedOf, foldedOf};
 ghost use Rattle.code_codeword.specs.helpers.Sizes.{ShiftSizes, EncodeSizes};
+ghost use Rattle.code_codeword.specs.helpers.Shifted.{Passes};
 
 pub mod folding;
 pub mod sizes;
@@ -25,7 +27,7 @@ use sizes::power;
 // ---- the shifts
 
 // Coordinate i of L(eps): the sum of the gammas (j, i) over the set bits j of eps.
-fn coordinate(n: usize, k: usize, eps: usize, gammas: &[u64], i: usize) -> Word
+pub fn coordinate(n: usize, k: usize, eps: usize, gammas: &[u64], i: usize) -> Word
     requires { ⌜ ShiftSizes n k (length (now gammas)) × (i < n) ⌝ }
     ensures { λ r. ⌜ word r ≡ C.shiftAt n k (words (now (gammas .entry))) eps i ⌝ }
 {
@@ -88,23 +90,48 @@ pub fn l_of(n: usize, k: usize, eps: usize, gammas: &[u64], out: &mut [u64]) -> 
 
 // ---- the codeword
 
-// Block eps of the codeword in place of the table: a pass for each coordinate of L(eps). `multiples` is room for the pass's products.
-fn shift_block(
+// A table of 2^m words that has the passes at its first `from` coordinates by those of L(eps) gets the others, in its place. t is room for a pass's
+// products.
+pub fn shift_table(
+    from: usize,
+    m: usize,
     n: usize,
     k: usize,
     eps: usize,
     gammas: &[u64],
     out: &mut [u64],
+    t: &mut [u64],
+)
+    requires { ⌜ ShiftSizes n k (length (now gammas)) × (from ≤ m) × (m ≤ n) × (length (now out) ≡ 2 * 2 ^ m) × (length (now t) ≡ 8192) ⌝ }
+    ensures { λ _. ⌜ Passes from m n k (words (now (gammas .entry))) eps (words (now (out .entry))) (words (now (out .exit))) ⌝ }
+{
+    let mut i = from;
+    while i < m {
+        let d = coordinate(n, k, eps, gammas, i);
+        field_runs::pass(out, i as u64, d, t);
+        i += 1;
+    }
+}
+
+// Any block of the codeword: the first pass takes the table's words into the block, and the others are done in place.
+fn shift_block(
+    n: usize,
+    k: usize,
+    eps: usize,
+    table: &[u64],
+    gammas: &[u64],
+    out: &mut [u64],
     multiples: &mut [u64],
 )
-    requires { ⌜ ShiftSizes n k (length (now gammas)) × (length (now out) ≡ 2 * 2 ^ n) × (length (now multiples) ≡ 8192) ⌝ }
-    ensures { λ _. ⌜ words (now (out .exit)) ≡ blockOf n k (words (now (gammas .entry))) eps (words (now (out .entry))) ⌝ }
+    requires { ⌜ EncodeSizes n k (length (now table)) (length (now gammas)) × (length (now out) ≡ 2 * 2 ^ n) × (length (now multiples) ≡ 8192) ⌝ }
+    ensures { λ _. ⌜ words (now (out .exit)) ≡ blockOf n k (words (now (gammas .entry))) eps (words (now (table .entry))) ⌝ }
 {
-    let mut i = 0;
-    while i < n {
-        let d = coordinate(n, k, eps, gammas, i);
-        field_runs::pass(out, i as u64, d, multiples);
-        i += 1;
+    if n == 0 {
+        copy(table, out);
+    } else {
+        let d = coordinate(n, k, eps, gammas, 0);
+        field_runs::pass_first(out, table, d, multiples);
+        shift_table(1, n, n, k, eps, gammas, out, multiples);
     }
 }
 
@@ -121,9 +148,10 @@ pub fn encode_block(
     requires { ⌜ EncodeSizes n k (length (now table)) (length (now gammas)) × (length (now out) ≡ 2 * 2 ^ n) × (length (now multiples) ≡ 8192) ⌝ }
     ensures { λ _. ⌜ words (now (out .exit)) ≡ blockOf n k (words (now (gammas .entry))) eps (words (now (table .entry))) ⌝ }
 {
-    copy(table, out);
     if eps != 0 {
-        shift_block(n, k, eps, gammas, out, multiples);
+        shift_block(n, k, eps, table, gammas, out, multiples);
+    } else {
+        copy(table, out);
     }
 }
 

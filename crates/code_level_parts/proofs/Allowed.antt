@@ -11,9 +11,11 @@ use Rattle.theory_laws.specs.Questions.{_asks_, onDone}
 use Rattle.theory_laws.proofs.Questions.{all-yes, yes-all}
 use Rattle.theory_blake3.specs.Digest.{hash}
 use Rattle.theory_merkle.specs.Tree.{treeOf}
-use Rattle.theory_merkle.specs.Questions.{buildQuestions, leavesQuestions, parentsQuestions}
-use Rattle.theory_merkle.specs.Numbers.{buildNumber, leavesNumber, parentsNumber}
-use Rattle.theory_code.specs.Questions.{sized, lent, foldPartNumber}
+use Rattle.theory_merkle.specs.Questions.{buildQuestions}
+use Rattle.theory_merkle.specs.Numbers.{buildNumber}
+use Rattle.theory_merkle.specs.PartQuestions.{leavesQuestions, parentsQuestions, leavesNumber, parentsNumber}
+use Rattle.theory_code.specs.Questions.{sized, lent}
+use Rattle.theory_code.specs.PartQuestions.{foldPartNumber}
 use Rattle.theory_record.specs.Widths.{present, levelLength, levelWidth, levelGroups, treeLength}
 use Rattle.theory_record.specs.Domain.{levelDomain}
 use Rattle.theory_record.specs.Query.{sizeQuestions}

@@ -1,5 +1,5 @@
 -- What the parts of the code's work leave, lent the halves of words. Rests on the codeword and the fold.
-use Prim.Native.Nat.{ℕ, _*_, _/_, _^_}
+use Prim.Native.Nat.{ℕ, _-_, _*_, _/_, _^_}
 use mathlib.Core.List.{List}
 use lib.ListN.{length}
 use Rattle.theory_laws.specs.Questions.{onDone}
@@ -8,13 +8,17 @@ use Rattle.theory_field.specs.Words.{words}
 use Rattle.theory_multilinear.specs.Codeword.{encode}
 use Rattle.theory_multilinear.specs.Fold.{foldList}
 
--- block eps: the part of the codeword of 2^n words from word eps × 2^n on
-abbrev pub blockOfCodeword : ℕ → ℕ → List ℕ → ℕ → List ℕ → List ℕ
-blockOfCodeword n k gammas eps table = part (2 ^ n) (eps * 2 ^ n) (encode n k (words gammas) (words table))
+-- part i of the codeword in parts of 2^m words: those from word i × 2^m on
+abbrev pub partOfCodeword : ℕ → ℕ → ℕ → List ℕ → ℕ → List ℕ → List ℕ
+partOfCodeword m n k gammas i table = part (2 ^ m) (i * 2 ^ m) (encode n k (words gammas) (words table))
 
--- this, or the words of the buffer as it was, by the number of the call
+-- block eps, of 2^n words, or the words of the buffer as it was, by the number of the call
 abbrev pub blockInto : ℕ → ℕ → ℕ → List ℕ → ℕ → List ℕ → List ℕ → List ℕ
-blockInto number n k gammas eps table out = onDone number (blockOfCodeword n k gammas eps table) (words out)
+blockInto number n k gammas eps table out = onDone number (partOfCodeword n n k gammas eps table) (words out)
+
+-- half a block, of 2^(n - 1) words, in the same way
+abbrev pub halfInto : ℕ → ℕ → ℕ → List ℕ → ℕ → List ℕ → List ℕ → List ℕ
+halfInto number n k gammas half table out = onDone number (partOfCodeword (n - 1) n k gammas half table) (words out)
 
 -- m entries of the fold at a variable by r, from entry `first` on
 abbrev pub partOfFold : ℕ → ℕ → ℕ → ℕ → List ℕ → List ℕ

@@ -1,1 +1,2 @@
 pub mod FoldPart
+pub mod Half

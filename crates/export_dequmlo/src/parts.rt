@@ -1,6 +1,6 @@
-// Parts of the work, each into a buffer of its own, for callers that divide it over threads: a block of the codeword, entries of a fold, leaves and
-// parents of a tree; the same of a level of a commitment; and the gammas, which come before the blocks. Consecutive parts end to end are what the
-// whole leaves (theory_laws/proofs/Parts).
+// Parts of the work, each into a buffer of its own, for callers that divide it over threads: a block of the codeword or half of one, entries of a
+// fold, leaves and parents of a tree; the same of a level of a commitment; and the gammas, which come before the blocks. Consecutive parts end to
+// end are what the whole leaves (theory_laws/proofs/Parts).
 use field_gf128::Word;
 ghost use mathlib.Core.Path.{_≡_};
 ghost use Prim.Native.Nat.{_*_, _/_};
@@ -10,10 +10,11 @@ ghost use Rattle.theory_field.specs.Words.{words};
 ghost use Rattle.field_gf128.specs.Word.{word};
 ghost use Rattle.theory_blake3.specs.Digest.{hash};
 ghost use Rattle.theory_code.specs.Gammas as G;
-ghost use Rattle.theory_code.specs.Questions.{deriveNumber, blockNumber, foldPartNumber};
-ghost use Rattle.theory_merkle.specs.Numbers.{leavesNumber, parentsNumber};
+ghost use Rattle.theory_code.specs.Questions.{deriveNumber};
+ghost use Rattle.theory_code.specs.PartQuestions.{blockNumber, halfNumber, foldPartNumber};
+ghost use Rattle.theory_merkle.specs.PartQuestions.{leavesNumber, parentsNumber};
 ghost use Rattle.theory_record.specs.Domain.{levelDomain};
-ghost use Rattle.code_parts.specs.Parts.{blockInto, foldPartInto};
+ghost use Rattle.code_parts.specs.Parts.{blockInto, halfInto, foldPartInto};
 ghost use Rattle.tree_parts.specs.Parts.{leavesInto, parentsOf, parentsInto};
 ghost use Rattle.code_level_parts.specs.Numbers.{nextPartNumber, levelParentsNumber};
 ghost use Rattle.code_level_parts.specs.Parts.{levelLeavesOf, levelLeavesLent};
@@ -41,6 +42,22 @@ pub extern "C" fn dequmlo_codeword_block(
     ensures { λ r. ⌜ words (now (out .exit)) ≡ blockInto r n k (now (gammas .entry)) eps (now (table .entry)) (now (out .entry)) ⌝ }
 {
     code_parts::codeword_block(n, k, eps, table, gammas, out)
+}
+
+// Half a block of the codeword of a table of 2^n words: 4, 5, 11.
+#[no_mangle]
+pub extern "C" fn dequmlo_codeword_half(
+    n: usize,
+    k: usize,
+    half: usize,
+    table: &[u64],
+    gammas: &[u64],
+    out: &mut [u64],
+) -> u32
+    ensures { λ r. ⌜ r ≡ halfNumber n k half (length (now (table .entry))) (length (now (gammas .entry))) (length (now (out .entry))) ⌝ }
+    ensures { λ r. ⌜ words (now (out .exit)) ≡ halfInto r n k (now (gammas .entry)) half (now (table .entry)) (now (out .entry)) ⌝ }
+{
+    code_parts::codeword_half(n, k, half, table, gammas, out)
 }
 
 // Entries of a codeword folded at a variable by r, from entry `first` on: 4, 5, 6, 11.

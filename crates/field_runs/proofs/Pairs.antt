@@ -1,21 +1,26 @@
 -- The pairs at bit i, run by run, as the loops over pairs go: where a run's pairs have their places, what a run done leaves, and that
 -- a run ends within the slice. And the places of one pair, as code computes them.
-use mathlib.Core.Path.{_≡_, sym, ap, ap₂, _∙_, subst}
+use mathlib.Core.Path.{_≡_, refl, sym, ap, ap₂, _∙_, subst}
 use mathlib.Core.List.{List}
 use Prim.Native.Nat.{ℕ, zero, suc, _+_, _*_, _/_, _%_, _^_, _≤_, _<_}
 use native.Mathlib.Nat.{mod-eq-of-lt, pow-suc, add-zero}
 use native.Mathlib.Numerals.{add-one}
 use native.Mathlib.Omega.{arith}
 use lib.Pow.{pow-mono}
+use lib.ListN.{set}
 use Rattle.theory_laws.specs.Table.{at}
-use Rattle.theory_laws.specs.Places.{ins}
-use Rattle.theory_laws.proofs.Places.{ins-at, ins-lt, ins-hi, fits-block}
+use Rattle.theory_laws.specs.Xor.{_⊕_}
+use Rattle.theory_laws.specs.Places.{ins, flip}
+use Rattle.theory_laws.proofs.Xor.{⊕-comm}
+use Rattle.theory_laws.proofs.Places.{ins-at, ins-lt, ins-hi, fits-block, flip0-even, flip0-odd}
 use Rattle.theory_laws.proofs.Numbers.{pow-below}
 use Rattle.theory_laws.proofs.Updates.{updated, updated-turn}
 use Rattle.theory_multilinear.specs.Fold.{line, foldAt}
+use Rattle.theory_field.specs.Field.{_⊗_}
+use Rattle.theory_multilinear.proofs.Passes.{pass}
 use Rattle.theory_multilinear.proofs.PassLoop.{Done, pass-step}
 use Rattle.field_runs.specs.Runs.{Paired}
-use Rattle.field_runs.specs.helpers.Steps.{steps, foldSteps, passSteps}
+use Rattle.field_runs.specs.helpers.Steps.{steps, foldSteps, passSteps, pairStored}
 
 -- ---- steps
 
@@ -111,3 +116,36 @@ module _ (i halves : ℕ) (p : Paired i halves) (fits : halves < 2 ^ 64) where
         inside = omega (arith, second, p .size, ins-lt i (p .m) 1 q (p .has) (omega arith) (omega (arith, p .size)));
         order = omega arith;
       }
+
+-- ---- neighbours
+
+module _ (q : ℕ) where
+  even : flip 0 (q + q) ≡ q + q + 1
+  even =
+      let z : q + q ≡ q * 2 = omega arith in
+      ap (flip 0) z ∙ flip0-even q ∙ ap (λ v. v + 1) (sym z)
+
+  odd : flip 0 (q + q + 1) ≡ q + q
+  odd =
+      let z : q + q ≡ q * 2 = omega arith in
+      ap (λ v. flip 0 (v + 1)) z ∙ flip0-odd q ∙ sym z
+
+  -- the words of pair q under a pass by d
+  pub pass-even : (d : ℕ) (t : ℕ → ℕ) → t (q + q) ⊕ d ⊗ (t (q + q) ⊕ t (q + q + 1)) ≡ pass 0 d t (q + q)
+  unfolding pass line
+  pass-even d t = ap (λ v. t (q + q) ⊕ d ⊗ (t (q + q) ⊕ t v)) (sym even)
+
+  pub pass-odd : (d : ℕ) (t : ℕ → ℕ) → t (q + q + 1) ⊕ d ⊗ (t (q + q) ⊕ t (q + q + 1)) ≡ pass 0 d t (q + q + 1)
+  unfolding pass line
+  pass-odd d t =
+      ap (λ x. t (q + q + 1) ⊕ d ⊗ x) (⊕-comm (t (q + q)) (t (q + q + 1)))
+      ∙ ap (λ v. t (q + q + 1) ⊕ d ⊗ (t (q + q + 1) ⊕ t v)) (sym odd)
+
+  -- the pairs below q, and pair q
+  pub pair-turn : (d : ℕ) (l ws us : List ℕ) → us ≡ updated (q + q) (λ k w. pass 0 d (at l) k) ws
+      → pairStored q d l us ≡ updated (q + 1 + (q + 1)) (λ k w. pass 0 d (at l) k) ws
+  pair-turn d l ws us e =
+      let g : ℕ → ℕ → ℕ = λ k w. pass 0 d (at l) k in
+      updated-turn (q + q + 1) g ws (set us (q + q) (pass 0 d (at l) (q + q))) (pass 0 d (at l) (q + q + 1))
+      (updated-turn (q + q) g ws us (pass 0 d (at l) (q + q)) e refl) refl
+      ∙ ap (λ v. updated v g ws) (let z : q + q + 1 + 1 ≡ q + 1 + (q + 1) = omega arith in z)

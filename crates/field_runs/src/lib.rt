@@ -14,7 +14,7 @@ ghost use Rattle.theory_multilinear.specs.Fold.{line, foldList};
 ghost use Rattle.theory_multilinear.proofs.PassLoop.{turn};
 ghost use Rattle.field_multiples.specs.helpers.Multiples.{Room, Ready};
 ghost use Rattle.field_runs.specs.Runs.{plusScaled, passList, doubledAt, doubled, Paired};
-ghost use Rattle.field_runs.specs.helpers.Steps.{foldSteps, passSteps};
+ghost use Rattle.field_runs.specs.helpers.Steps.{foldSteps, passSteps, pairStored};
 use field_gf128::Word;
 use field_multiples::Kernel;
 
@@ -197,6 +197,45 @@ pub fn pass(s: &mut [u64], i: u64, d: Word, t: &mut [u64])
     match field_multiples::prepare(t, n, d) {
         Kernel::Nibbles => pass_by(s, i, t, 4, d),
         Kernel::Bytes => pass_by(s, i, t, 8, d),
+    }
+}
+
+// Pair q of neighbours of src, with d × (a + b) added to its words a and b, stored in out. They are read again where they are stored, as above.
+fn put_pair(out: &mut [u64], src: &[u64], q: usize, t: &[u64], bits: u64, d: Word)
+    requires { ⌜ (4 * q + 3 < length (now out)) × (length (now src) ≡ length (now out)) × Ready bits (word d) (now t) ⌝ }
+    ensures { λ _. ⌜ words (now (out .exit)) ≡ pairStored q (word d) (words (now (src .entry))) (words (now (out .entry))) ⌝ }
+{
+    let lo = q + q;
+    let sum = field_gf128::add(field_words::get(src, lo), field_words::get(src, lo + 1));
+    let p = field_multiples::times(t, bits, d, sum);
+    let a = field_words::get(src, lo);
+    field_words::put(out, lo, field_gf128::add(a, p));
+    let b = field_words::get(src, lo + 1);
+    field_words::put(out, lo + 1, field_gf128::add(b, p));
+}
+
+// The encoder's pass at coordinate 0 by d, out of a table into another buffer, by windows of `bits` bits.
+fn pass_first_by(out: &mut [u64], src: &[u64], t: &[u64], bits: u64, d: Word)
+    requires { ⌜ Paired 0 (length (now out)) × (length (now src) ≡ length (now out)) × Ready bits (word d) (now t) ⌝ }
+    ensures { λ _. ⌜ words (now (out .exit)) ≡ passList 0 (word d) (words (now (src .entry))) ⌝ }
+{
+    let n = out.len() / 4;
+    let mut q = 0;
+    while q < n {
+        put_pair(out, src, q, t, bits, d);
+        q += 1;
+    }
+}
+
+// The encoder's pass at coordinate 0 by d, out of a table into another buffer.
+pub fn pass_first(out: &mut [u64], src: &[u64], d: Word, t: &mut [u64])
+    requires { ⌜ Paired 0 (length (now out)) × (length (now src) ≡ length (now out)) × Room (now t) ⌝ }
+    ensures { λ _. ⌜ words (now (out .exit)) ≡ passList 0 (word d) (words (now (src .entry))) ⌝ }
+{
+    let n = out.len() / 4;
+    match field_multiples::prepare(t, n, d) {
+        Kernel::Nibbles => pass_first_by(out, src, t, 4, d),
+        Kernel::Bytes => pass_first_by(out, src, t, 8, d),
     }
 }
 

@@ -28,6 +28,7 @@ pub fn answer(place: usize, n: Numbers, a: &[u64], b: &[u64], s: &[u8], w: &mut 
         4 => gamma_message(n, s),
         5 => one(code_parts::codeword_block(n.0, n.1, n.2, a, b, w)),
         6 => one(code_parts::fold_part(n.0, n.1, n.2, first(a), n.3, b, w)),
+        7 => one(code_parts::codeword_half(n.0, n.1, n.2, a, b, w)),
         _ => no_room(),
     }
 }

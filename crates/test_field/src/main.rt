@@ -91,6 +91,7 @@ fold nnnwwW
 gamma_message nnbnn
 codeword_block nnnwwW
 fold_part nnnwnwW
+codeword_half nnnwwW
 none n
 ";
     let operation = request::read(s, table, kept, bytes, &mut words);

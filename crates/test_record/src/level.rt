@@ -10,7 +10,11 @@ use test_lines::answer::two;
 use test_lines::bytes::put_all;
 use test_lines::parts::first_halves;
 use test_lines::request::Numbers;
+use test_lines::request::bytes_in;
+use test_lines::request::numbers_in;
+use test_lines::request::words_in;
 use test_lines::words::copy;
+use test_lines::words::first;
 
 // A length as the answer.
 fn length(x: usize) -> Answer {
@@ -101,6 +105,21 @@ pub fn fold_levels(
 ) -> Answer {
     copy(first_halves(w, codeword.len()), codeword);
     one(code_fold_levels::fold_levels(n.0, n.1, s, challenges, w, x, y, z))
+}
+
+// Parts of a level and of its tree.
+pub fn part(place: usize, words: &[u64], bytes: &[u8], w: &mut [u64], y: &mut [u8]) -> Answer {
+    let n = numbers_in(words);
+    let a = words_in(words, 0);
+    let s = bytes_in(words, bytes, 0);
+    let b = words_in(words, 1);
+    let t = bytes_in(words, bytes, 1);
+    match place {
+        0 => one(code_level_parts::next_part(n.0, n.1, n.2, first(a), n.3, b, w)),
+        1 => one(code_level_parts::level_leaves(n.0, n.1, n.2, s, n.3, a, y)),
+        2 => one(code_level_parts::level_parents(n.0, n.1, n.2, s, n.3, t, y)),
+        _ => no_room(),
+    }
 }
 
 pub fn tails(s: &[u8], w: &mut [u64]) -> Answer {

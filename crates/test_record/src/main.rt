@@ -83,6 +83,7 @@ fn answer(
     match operation / 8 {
         2..=5 => on_bytes(operation, words, bytes, y),
         6 => on_all(operation % 8, words, bytes, w, x, y, z),
+        7 => level::part(operation % 8, words, bytes, w, y),
         _ => no_room(),
     }
 }
@@ -163,6 +164,11 @@ tails bW
 compare bnnnwbbbBB
 walk nnnbbBB
 run nnnbwlwwbblWBB
+none n
+none n
+next_part nnnwnwW
+level_leaves nnnbnwB
+level_parents nnnbnbB
 ";
     let operation = request::read(s, table, kept, bytes, &mut words);
     match operation / 8 {

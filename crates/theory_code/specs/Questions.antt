@@ -1,6 +1,6 @@
 -- The questions that the entries of the code put, in the order of SPECIFICATION 8.4. What is lent comes in by its length, in halves: two to a
 -- word.
-use Prim.Native.Nat.{ℕ, _+_, _*_, _/_, _%_, _^_}
+use Prim.Native.Nat.{ℕ, _+_, _*_, _/_, _^_}
 use mathlib.Core.List.{List, [], _∷_}
 use lib.Dec.{eqb, leb, ltb}
 use Rattle.theory_laws.specs.Questions.{Question, _asks_, firstNo}
@@ -26,16 +26,6 @@ encodeNumber n k table gammas out =
 unfoldable pub foldNumber : ℕ → ℕ → ℕ → ℕ → ℕ → ℕ
 foldNumber n k var src out =
     firstNo (sized n k (lent src (2 ^ (n + k)) ∷ lent out (2 ^ (n + k) / 2) ∷ (6 asks ltb var n) ∷ []))
-
--- a block of the codeword, lent the table, the gammas and room for a block. 11: its number eps is below 2^k
-unfoldable pub blockNumber : ℕ → ℕ → ℕ → ℕ → ℕ → ℕ → ℕ
-blockNumber n k eps table gammas out =
-    firstNo (sized n k (lent table (2 ^ n) ∷ lent gammas (k * n) ∷ lent out (2 ^ n) ∷ (11 asks ltb eps (2 ^ k)) ∷ []))
-
--- a part of a fold, from entry `first` on, lent the codeword and room for any number of words. 11: the part ends within the fold
-unfoldable pub foldPartNumber : ℕ → ℕ → ℕ → ℕ → ℕ → ℕ → ℕ
-foldPartNumber n k var first src out =
-    firstNo (sized n k (lent src (2 ^ (n + k)) ∷ (5 asks eqb (out % 2) 0) ∷ (6 asks ltb var n) ∷ (11 asks leb (first + out / 2) (2 ^ (n + k) / 2)) ∷ []))
 
 -- the gammas of a base domain: 4, 5 for room for k × n words, and 7: a base domain is at most 200 bytes
 unfoldable pub deriveNumber : ℕ → ℕ → ℕ → ℕ → ℕ

@@ -3,4 +3,5 @@ pub mod Tree
 pub mod Shape
 pub mod Binding
 pub mod Questions
+pub mod PartQuestions
 pub mod Numbers

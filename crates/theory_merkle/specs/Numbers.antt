@@ -3,7 +3,6 @@ use Prim.Native.Nat.{ℕ}
 use mathlib.Core.List.{_∷_}
 use Rattle.theory_laws.specs.Questions.{firstNo}
 use Rattle.theory_merkle.specs.Questions.{domainFits, shape, leafQuestions, nodeQuestions, buildQuestions, openQuestions, rootQuestions}
-use Rattle.theory_merkle.specs.Questions.{leavesQuestions, parentsQuestions}
 
 -- questions 8, 9 and 10
 unfoldable pub shapeNumber : ℕ → ℕ → ℕ
@@ -21,12 +20,6 @@ nodeNumber domain l r = firstNo (nodeQuestions domain l r)
 
 unfoldable pub buildNumber : ℕ → ℕ → ℕ → ℕ → ℕ → ℕ
 buildNumber domain count width values tree = firstNo (buildQuestions domain count width values tree)
-
-unfoldable pub leavesNumber : ℕ → ℕ → ℕ → ℕ → ℕ → ℕ → ℕ
-leavesNumber domain count width first values out = firstNo (leavesQuestions domain count width first values out)
-
-unfoldable pub parentsNumber : ℕ → ℕ → ℕ → ℕ
-parentsNumber domain children out = firstNo (parentsQuestions domain children out)
 
 unfoldable pub openNumber : ℕ → ℕ → ℕ → ℕ → ℕ → ℕ
 openNumber count width place tree path = firstNo (openQuestions count width place tree path)

@@ -1,6 +1,6 @@
 -- The questions that the entries on trees put, in the order of SPECIFICATION 8.4: given a value count and a width, 5 comes last.
 -- A domain, and what is lent, come in by their lengths. Words are lent two halves each, digests 32 bytes each.
-use Prim.Native.Nat.{ℕ, zero, suc, _+_, _*_, _/_, _%_, _^_}
+use Prim.Native.Nat.{ℕ, zero, suc, _*_, _%_, _^_}
 use mathlib.Core.List.{List, [], _∷_, _++_}
 use mathlib.Core.Bool.{Bool, true}
 use lib.Dec.{eqb, leb, ltb}
@@ -37,17 +37,6 @@ nodeQuestions domain l r = (5 asks eqb l 32) ∷ (5 asks eqb r 32) ∷ domainFit
 abbrev pub buildQuestions : ℕ → ℕ → ℕ → ℕ → ℕ → List Question
 buildQuestions domain count width values tree =
     (domainFits domain ∷ shape count width) ++ ((5 asks eqb values (2 * count)) ∷ (5 asks eqb tree (32 * treeSize count width)) ∷ [])
-
--- the leaves of groups from group `first` on, lent all values and room for any number of digests. 11: the groups end within the tree's
-abbrev pub leavesQuestions : ℕ → ℕ → ℕ → ℕ → ℕ → ℕ → List Question
-leavesQuestions domain count width first values out =
-    (domainFits domain ∷ shape count width)
-    ++ ((11 asks leb (first + out / 32) (count / width)) ∷ (5 asks eqb values (2 * count)) ∷ (5 asks eqb (out % 32) 0) ∷ [])
-
--- the parents of any number of pairs of digests, lent these and room for half as many; it is given neither a value count nor a width, so 5
--- comes in its place
-abbrev pub parentsQuestions : ℕ → ℕ → ℕ → List Question
-parentsQuestions domain children out = (5 asks eqb (children % 64) 0) ∷ (5 asks eqb out (children / 2)) ∷ domainFits domain ∷ []
 
 -- open a place: its path, lent a tree and the path's buffer
 abbrev pub openQuestions : ℕ → ℕ → ℕ → ℕ → ℕ → List Question

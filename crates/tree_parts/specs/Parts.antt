@@ -7,7 +7,7 @@ use Rattle.theory_laws.specs.Lists.{part, runs, flat}
 use Rattle.theory_field.specs.Words.{words}
 use Rattle.theory_blake3.specs.Digest.{hash}
 use Rattle.theory_merkle.specs.Tree.{parents, treeOf}
-use Rattle.theory_merkle.specs.Numbers.{leavesNumber, parentsNumber}
+use Rattle.theory_merkle.specs.PartQuestions.{leavesNumber, parentsNumber}
 
 -- the part of the tree, as it is lent, that begins with the leaf of group `first`; or the buffer as it was
 abbrev pub leavesInto : List ℕ → ℕ → ℕ → ℕ → List ℕ → List ℕ → List ℕ

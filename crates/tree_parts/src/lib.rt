@@ -3,7 +3,7 @@
 ghost use mathlib.Core.Path.{_≡_};
 ghost use Prim.Native.Nat.{_*_, _≤_, _<_};
 ghost use lib.ListN.{length};
-ghost use Rattle.theory_merkle.specs.Numbers.{leavesNumber, parentsNumber};
+ghost use Rattle.theory_merkle.specs.PartQuestions.{leavesNumber, parentsNumber};
 ghost use Rattle.bytes_numbers.specs.helpers.Put.{Put};
 ghost use Rattle.tree_place.specs.helpers.Yes.{ParentsYes};
 ghost use Rattle.tree_parts.specs.Parts.{parentsOf, leavesInto, parentsInto};

@@ -12,7 +12,8 @@ use Rattle.theory_merkle.specs.Shape.{Bounded}
 use Rattle.theory_merkle.specs.Questions.{isPow, domainFits, shape}
 use Rattle.theory_merkle.proofs.Sizes.{isPow-yes, power-pos}
 use Rattle.theory_merkle.proofs.Questions.{bounded}
-use Rattle.theory_merkle.specs.Numbers.{shapeNumber, treeNumber, leafNumber, buildNumber, leavesNumber, openNumber, rootNumber}
+use Rattle.theory_merkle.specs.Numbers.{shapeNumber, treeNumber, leafNumber, buildNumber, openNumber, rootNumber}
+use Rattle.theory_merkle.specs.PartQuestions.{leavesNumber}
 
 -- a power of two is no zero
 pub power-some : (m x : ℕ) (q : Bool) → q ≡ isPow m x → not q ≡ false → 0 < x

@@ -3,10 +3,11 @@ use Prim.Native.Nat.{ℕ}
 use mathlib.Core.Path.{_≡_, sym, _∙_}
 use borrow.Author.Tests.{leb-true, ltb-true, eqb-true}
 use Rattle.theory_laws.proofs.Questions.{all-yes}
-use Rattle.theory_merkle.specs.Questions.{leafQuestions, nodeQuestions, buildQuestions, leavesQuestions, parentsQuestions, openQuestions, rootQuestions}
+use Rattle.theory_merkle.specs.Questions.{leafQuestions, nodeQuestions, buildQuestions, openQuestions, rootQuestions}
+use Rattle.theory_merkle.specs.PartQuestions.{leavesQuestions, parentsQuestions, leavesNumber, parentsNumber}
 use Rattle.theory_merkle.proofs.Questions.{bounded}
 use Rattle.tree_place.specs.helpers.Yes.{LeafYes, NodeYes, BuildYes, LeavesYes, ParentsYes, OpenYes, RootYes}
-use Rattle.theory_merkle.specs.Numbers.{leafNumber, nodeNumber, buildNumber, leavesNumber, parentsNumber, openNumber, rootNumber}
+use Rattle.theory_merkle.specs.Numbers.{leafNumber, nodeNumber, buildNumber, openNumber, rootNumber}
 
 pub leaf-yes : (q domain count width place values : ℕ) → q ≡ leafNumber domain count width place values → q ≡ 0 → LeafYes domain count width place values
 unfolding leafNumber

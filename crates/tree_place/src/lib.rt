@@ -6,7 +6,7 @@ ghost use Rattle.theory_merkle.specs.Tree.{groupOf, sibling, log2, depthOf, tre
 ghost use Rattle.theory_merkle.specs.Shape.{Bounded};
 ghost use Rattle.theory_merkle.specs.Questions.{isPow};
 ghost use Rattle.theory_merkle.specs.Numbers.{shapeNumber, treeNumber, leafNumber, nodeNumber, buildNumber, openNumber, rootNumber};
-ghost use Rattle.theory_merkle.specs.Numbers.{leavesNumber, parentsNumber};
+ghost use Rattle.theory_merkle.specs.PartQuestions.{leavesNumber, parentsNumber};
 ghost use Rattle.tree_place.specs.Place.{index, number};
 
 // The place of a value in a list of values. Its number is private to this crate: no place goes where a group is wanted.

@@ -5,16 +5,16 @@ use lib.Pow.{pow-pos}
 use borrow.Author.Needs.{needs}
 use Rattle.theory_laws.proofs.Questions.{asks, zero-said}
 use Rattle.theory_field.specs.Words.{words}
-use Rattle.code_parts.proofs.Lengths.{block-sizes}
+use Rattle.code_parts.proofs.Lengths.{within-sizes, block-said}
 use Rattle.code_parts.proofs.Block.{block-part}
 use Rattle.code_parts.proofs.codeword_block.Statement.{statement}
 use Rattle.code_parts.proofs.codeword_block.Tie as tie
 
-block-number-requires : tie.Need-block-number-requires
-block-number-requires c κs = search needs
+number-within-requires : tie.Need-number-within-requires
+number-within-requires c κs = search needs
 
 returns : tie.Need-returns
-returns c = search (asks, needs)
+returns c = search (asks, block-said, needs)
 
 slice-aggregate-align : tie.Need-slice-aggregate-align
 slice-aggregate-align c = search needs
@@ -23,7 +23,7 @@ align-requires : tie.Need-align-requires
 align-requires c κs =
     let start : tie.Start = search in
     let else1 : tie.Else1 = search in
-    let z = block-sizes _ _ _ _ _ _ _ (else1 .before .block-number .ensures) (else1 .if1 .left) in
+    let z = within-sizes _ _ _ _ _ _ _ _ (else1 .before .number-within .ensures) (else1 .if1 .left) in
     (refl, omega (arith, z .sizes .table=, pow-pos (start .args .n)))
 
 slice-aggregate-encode-block : tie.Need-slice-aggregate-encode-block
@@ -32,7 +32,7 @@ slice-aggregate-encode-block c = search needs
 encode-block-requires : tie.Need-encode-block-requires
 encode-block-requires c κs =
     let else1 : tie.Else1 = search in
-    let z = block-sizes _ _ _ _ _ _ _ (else1 .before .block-number .ensures) (else1 .if1 .left) in
+    let z = within-sizes _ _ _ _ _ _ _ _ (else1 .before .number-within .ensures) (else1 .if1 .left) in
     (z .sizes, z .out=, omega arith)
 
 same-length : tie.Need-same-length
@@ -43,10 +43,10 @@ returns-2 c =
     let start : tie.Start = search in
     let else1 : tie.Else1 = search in
     let after-encode-block : tie.After-encode-block = search in
-    let number = else1 .before .block-number .ensures in
-    let z = block-sizes _ _ _ _ _ _ _ number (else1 .if1 .left) in
+    let number = else1 .before .number-within .ensures in
+    let z = within-sizes _ _ _ _ _ _ _ _ number (else1 .if1 .left) in
     let a = start .args in (
-      zero-said _ _ number (else1 .if1 .left),
+      zero-said _ _ (block-said _ _ _ _ _ _ _ number) (else1 .if1 .left),
       after-encode-block .encode-block .ensures
           ∙ block-part (a .n) (a .k) (a .eps) (words (a .gammas .now)) (words (a .table .now)) (z .below),
     )
@@ -55,7 +55,7 @@ pub codeword-block-spec : {M : Type 1} → statement M
 codeword-block-spec =
     tie.close
     (tie.spec
-    block-number-requires
+    number-within-requires
     returns
     slice-aggregate-align
     align-requires

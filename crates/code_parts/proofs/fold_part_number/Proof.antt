@@ -1,7 +1,7 @@
 -- `code_parts::fold_part_number` meets its contract.
 use borrow.Author.Needs.{needs}
 use Rattle.theory_laws.proofs.Questions.{asks}
-use Rattle.theory_code.specs.Questions.{foldPartNumber}
+use Rattle.theory_code.specs.PartQuestions.{foldPartNumber}
 use Rattle.code_parts.proofs.fold_part_number.Statement.{statement}
 use Rattle.code_parts.proofs.fold_part_number.Tie as tie
 

@@ -5,6 +5,7 @@ use Prim.Native.Nat.{ℕ, zero, suc, _+_}
 use lib.ListN.{set}
 use Rattle.theory_laws.specs.Table.{at}
 use Rattle.theory_multilinear.specs.Fold.{line}
+use Rattle.theory_multilinear.proofs.Passes.{pass}
 use Rattle.theory_multilinear.proofs.PassLoop.{turn}
 
 -- the steps below n, one after another, each on what the one before left
@@ -19,3 +20,7 @@ foldSteps q half r src n = steps n (λ j l. set l (q + j) (line r (at src (q + q
 -- a pass by d on the first n pairs of that run
 abbrev pub passSteps : ℕ → ℕ → ℕ → ℕ → List ℕ → List ℕ
 passSteps q half d n = steps n (λ j. turn (q + q + j) (q + q + half + j) d)
+
+-- what a pass by d at coordinate 0 makes of pair q of a list, stored in another
+abbrev pub pairStored : ℕ → ℕ → List ℕ → List ℕ → List ℕ
+pairStored q d l o = set (set o (q + q) (pass 0 d (at l) (q + q))) (q + q + 1) (pass 0 d (at l) (q + q + 1))

@@ -1,6 +1,6 @@
 -- `tree_place::parents_number` meets its contract.
 use Rattle.theory_laws.proofs.Questions.{asks}
-use Rattle.theory_merkle.specs.Numbers.{parentsNumber}
+use Rattle.theory_merkle.specs.PartQuestions.{parentsNumber}
 use Rattle.tree_place.proofs.parents_number.Statement.{statement}
 use Rattle.tree_place.proofs.parents_number.Tie as tie
 

@@ -1,25 +1,25 @@
--- `code_parts::block_number` meets its contract.
+-- `code_parts::number_within` meets its contract.
 use native.Mathlib.Omega.{arith}
 use borrow.Author.Needs.{needs}
 use Rattle.theory_laws.proofs.Questions.{asks}
-use Rattle.theory_code.specs.Questions.{blockNumber}
+use Rattle.code_parts.specs.helpers.Half.{numberWithin}
 use Rattle.code_codeword.proofs.Lengths.{gammas-fit}
-use Rattle.code_parts.proofs.block_number.Statement.{statement}
-use Rattle.code_parts.proofs.block_number.Tie as tie
+use Rattle.code_parts.proofs.number_within.Statement.{statement}
+use Rattle.code_parts.proofs.number_within.Tie as tie
 
 returns : tie.Need-returns
-unfolding blockNumber
+unfolding numberWithin
 returns c = search asks depth 14 fits 4000
 
 returns-2 : tie.Need-returns-2
-unfolding blockNumber
+unfolding numberWithin
 returns-2 c = search asks depth 14 fits 4000
 
 holds-requires : tie.Need-holds-requires
 holds-requires c κs = search needs
 
 returns-3 : tie.Need-returns-3
-unfolding blockNumber
+unfolding numberWithin
 returns-3 c = search asks depth 14 fits 4000
 
 mul-if4 : tie.Need-mul-if4
@@ -33,29 +33,29 @@ mul-if4-2 c =
     omega (arith, gammas-fit {n = start .args .n} {k = start .args .k} (omega arith) (omega arith))
 
 returns-4 : tie.Need-returns-4
-unfolding blockNumber
+unfolding numberWithin
 returns-4 c = search asks depth 14 fits 4000
 
 holds-requires-2 : tie.Need-holds-requires-2
 holds-requires-2 c κs = search needs
 
 returns-5 : tie.Need-returns-5
-unfolding blockNumber
+unfolding numberWithin
 returns-5 c = search asks depth 14 fits 4000
 
 is-block-requires : tie.Need-is-block-requires
 is-block-requires c κs = search needs
 
 returns-6 : tie.Need-returns-6
-unfolding blockNumber
+unfolding numberWithin
 returns-6 c = search asks depth 14 fits 4000
 
 returns-7 : tie.Need-returns-7
-unfolding blockNumber
+unfolding numberWithin
 returns-7 c = search asks depth 14 fits 4000
 
-pub block-number-spec : {M : Type 1} → statement M
-block-number-spec =
+pub number-within-spec : {M : Type 1} → statement M
+number-within-spec =
     tie.close
     (tie.spec
     returns
