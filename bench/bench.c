@@ -103,6 +103,25 @@ static void equality(void) {
     free(t);
 }
 
+static void ghash(void) {
+    enum { N = 1 << 20 };
+    double ours, plain;
+    uint8_t *s = bytes(N), key[16], out[16];
+    word h = next_word();
+    hashed y;
+    memcpy(key, &h, 16);
+    for (size_t count = 0; count <= 1024; count++) {
+        y = dequmlo_test_ghash(h, s, 16 * count);
+        plain_ghash(key, s, count, out);
+        must(y.number == 0 && memcmp(&y.block, out, 16) == 0, "GHASH");
+    }
+    BEST(ours, 1, y = dequmlo_test_ghash(h, s, N));
+    BEST(plain, 1, plain_ghash(key, s, N / 16, out));
+    must(y.number == 0 && memcmp(&y.block, out, 16) == 0, "GHASH of 1 MiB");
+    line("GHASH of 1 MiB", "-", ours, plain);
+    free(s);
+}
+
 static void long_digest(void) {
     enum { N = 1 << 24 };
     double ours, plain;
@@ -175,6 +194,7 @@ int main(int count, char **arguments) {
     products();
     runs();
     equality();
+    ghash();
     long_digest();
     double leaf = messages(253, "message of 253 bytes", "the same, four at once", "leaf_width8_domain20");
     double node = messages(164, "message of 164 bytes", "the same, four at once", "node_domain20");

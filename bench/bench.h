@@ -30,6 +30,14 @@ typedef struct {
 digested dequmlo_test_digest(const uint8_t *input, size_t length);
 four_digests dequmlo_test_four(const uint8_t *s0, size_t n0, const uint8_t *s1, size_t n1, const uint8_t *s2, size_t n2, const uint8_t *s3, size_t n3);
 
+/* A block travels as its two halves do, each of 8 bytes. */
+typedef struct {
+    uint32_t number;
+    word block;
+} hashed;
+
+hashed dequmlo_test_ghash(word key, const uint8_t *blocks, size_t length);
+
 typedef struct {
     uint32_t number;
     size_t n;

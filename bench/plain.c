@@ -114,6 +114,58 @@ void plain_eq_table(size_t n, const uint64_t *point, uint64_t *out) {
     }
 }
 
+/* ---- GHASH by Shoup's tables of four bits. A block is two numbers here, its bits read from left to right: the coefficient of x^127 is bit 0 of `lo`. */
+
+static uint64_t from_left(const uint8_t *s) {
+    uint64_t x = 0;
+    for (int i = 0; i < 8; i++) x = x << 8 | s[i];
+    return x;
+}
+
+static void to_left(uint8_t *s, uint64_t x) {
+    for (int i = 7; i >= 0; i--, x >>= 8) s[i] = (uint8_t)x;
+}
+
+/* Times x: the bits move to the right. */
+static word moved(word a) {
+    return (word){a.lo >> 1 | a.hi << 63, a.hi >> 1 ^ (a.lo & 1) * 0xe100000000000000};
+}
+
+/* t has the key's product with each four bits; `back`, for each four bits that fall out on the right, what comes back for them on the left. */
+static void four_bits(word t[16], uint64_t back[16], word key) {
+    t[0] = (word){0, 0};
+    t[8] = key;
+    for (int v = 4; v > 0; v /= 2) t[v] = moved(t[2 * v]);
+    for (int v = 1; v < 16; v *= 2)
+        for (int i = 1; i < v; i++) t[v + i] = add(t[v], t[i]);
+    for (uint64_t v = 0; v < 16; v++) {
+        word w = {v, 0};
+        for (int i = 0; i < 4; i++) w = moved(w);
+        back[v] = w.hi;
+    }
+}
+
+/* Sixteen turns for each number of the block, the last four bits first. */
+static word by_fours(const word t[16], const uint64_t back[16], word p, uint64_t x) {
+    for (int j = 0; j < 16; j++, x >>= 4) {
+        p = (word){p.lo >> 4 | p.hi << 60, p.hi >> 4 ^ back[p.lo & 15]};
+        p = add(p, t[x & 15]);
+    }
+    return p;
+}
+
+void plain_ghash(const uint8_t key[16], const uint8_t *blocks, size_t count, uint8_t out[16]) {
+    word t[16], y = {0, 0};
+    uint64_t back[16];
+    four_bits(t, back, (word){from_left(key + 8), from_left(key)});
+    for (size_t i = 0; i < count; i++) {
+        word x = add(y, (word){from_left(blocks + 16 * i + 8), from_left(blocks + 16 * i)});
+        y = by_fours(t, back, by_fours(t, back, (word){0, 0}, x.lo), x.hi);
+    }
+    to_left(out, y.hi);
+    to_left(out + 8, y.lo);
+}
+
 /* ---- BLAKE3 */
 
 static const uint32_t IV[8] = {0x6A09E667, 0xBB67AE85, 0x3C6EF372, 0xA54FF53A, 0x510E527F, 0x9B05688C, 0x1F83D9AB, 0x5BE0CD19};

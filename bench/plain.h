@@ -14,6 +14,9 @@ word plain_inv(word a);
 void plain_scale(uint64_t *s, size_t words, word r);
 void plain_eq_table(size_t n, const uint64_t *point, uint64_t *out);
 
+/* GHASH of whole blocks (SP 800-38D), by Shoup's tables of four bits. */
+void plain_ghash(const uint8_t key[16], const uint8_t *blocks, size_t count, uint8_t out[16]);
+
 /* BLAKE3 in hash mode, one block at a time. */
 void plain_blake3(const uint8_t *input, size_t length, uint8_t digest[32]);
 #endif

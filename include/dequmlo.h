@@ -10,7 +10,8 @@
    Functions share no state: any number of threads may call them, each with buffers of its own.
 
    Words. A word is an element of GF(2^128): bit i is the coefficient of x^i, reduced by x^128 + x^7 + x^2 + x + 1. A table of words is
-   lent as uint64_t halves, the low half first, so its count is twice its words. Digests are 32 bytes each.
+   lent as uint64_t halves, the low half first, so its count is twice its words. Digests are 32 bytes each. A block is a word in the order of
+   NIST SP 800-38D (GCM): 16 bytes, of which the leftmost bit of the first is the coefficient of x^0.
 
    Sizes. n is from 0 to 20 and k from 0 to 4; for records and comparing n is from 1. A length that is not the one named at a function is
    refused with 5. */
@@ -22,9 +23,9 @@
 
 /* The version of this header, which is that of the archive beside it. */
 #define DEQUMLO_VERSION_MAJOR 0
-#define DEQUMLO_VERSION_MINOR 4
+#define DEQUMLO_VERSION_MINOR 5
 #define DEQUMLO_VERSION_PATCH 0
-#define DEQUMLO_VERSION "0.4.0"
+#define DEQUMLO_VERSION "0.5.0"
 
 #ifdef __cplusplus
 extern "C" {
@@ -90,6 +91,18 @@ typedef struct {
     uint32_t number;
     dequmlo_word word;
 } dequmlo_answered;
+
+/* A block by value: its 16 bytes in their order. The halves are the same bytes, and are there so that a block is aligned as it travels. */
+typedef union {
+    uint8_t bytes[16];
+    uint64_t halves[2];
+} dequmlo_block;
+
+/* A block; zeros where the number is not 0. */
+typedef struct {
+    uint32_t number;
+    dequmlo_block block;
+} dequmlo_hashed;
 
 /* The 128 row coefficients, which travel by value. */
 typedef struct {
@@ -285,6 +298,31 @@ uint32_t dequmlo_materialize(size_t n, const uint64_t *z, size_t z_length, dequm
 /* The multilinear extension of that table at a point of n words; no table is filled. Refuses: 4 (n), 5 (a length). */
 dequmlo_answered dequmlo_eval_at(size_t n, const uint64_t *z, size_t z_length, dequmlo_coefficients rb, const uint64_t *point,
                                  size_t point_length);
+
+/* ---- blocks of NIST SP 800-38D (GCM), for words that are kept or hashed in that order */
+
+/* The word of a block: coefficient i of the word is bit i of the block, counted from the left. Refuses nothing. */
+dequmlo_word dequmlo_import_block(dequmlo_block block);
+
+/* The block of a word: `dequmlo_import_block` gives the word back. Refuses nothing. */
+dequmlo_block dequmlo_export_block(dequmlo_word word);
+
+/* The words of a run of blocks.
+   - blocks: 16 bytes each, any number of them, none included. out: as many words.
+   Refuses: 5 (not whole blocks, or another number of words). */
+uint32_t dequmlo_import_blocks(const uint8_t *blocks, size_t blocks_length, uint64_t *out, size_t out_length);
+
+/* The blocks of a run of words.
+   - words: any number, none included. out: 16 bytes for each.
+   Refuses: 5 (half a word, or another number of bytes). */
+uint32_t dequmlo_export_blocks(const uint64_t *words, size_t words_length, uint8_t *out, size_t out_length);
+
+/* GHASH of a run of blocks by a hash key: from zero on, the next block is added and the sum is multiplied by the key, block after block. Of
+   no block it is zeros. Products look up tables by data, so its time may show something of the key and the blocks.
+   - blocks: 16 bytes each, any number of them, none included. Nothing is filled up, and no lengths are put behind them: what GCM hashes ends
+     with a block of lengths, which the caller writes.
+   Refuses: 5 (not whole blocks). */
+dequmlo_hashed dequmlo_ghash(dequmlo_block key, const uint8_t *blocks, size_t blocks_length);
 
 /* ---- parameters of the profiles, and of seals that name none. These refuse nothing. */
 

@@ -168,6 +168,24 @@ static answer run_eval_at(const call *c, const lent *b) {
     return answered(dequmlo_eval_at(c->numbers[0], WORDS(0), rows, WORDS(1)));
 }
 
+static answer run_import_blocks(const call *c, const lent *b) {
+    (void)c;
+    return plain(dequmlo_import_blocks(AT(0), WORDS(1)));
+}
+
+static answer run_export_blocks(const call *c, const lent *b) {
+    (void)c;
+    return plain(dequmlo_export_blocks(WORDS(0), AT(1)));
+}
+
+static answer run_ghash(const call *c, const lent *b) {
+    dequmlo_block key = {{0}};
+    memcpy(key.bytes, &c->word, 16);
+    dequmlo_hashed h = dequmlo_ghash(key, AT(0));
+    answer a = {h.number, zeros(h.block.bytes, 16)};
+    return a;
+}
+
 static answer run_digest(const call *c, const lent *b) {
     (void)c;
     return digested(dequmlo_digest(AT(0)));
@@ -261,12 +279,17 @@ static slice reads(const void *content, size_t element, size_t count, uint32_t o
     return s;
 }
 
+/* What may have any number of items: none are refused nothing. */
+static slice reads_any(const void *content, size_t element, size_t count) {
+    slice s = {content, element, count, 0, 5, 5, 0};
+    return s;
+}
+
 static slice writes(const void *content, size_t element, size_t count) {
     slice s = {content, element, count, 1, 5, 5, 5};
     return s;
 }
 
-/* A buffer that may have any number of items: none are refused nothing. */
 static slice writes_any(const void *content, size_t element, size_t count) {
     slice s = {content, element, count, 1, 5, 5, 0};
     return s;
@@ -617,6 +640,23 @@ int main(void) {
     call eval_at = {"eval_at", run_eval_at, {N}, 2, {reads(challenges, 8, 2 * N, 5), reads(table, 8, 2 * N, 5)}, 0, {0, 0}};
     lengths(&eval_at);
     sizes(&eval_at, 0, 0, 0);
+
+    /* Three blocks; then none and two on both sides, and what is not whole on both. */
+    call import_blocks = {"import_blocks", run_import_blocks, {0}, 2, {reads(scratch, 1, 48, 5), writes(scratch, 8, 6)}, 0, {0, 0}};
+    lengths(&import_blocks);
+    for (size_t i = 0; i < 48; i++) counts(&import_blocks, 0, i, 1, 2 * (i / 16), i % 16 == 0 ? 0 : 5);
+    counts(&import_blocks, 0, 24, 1, 3, 5);
+
+    call export_blocks = {"export_blocks", run_export_blocks, {0}, 2, {reads(scratch, 8, 6, 5), writes(scratch, 1, 48)}, 0, {0, 0}};
+    lengths(&export_blocks);
+    for (size_t i = 0; i < 6; i++) counts(&export_blocks, 0, i, 1, 8 * i, i % 2 == 0 ? 0 : 5);
+    counts(&export_blocks, 0, 4, 1, 24, 5);
+
+    /* Both kernels: the other one takes over at 384 blocks. */
+    call ghash = {"ghash", run_ghash, {0}, 1, {reads_any(scratch, 1, 48)}, 0, {3, 4}};
+    lengths(&ghash);
+    for (size_t i = 0; i < 64; i++) count(&ghash, 0, i, i % 16 == 0 ? 0 : 5);
+    for (size_t i = 6128; i <= 6160; i++) count(&ghash, 0, i, i % 16 == 0 ? 0 : 5);
 
     while (copied > 0) free(copies[--copied]);
     unsealed(&s);

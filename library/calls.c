@@ -197,6 +197,71 @@ static void ring(void) {
     MUST(folded.number == 0 && folded.word.lo == 5 && folded.word.hi == 0);
 }
 
+/* The first byte of a block, and zeros. */
+static dequmlo_block block(uint8_t first) {
+    dequmlo_block b;
+    memset(&b, 0, sizeof b);
+    b.bytes[0] = first;
+    return b;
+}
+
+/* A block travels by value as its two halves do, and in an answer stands behind the number as they would. */
+typedef struct {
+    uint32_t number;
+    uint64_t first, second;
+} hashed_halves;
+
+static void blocks_by_value(void) {
+    MUST(sizeof(dequmlo_block) == 16 && sizeof(dequmlo_hashed) == sizeof(hashed_halves));
+    MUST(offsetof(dequmlo_hashed, block) == offsetof(hashed_halves, first));
+    dequmlo_word w = dequmlo_import_block(block(0x80));
+    MUST(w.lo == 1 && w.hi == 0);
+    w = dequmlo_import_block(block(0xe1));
+    MUST(w.lo == 0x87 && w.hi == 0);
+    /* Every bit by itself: bit i, counted from the left, is the coefficient of x^i. */
+    for (size_t i = 0; i < 128; i++) {
+        dequmlo_block b = block(0);
+        b.bytes[i / 8] = (uint8_t)(0x80 >> i % 8);
+        w = dequmlo_import_block(b);
+        MUST(w.lo == (i < 64 ? (uint64_t)1 << i : 0) && w.hi == (i < 64 ? 0 : (uint64_t)1 << (i - 64)));
+        dequmlo_block back = dequmlo_export_block(w);
+        MUST(memcmp(back.bytes, b.bytes, 16) == 0);
+    }
+}
+
+/* A run is its blocks one by one, and exported it is as it was. */
+static void block_runs(size_t count) {
+    uint8_t *bytes = (uint8_t *)room(16 * count), *back = (uint8_t *)room(16 * count);
+    uint64_t *words = (uint64_t *)room(16 * count), seed = count;
+    for (size_t i = 0; i < 16 * count; i++) bytes[i] = (uint8_t)drawn(&seed);
+    MUST(dequmlo_import_blocks(bytes, 16 * count, words, 2 * count) == 0);
+    for (size_t i = 0; i < count; i++) {
+        dequmlo_block b;
+        memcpy(b.bytes, bytes + 16 * i, 16);
+        dequmlo_word w = dequmlo_import_block(b);
+        MUST(words[2 * i] == w.lo && words[2 * i + 1] == w.hi);
+    }
+    MUST(dequmlo_export_blocks(words, 2 * count, back, 16 * count) == 0 && memcmp(back, bytes, 16 * count) == 0);
+    free(bytes), free(back), free(words);
+}
+
+/* GHASH of test case 2 of NIST's examples, of no block, and by the standard's 1, under which it is the sum of the blocks. */
+static void ghash(void) {
+    static const uint8_t key[16] = {0x66, 0xe9, 0x4b, 0xd4, 0xef, 0x8a, 0x2c, 0x3b, 0x88, 0x4c, 0xfa, 0x59, 0xca, 0x34, 0x2b, 0x2e};
+    static const uint8_t blocks[32] = {0x03, 0x88, 0xda, 0xce, 0x60, 0xb6, 0xa3, 0x92, 0xf3, 0x28, 0xc2, 0xb9, 0x71, 0xb2, 0xfe, 0x78,
+                                       0, 0, 0, 0, 0, 0, 0, 0, 0, 0, 0, 0, 0, 0, 0, 0x80};
+    static const uint8_t value[16] = {0xf3, 0x8c, 0xbb, 0x1a, 0xd6, 0x92, 0x23, 0xdc, 0xc3, 0x45, 0x7a, 0xe5, 0xb6, 0xb0, 0xf8, 0x85};
+    static const uint8_t zeros[16] = {0};
+    dequmlo_block h;
+    memcpy(h.bytes, key, 16);
+    dequmlo_hashed y = dequmlo_ghash(h, blocks, 32);
+    MUST(y.number == 0 && memcmp(y.block.bytes, value, 16) == 0);
+    y = dequmlo_ghash(h, blocks, 0);
+    MUST(y.number == 0 && memcmp(y.block.bytes, zeros, 16) == 0);
+    y = dequmlo_ghash(block(0x80), blocks, 32);
+    MUST(y.number == 0 && memcmp(y.block.bytes, blocks, 15) == 0 && y.block.bytes[15] == (0x78 ^ 0x80));
+}
+
 static void profile(dequmlo_parameters p, size_t k, size_t queries, const char *domain) {
     MUST(p.k == k && p.queries == queries && p.length == strlen(domain) && memcmp(p.domain, domain, p.length) == 0);
     for (size_t i = p.length; i < sizeof p.domain; i++) MUST(p.domain[i] == 0);
@@ -236,6 +301,11 @@ int main(void) {
     level_parts(8, 4, 100);
     records();
     ring();
+    blocks_by_value();
+    block_runs(0);
+    block_runs(1);
+    block_runs(1000);
+    ghash();
     parameters();
     puts("calls: every function answers");
     return 0;

@@ -8,7 +8,7 @@
 /* ---- what is lent: a place for each buffer, which lies at its end */
 
 enum { DOMAIN, LEVEL_DOMAIN, INPUT, TABLE, CHALLENGES, GAMMAS, LEVELS, HALF, TREES, LEVEL_TREE, ROOTS, QUERY, TAIL, FIRST, SECOND, TREE, PATH, POINT,
-       PARTIALS, INDICATOR, PLACES };
+       PARTIALS, INDICATOR, BLOCKS, PLACES };
 
 static const size_t ROOM = (size_t)1 << 31;
 static uint8_t *ends[2][PLACES]; /* of what is written, and of what may only be read */
@@ -329,6 +329,36 @@ static uint32_t fold_partials(const size_t *v) {
     return 0;
 }
 
+/* bytes of blocks, halves of words. Of the input. */
+static uint32_t import_blocks(const size_t *v) {
+    uint64_t *words = (uint64_t *)(void *)bytes_of(LEVELS, 8 * v[1]);
+    uint32_t number = dequmlo_import_blocks(BYTES(INPUT, v[0]), words, v[1]);
+    if (number != 0 || v[0] == 0) return number;
+    dequmlo_block last;
+    memcpy(last.bytes, bytes_of(INPUT, 16), 16);
+    dequmlo_word w = dequmlo_import_block(last);
+    MUST(w.lo == words[v[1] - 2] && w.hi == words[v[1] - 1]);
+    return 0;
+}
+
+/* halves of words, bytes of blocks. Of the words above: the input again. */
+static uint32_t export_blocks(const size_t *v) {
+    const uint64_t *words = (const uint64_t *)(const void *)bytes_of(LEVELS, 8 * v[0]);
+    uint32_t number = dequmlo_export_blocks(words, v[0], BYTES(BLOCKS, v[1]));
+    if (number == 0) MUST(memcmp(bytes_of(BLOCKS, v[1]), bytes_of(INPUT, v[1]), v[1]) == 0);
+    return number;
+}
+
+/* bytes of blocks. By the standard's 1 it is their sum. */
+static uint32_t ghash(const size_t *v) {
+    dequmlo_block one = {{0x80}};
+    dequmlo_hashed y = dequmlo_ghash(one, BYTES(INPUT, v[0]));
+    uint8_t sum[16] = {0};
+    for (size_t i = 0; y.number == 0 && i < v[0]; i++) sum[i % 16] ^= bytes_of(INPUT, v[0])[i];
+    MUST(memcmp(y.block.bytes, sum, 16) == 0);
+    return y.number;
+}
+
 /* ---- the table */
 
 typedef struct {
@@ -559,6 +589,33 @@ static const row rows[] = {
     {CALL(fold_partials), {128}, 0},
     {CALL(fold_partials), {127}, 5},
     {CALL(fold_partials), {129}, 5},
+
+    {CALL(import_blocks), {0, 0}, 0},
+    {CALL(import_blocks), {16, 2}, 0},
+    {CALL(import_blocks), {MOST, MOST / 8}, 0},
+    {CALL(import_blocks), {LAST, MOST / 8}, 5},
+    {CALL(import_blocks), {MOST + 1, MOST / 8}, 5},
+    {CALL(import_blocks), {MOST, MOST / 8 - 1}, 5},
+    {CALL(import_blocks), {MOST, MOST / 8 + 1}, 5},
+    {CALL(import_blocks), {0, 1}, 5},
+
+    {CALL(export_blocks), {0, 0}, 0},
+    {CALL(export_blocks), {2, 16}, 0},
+    {CALL(export_blocks), {MOST / 8, MOST}, 0},
+    {CALL(export_blocks), {MOST / 8 - 1, MOST}, 5},
+    {CALL(export_blocks), {MOST / 8 - 1, MOST - 8}, 5},
+    {CALL(export_blocks), {MOST / 8, LAST}, 5},
+    {CALL(export_blocks), {MOST / 8, MOST + 1}, 5},
+    {CALL(export_blocks), {0, 1}, 5},
+
+    {CALL(ghash), {0}, 0},
+    {CALL(ghash), {16}, 0},
+    {CALL(ghash), {MOST}, 0},
+    {CALL(ghash), {LAST}, 5},
+    {CALL(ghash), {MOST + 1}, 5},
+    {CALL(ghash), {1}, 5},
+    {CALL(ghash), {15}, 5},
+    {CALL(ghash), {17}, 5},
 };
 
 /* ---- the run */

@@ -69,8 +69,16 @@ static void small_answers(void) {
     kept = dequmlo_sizes(s.n, s.k).levels + dequmlo_fold_tree_width(16) + dequmlo_level_domain_length(BASE, 8).length;
     kept += dequmlo_default_parameters().k + dequmlo_unnamed_parameters(1).k + dequmlo_firstdefault().k;
     kept += dequmlo_fastchunk().k + dequmlo_balanced().k + dequmlo_compactwrap().k + dequmlo_deepwrap().k;
+    kept += dequmlo_import_block(dequmlo_export_block(rows.words[0])).lo;
 }
 static void eval_at(void) { MUST(dequmlo_eval_at(s.n, s.challenges, 2 * s.n, rows, s.challenges, 2 * s.n).number == 0); }
+
+static void import_blocks(void) { MUST(dequmlo_import_blocks(bytes, 16000, words, 2000) == 0); }
+static void export_blocks(void) { MUST(dequmlo_export_blocks(words, 2000, bytes, 16000) == 0); }
+static void ghash(void) {
+    dequmlo_block key = {{0x80}};
+    MUST(dequmlo_ghash(key, bytes, sizeof bytes).number == 0);
+}
 
 typedef struct {
     const char *name;
@@ -126,7 +134,10 @@ int main(void) {
         {"fold_partials", fold_partials},
         {"materialize", materialize},
         {"eval_at", eval_at},
-        {"sizes and parameters", small_answers},
+        {"sizes, parameters and blocks", small_answers},
+        {"import_blocks", import_blocks},
+        {"export_blocks", export_blocks},
+        {"ghash", ghash},
     };
     static const function empty = {"nothing", nothing};
     s = sealed(8, 2, 100, 1);

@@ -9,7 +9,7 @@ import records
 from lines import FILL, shown
 from model import CHUNK_END, CHUNK_START, PARENT, PROFILES, ROOT_NODE, blake3, compress
 from model import derive, encode, equality_table, extension, fold_tree_width, gamma_message, leaf_message, level_domain, mul, node_message, path
-from model import fold as fold_first, number as number_bytes, part, root_of_path, seal_parameters as parameters_of_seal, shift, tree
+from model import exported, fold as fold_first, ghash, imported, number as number_bytes, part, root_of_path, seal_parameters as parameters_of_seal, shift, tree
 from records import Deposit, first_no, query, query_bytes, tail_bytes
 
 OPERATIONS = {}
@@ -159,6 +159,43 @@ def mul_run(run, r, _):
 @operation
 def axpy_run(y, x, r, _):
     return done(0, packed([a ^ mul(b, ints(r)[0]) for a, b in zip(ints(y), ints(x))]))
+
+
+# ---- blocks
+
+
+def sixteens(data):
+    return [data[i : i + 16] for i in range(0, len(data), 16)]
+
+
+@operation
+def import_block(block, _):
+    return done(0, packed([imported(block)]))
+
+
+@operation
+def export_block(word, _):
+    return done(0, exported(*ints(word)))
+
+
+@operation
+def import_run(blocks, out):
+    number = no((5, len(blocks) % 16 == 0 and out == len(blocks) // 8))
+    return done(number, *([packed(map(imported, sixteens(blocks)))] if number == 0 else []))
+
+
+@operation
+def export_run(words, out):
+    number = no((5, halves(words) % 2 == 0 and out == len(words)))
+    return done(number, *([b"".join(map(exported, ints(words)))] if number == 0 else []))
+
+
+@operation
+def ghash_(key, blocks, _):
+    return ([5], [bytes(16)]) if len(blocks) % 16 else ([0], [ghash(key, blocks)])
+
+
+OPERATIONS["ghash"] = OPERATIONS.pop("ghash_")
 
 
 # ---- ring switching

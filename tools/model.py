@@ -1,7 +1,7 @@
-"""docs/SPECIFICATION.md in schoolbook form, for the tools that make expected results: words, BLAKE3, the code, trees and levels.
+"""docs/SPECIFICATION.md in schoolbook form, for the tools that make expected results: words, the code, blocks, BLAKE3, trees and levels.
 
 Independent of the code and of the Rust: the product by shifts, P(z) as the sum over v of word v times entry v of z's equality table,
-BLAKE3 after its specification, messages put together as SPECIFICATION 5.2, 5.3 and 6.1 have them."""
+blocks after SP 800-38D, BLAKE3 after its specification, messages put together as SPECIFICATION 5.2, 5.3 and 6.1 have them."""
 import functools
 import hashlib
 import struct
@@ -63,6 +63,42 @@ def some_words(label, count):
     """Words that look random, the same in every run."""
     digest = lambda i: hashlib.sha256(b"%s %d" % (label.encode(), i)).digest()
     return [int.from_bytes(digest(i)[:16], "little") for i in range(count)]
+
+
+# ---- the blocks of SP 800-38D: 128 bits, the leftmost first. As a number a block is its bits read from left to right.
+
+R = 0b11100001 << 120
+
+
+def bits_of_block(block):
+    return format(int.from_bytes(block, "big"), "0128b")
+
+
+def block_product(x, y):
+    """Algorithm 1 (SP 800-38D, 6.3): X • Y."""
+    z, v = 0, int.from_bytes(y, "big")
+    for bit in bits_of_block(x):
+        z = z ^ v if bit == "1" else z
+        v = v >> 1 ^ R if v & 1 else v >> 1
+    return z.to_bytes(16, "big")
+
+
+def ghash(key, blocks):
+    """Algorithm 2 (SP 800-38D, 6.4), of whole blocks."""
+    y = bytes(16)
+    for i in range(0, len(blocks), 16):
+        y = block_product(bytes(a ^ b for a, b in zip(y, blocks[i : i + 16])), key)
+    return y
+
+
+def imported(block):
+    """The word whose bit i is bit i of the block."""
+    return sum(int(bit) << i for i, bit in enumerate(bits_of_block(block)))
+
+
+def exported(word):
+    """The block whose bit i is bit i of the word."""
+    return int("".join(str(word >> i & 1) for i in range(128)), 2).to_bytes(16, "big")
 
 
 # ---- BLAKE3

@@ -10,6 +10,7 @@ import subprocess
 import sys
 
 import answers
+import cases_blocks
 import cases_field
 import cases_record
 import cases_rust
@@ -36,7 +37,7 @@ def below(folder, named):
 def files(oracle):
     """The files of each program, in the order in which it reads them: name and lines."""
     return {
-        "test_field": [*cases_field.files(), *cases_rust.field_files()],
+        "test_field": [*cases_field.files(), *cases_blocks.files(), *cases_rust.field_files()],
         "test_record": [
             *below("tree", [*cases_tree.files(), *cases_rust.tree_files()]),
             *below("record", [*cases_record.files(), *cases_rust.record_files(records(oracle))]),

@@ -35,6 +35,7 @@
 
 #![warn(missing_docs, missing_debug_implementations)]
 
+pub mod block;
 mod buffers;
 pub mod code;
 mod deposit;
@@ -49,6 +50,7 @@ mod threads;
 pub mod tree;
 mod word;
 
+pub use block::Block;
 pub use buffers::Buffers;
 pub use deposit::{Deposit, Folded};
 pub use parameters::Parameters;

@@ -62,6 +62,19 @@ pub struct Answered {
 }
 
 #[repr(C)]
+#[derive(Clone, Copy)]
+pub struct Block {
+    pub first: u64,
+    pub second: u64,
+}
+
+#[repr(C)]
+pub struct Hashed {
+    pub number: u32,
+    pub block: Block,
+}
+
+#[repr(C)]
 pub struct Coefficients {
     pub words: [Word; 128],
 }
@@ -357,6 +370,21 @@ extern "C" {
         point: *const u64,
         point_length: usize,
     ) -> Answered;
+    pub fn dequmlo_import_block(block: Block) -> Word;
+    pub fn dequmlo_export_block(word: Word) -> Block;
+    pub fn dequmlo_import_blocks(
+        blocks: *const u8,
+        blocks_length: usize,
+        out: *mut u64,
+        out_length: usize,
+    ) -> u32;
+    pub fn dequmlo_export_blocks(
+        words: *const u64,
+        words_length: usize,
+        out: *mut u8,
+        out_length: usize,
+    ) -> u32;
+    pub fn dequmlo_ghash(key: Block, blocks: *const u8, blocks_length: usize) -> Hashed;
     pub fn dequmlo_default_parameters() -> Parameters;
     pub fn dequmlo_fastchunk() -> Parameters;
     pub fn dequmlo_balanced() -> Parameters;

@@ -108,7 +108,7 @@ pub const EXPLANATIONS: [Explanation; 33] = [
     explained(4, "n is above 20, or k is above 4, or n is 0 where there must be a level, or there is no such level", PARAMETERS),
     explained(
         5,
-        "a list does not have the length that n, k or a count fixes",
+        "a list does not have the length that n, k or a count fixes, or is not whole words or blocks",
         "Ask for the challenges and the roots again: there is one challenge for each level, and one root more.",
     ),
     explained(6, "the variable to fold at is not below n", PROGRAM),

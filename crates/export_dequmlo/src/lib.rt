@@ -1,5 +1,6 @@
 // The library that people link: the seal's jobs, exported to C under the prefix `dequmlo_`. Each function is one call of an entry and has
 // that entry's contract; include/dequmlo.h declares them. A lent slice is a pointer and a length; lent buffers must not overlap.
+pub mod blocks;
 pub mod coding;
 pub mod hashing;
 pub mod parameters;

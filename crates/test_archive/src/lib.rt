@@ -2,6 +2,8 @@
 // people link. A helper that requires is called only where its requirement holds; elsewhere nothing is done.
 use code_profile::Parameters;
 use code_profile::Profile;
+use field_blocks::Block;
+use field_blocks::Hashed;
 use field_gf128::Inverse;
 use field_gf128::Word;
 use hash_hasher::whole::Digested;
@@ -50,6 +52,11 @@ pub extern "C" fn dequmlo_test_axpy(y: &mut [u64], x: &[u64], r: Word) {
             field_runs::axpy(y, x, r, &mut t);
         }
     }
+}
+
+#[no_mangle]
+pub extern "C" fn dequmlo_test_ghash(key: Block, blocks: &[u8]) -> Hashed {
+    field_blocks::ghash(key, blocks)
 }
 
 #[no_mangle]

@@ -1,8 +1,9 @@
-// Answers request lines on words, tables of words, ring switching and the code: the lines of the files in data/, each of which says where
+// Answers request lines on words, tables of words, ring switching, the code and blocks: the lines of the files in data/, each of which says where
 // its answers come from. tools/vectors.py writes the lines and what is to be printed.
 ghost use mathlib.Core.Path.{_≡_};
 ghost use lib.ListN.{length};
 
+mod blocks;
 mod code;
 mod field;
 mod ring;
@@ -12,11 +13,13 @@ use test_lines::answer::Answer;
 use test_lines::answer::no_room;
 use test_lines::answer::print;
 use test_lines::answer::print_answer;
+use test_lines::parts::first;
 use test_lines::parts::first_halves;
 use test_lines::parts::next;
 use test_lines::parts::part;
 use test_lines::parts::piece;
 use test_lines::request;
+use test_lines::request::OUT_BYTES;
 use test_lines::request::OUT_WORDS;
 use test_lines::request::bytes_in;
 use test_lines::request::item;
@@ -24,7 +27,7 @@ use test_lines::request::numbers_in;
 use test_lines::request::words_in;
 
 // What a request is answered: the layer by its row of the table, the operation by its place in it.
-fn answer(operation: usize, words: &[u64], bytes: &[u8], w: &mut [u64]) -> Answer {
+fn answer(operation: usize, words: &[u64], bytes: &[u8], w: &mut [u64], y: &mut [u8]) -> Answer {
     let place = operation % 8;
     let n = numbers_in(words);
     let a = words_in(words, 0);
@@ -36,16 +39,23 @@ fn answer(operation: usize, words: &[u64], bytes: &[u8], w: &mut [u64]) -> Answe
         2 => field::table(place, n, a, b, c, s, w),
         3 => ring::answer(place, n, a, b, c, w),
         4 => code::answer(place, n, a, b, s, w),
+        5 => blocks::answer(place, a, s, bytes_in(words, bytes, 1), w, y),
         _ => no_room(),
     }
 }
 
-// Answers a request and prints the answer; the output holds what it holds before it is lent.
+// Answers a request and prints the answer; the outputs hold what they hold before they are lent.
 fn respond(line: usize, operation: usize, words: &[u64], bytes: &[u8]) {
     let mut w = [0xa5a5_a5a5_a5a5_a5a5u64; 8192];
-    let out = first_halves(&mut w, item(words, OUT_WORDS, 0));
-    let a = answer(operation, words, bytes, out);
-    print_answer(line, words, a, &w, &[], &[], &[]);
+    let mut y = [0xa5u8; 8192];
+    let a = answer(
+        operation,
+        words,
+        bytes,
+        first_halves(&mut w, item(words, OUT_WORDS, 0)),
+        first(&mut y, item(words, OUT_BYTES, 0)),
+    );
+    print_answer(line, words, a, &w, &[], &y, &[]);
 }
 
 // A line: what it keeps is put after what is kept already, and what it asks is answered. Answers how many bytes are kept.
@@ -92,6 +102,13 @@ gamma_message nnbnn
 codeword_block nnnwwW
 fold_part nnnwnwW
 codeword_half nnnwwW
+import_block bo
+export_block wB
+import_run bW
+export_run wB
+ghash bbB
+none n
+none n
 none n
 ";
     let operation = request::read(s, table, kept, bytes, &mut words);
@@ -145,6 +162,8 @@ tables.txt
 ring.txt
 code.txt
 differences.txt
+blocks.txt
+gcm.txt
 rust_field.txt
 rust_runs.txt
 rust_ring.txt

@@ -1,0 +1,5 @@
+pub mod Strings
+pub mod Product
+pub mod Mirrored
+pub mod Ghash
+pub mod Values

@@ -1,0 +1,5 @@
+pub mod Strings
+pub mod Product
+pub mod Ghash
+pub mod Blocks
+pub mod helpers
