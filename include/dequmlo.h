@@ -14,7 +14,12 @@
    NIST SP 800-38D (GCM): 16 bytes, of which the leftmost bit of the first is the coefficient of x^0.
 
    Sizes. n is from 0 to 20 and k from 0 to 4; for records and comparing n is from 1. A length that is not the one named at a function is
-   refused with 5. */
+   refused with 5.
+
+   Widths. A level's tree has one leaf for each group of consecutive words. How many words a group has depends on the level's length and on the
+   set of widths, of which there are two: `DEQUMLO_WIDTHS_PRESENT` and `DEQUMLO_WIDTHS_WIDE`. A seal has one set throughout: it is committed, folded,
+   shown, checked and compared under the same. Every function whose answer depends on it takes it as `widths`, right before n. A number that
+   is neither is refused with 4 before every other question. */
 #ifndef DEQUMLO_H
 #define DEQUMLO_H
 
@@ -23,9 +28,17 @@
 
 /* The version of this header, which is that of the archive beside it. */
 #define DEQUMLO_VERSION_MAJOR 0
-#define DEQUMLO_VERSION_MINOR 5
+#define DEQUMLO_VERSION_MINOR 6
 #define DEQUMLO_VERSION_PATCH 0
-#define DEQUMLO_VERSION "0.5.0"
+#define DEQUMLO_VERSION "0.6.0"
+
+/* The sets of widths. The present one has groups of 8 words in levels of 16 words or more, the wide one groups of 32 in levels of 64 or more. Shorter
+   levels have groups of 2 words under either, and a level of one word has one. Seals that were made before version 0.6.0 have the present set. */
+#define DEQUMLO_WIDTHS_PRESENT 0
+#define DEQUMLO_WIDTHS_WIDE 1
+
+/* How many bytes each of the two messages of `dequmlo_compare` is given, under either set. The longest has 818. */
+#define DEQUMLO_MESSAGE_BUFFER 1024
 
 #ifdef __cplusplus
 extern "C" {
@@ -36,7 +49,7 @@ typedef struct {
     uint64_t hi;
 } dequmlo_word;
 
-/* What n and k fix; all 0 where the number is not 0. In words: the table, the gammas, the codeword, all levels end to end, the room for a fold
+/* What a set of widths, n and k fix; all 0 where the number is not 0. In words: the table, the gammas, the codeword, all levels end to end, the room for a fold
    that `dequmlo_fold_levels` takes, and the last level. In bytes: level 0's tree, all levels' trees end to end, the roots of all levels, the last
    level's tree, a query record and a tail record. */
 typedef struct {
@@ -119,8 +132,8 @@ typedef struct {
 
 /* ---- sizes */
 
-/* The sizes of a seal's buffers. Refuses: 4 where n is not from 1 to 20 or k is above 4. */
-dequmlo_seal_sizes dequmlo_sizes(size_t n, size_t k);
+/* The sizes of a seal's buffers. Refuses: 4 where the number is no set of widths, n is not from 1 to 20 or k is above 4. */
+dequmlo_seal_sizes dequmlo_sizes(uint32_t widths, size_t n, size_t k);
 
 /* ---- hash */
 
@@ -131,9 +144,10 @@ dequmlo_digested dequmlo_digest(const uint8_t *input, size_t input_length);
 
 /* Commits a table of 2^n words under a base domain of at most 200 bytes: writes the k * n gammas (2 * k * n halves), the codeword of
    2^(n+k) words (level 0), and level 0's tree, whose last digest is the root. The tree has 2 * groups - 1 digests, where groups is
-   2^(n+k) / dequmlo_fold_tree_width(2^(n+k)). n = 0 passes. Refuses: 4 (n, k), 5 (a length), 7 (the base domain). */
-uint32_t dequmlo_commit(size_t n, size_t k, const uint8_t *base, size_t base_length, const uint64_t *table, size_t table_length,
-                        uint64_t *gammas, size_t gammas_length, uint64_t *codeword, size_t codeword_length, uint8_t *tree, size_t tree_length);
+   2^(n+k) / dequmlo_fold_tree_width(widths, 2^(n+k)). n = 0 passes. Refuses: 4 (widths, n, k), 5 (a length), 7 (the base domain). */
+uint32_t dequmlo_commit(uint32_t widths, size_t n, size_t k, const uint8_t *base, size_t base_length, const uint64_t *table,
+                        size_t table_length, uint64_t *gammas, size_t gammas_length, uint64_t *codeword, size_t codeword_length, uint8_t *tree,
+                        size_t tree_length);
 
 /* Folds a codeword of 2^(n+k) words at a variable by r into a buffer of half its words: a + r * (a + b) for each pair of places that
    differ in bit `var`. Answers the new n, which is n - 1. Level l + 1 of a seal is level l folded at variable 0 by challenge l.
@@ -142,22 +156,23 @@ dequmlo_folded dequmlo_fold(size_t n, size_t k, size_t var, dequmlo_word r, cons
                             size_t out_length);
 
 /* All levels of a committed codeword by the checker's challenges, their trees and their roots: all that records are built from.
-   - n, k, base: those of the commitment; n is from 1.
+   - widths, n, k, base: those of the commitment; n is from 1.
    - challenges: n words; level l + 1 is level l folded at variable 0 by challenge l.
    - levels: 2^k * (2^(n+1) - 1) words. The codeword stands at the front, as level 0; levels 1 to n are written behind it, end to end.
    - half: 2^(n+k-1) words, room for a fold, left with zeros.
    - trees: the trees of levels 0 to n, end to end, each as `dequmlo_level_tree` builds it.
    - roots: n + 1 digests, the last of each tree, level 0's first.
    `dequmlo_sizes` has each size. The last level and its tree stand at the ends of `levels` and `trees`.
-   Refuses: 4 (n is not from 1 to 20, or k), 5 (a length), 7 (the base domain). */
-uint32_t dequmlo_fold_levels(size_t n, size_t k, const uint8_t *base, size_t base_length, const uint64_t *challenges, size_t challenges_length,
-                             uint64_t *levels, size_t levels_length, uint64_t *half, size_t half_length, uint8_t *trees, size_t trees_length,
-                             uint8_t *roots, size_t roots_length);
+   Refuses: 4 (widths, n is not from 1 to 20, or k), 5 (a length), 7 (the base domain). */
+uint32_t dequmlo_fold_levels(uint32_t widths, size_t n, size_t k, const uint8_t *base, size_t base_length, const uint64_t *challenges,
+                             size_t challenges_length, uint64_t *levels, size_t levels_length, uint64_t *half, size_t half_length,
+                             uint8_t *trees, size_t trees_length, uint8_t *roots, size_t roots_length);
 
 /* ---- trees */
 
-/* The width of the groups of a level of this many values: 8 from 16 values on, 2 from 2 on, else 1. Refuses nothing. */
-size_t dequmlo_fold_tree_width(size_t length);
+/* The width of the groups of a level of this many values: under the present set 8 from 16 values on, under the wide one 32 from 64 on; else 2 from 2
+   values on, else 1. 0 where the number is no set of widths. */
+size_t dequmlo_fold_tree_width(uint32_t widths, size_t length);
 
 /* The tree over `count` words in groups of `width`, under a domain: leaves first, then each level of parents, 2 * (count / width) - 1
    digests; the last is the root. `dequmlo_level_tree` builds the tree of a level of a seal.
@@ -182,12 +197,12 @@ dequmlo_domain_length dequmlo_level_domain_length(const uint8_t *base, size_t ba
 uint32_t dequmlo_level_domain(const uint8_t *base, size_t base_length, size_t level, uint8_t *out, size_t out_length);
 
 /* The tree of a level of a seal, at the level's width under the level's domain.
-   - n, k, base: those of the commitment; n is from 1. level: from 0 to n.
+   - widths, n, k, base: those of the commitment; n is from 1. level: from 0 to n.
    - values: the level's 2^(n+k-level) words.
    - tree: 2 * groups - 1 digests, leaves first, where groups is the level's words divided by their `dequmlo_fold_tree_width`; the last is the root.
-   Refuses: 4 (n is not from 1 to 20, k, or level is above n), 5 (a length), 7 (the base domain). */
-uint32_t dequmlo_level_tree(size_t n, size_t k, size_t level, const uint8_t *base, size_t base_length, const uint64_t *values,
-                            size_t values_length, uint8_t *tree, size_t tree_length);
+   Refuses: 4 (widths, n is not from 1 to 20, k, or level is above n), 5 (a length), 7 (the base domain). */
+uint32_t dequmlo_level_tree(uint32_t widths, size_t n, size_t k, size_t level, const uint8_t *base, size_t base_length,
+                            const uint64_t *values, size_t values_length, uint8_t *tree, size_t tree_length);
 
 /* ---- parts, for callers that divide the work over threads: each call writes a part of what another function writes whole, into a buffer of its
    own, and takes at most 96 KiB of stack. Consecutive parts, end to end, are the whole, however it is divided (docs/LINKING.md). */
@@ -236,12 +251,13 @@ uint32_t dequmlo_next_part(size_t n, size_t k, size_t level, dequmlo_word r, siz
 
 /* Leaves of a level's tree, from group `first` on, as many as `out` has digests, at the level's width under the level's domain: a part of the
    leaves that `dequmlo_level_tree` makes.
-   - n, k, base: those of the commitment; n is from 1. level: from 0 to n. values: all words of the level. out: any number of digests.
-   Refuses: 4 (n is not from 1 to 20, k, or level is above n), 5 (a length), 7 (the base domain), 11 (the groups do not end within the level's). */
-uint32_t dequmlo_level_leaves(size_t n, size_t k, size_t level, const uint8_t *base, size_t base_length, size_t first, const uint64_t *values,
-                              size_t values_length, uint8_t *out, size_t out_length);
+   - widths, n, k, base: those of the commitment; n is from 1. level: from 0 to n. values: all words of the level. out: any number of digests.
+   Refuses: 4 (widths, n is not from 1 to 20, k, or level is above n), 5 (a length), 7 (the base domain), 11 (the groups do not end within the
+   level's). */
+uint32_t dequmlo_level_leaves(uint32_t widths, size_t n, size_t k, size_t level, const uint8_t *base, size_t base_length, size_t first,
+                              const uint64_t *values, size_t values_length, uint8_t *out, size_t out_length);
 
-/* The parents of digests of one height of a level's tree, two by two; those of the leaves are at height 0.
+/* The parents of digests of one height of a level's tree, two by two; those of the leaves are at height 0. They are the same under either set.
    - children: any even number of digests. out: half as many.
    Refuses: 4 (n is not from 1 to 20, k, or level is above n), 5 (a length), 7 (the base domain). */
 uint32_t dequmlo_level_parents(size_t n, size_t k, size_t level, const uint8_t *base, size_t base_length, size_t height, const uint8_t *children,
@@ -251,36 +267,37 @@ uint32_t dequmlo_level_parents(size_t n, size_t k, size_t level, const uint8_t *
 
 /* Builds the query record at a position from all levels and their trees, each end to end, level 0 first: 2^k * (2^(n+1) - 1) words, and
    2 * groups - 1 digests a level. `dequmlo_sizes` has the record's size.
-   Refuses: 4 (n, k), 5 (a length), 11 (the position is not below 2^(n+k)). */
+   Refuses: 4 (widths, n, k), 5 (a length), 11 (the position is not below 2^(n+k)). */
 uint32_t dequmlo_build_query(uint8_t *out, size_t out_length, const uint64_t *levels, size_t levels_length, const uint8_t *trees,
-                             size_t trees_length, size_t n, size_t k, size_t position);
+                             size_t trees_length, uint32_t widths, size_t n, size_t k, size_t position);
 
 /* Checks a query record: 0 is accepted. The record may have any bytes and any length.
-   Refuses: 4 (n, k), 5 (challenges or roots), 7 (a base domain of more than 200 bytes), 11 (the position), 14 (it does not read whole),
+   Refuses: 4 (widths, n, k), 5 (challenges or roots), 7 (a base domain of more than 200 bytes), 11 (the position), 14 (it does not read whole),
    15 (it has not n levels), and 16 to 26 with the level (docs/REFUSALS.md). */
-dequmlo_checked dequmlo_check_query(const uint8_t *base, size_t base_length, size_t n, size_t k, size_t position, const uint64_t *challenges,
-                                    size_t challenges_length, const uint8_t *roots, size_t roots_length, const uint8_t *record,
-                                    size_t record_length);
+dequmlo_checked dequmlo_check_query(const uint8_t *base, size_t base_length, uint32_t widths, size_t n, size_t k, size_t position,
+                                    const uint64_t *challenges, size_t challenges_length, const uint8_t *roots, size_t roots_length,
+                                    const uint8_t *record, size_t record_length);
 
-/* Builds the tail record from the last level, 2^k words, and its tree. The record's size is fixed by k: 28, 44, 148, 420, 340 bytes for
-   k from 0 to 4. Refuses: 4 (n, k), 5 (a length). */
+/* Builds the tail record from the last level, 2^k words, and its tree. The record's size is fixed by k: 28, 44, 148, 420 bytes for k from 0 to 3, and
+   for k = 4 under the present set 340 bytes, under the wide one 1,092. Refuses: 4 (widths, n, k), 5 (a length). */
 uint32_t dequmlo_build_tail(uint8_t *out, size_t out_length, const uint64_t *level, size_t level_length, const uint8_t *tree,
-                            size_t tree_length, size_t n, size_t k);
+                            size_t tree_length, uint32_t widths, size_t n, size_t k);
 
 /* Checks a tail record under the last level's root against the terminal claim: 0 is accepted. The record may have any bytes and any
-   length. Refuses: 4 (n, k), 5 (the root is not 32 bytes), 7 (the base domain), 14 (it does not read whole), 27 (group count), 28 (a
+   length. Refuses: 4 (widths, n, k), 5 (the root is not 32 bytes), 7 (the base domain), 14 (it does not read whole), 27 (group count), 28 (a
    group's width), 29 (a path's length), 30 (the root), 31 (the first value is not the claim). */
-uint32_t dequmlo_check_tail(const uint8_t *base, size_t base_length, size_t n, size_t k, const uint8_t *root, size_t root_length,
-                            dequmlo_word claim, const uint8_t *record, size_t record_length);
+uint32_t dequmlo_check_tail(const uint8_t *base, size_t base_length, uint32_t widths, size_t n, size_t k, const uint8_t *root,
+                            size_t root_length, dequmlo_word claim, const uint8_t *record, size_t record_length);
 
 /* Compares two records that are both accepted for one position: 33 where they are the same bytes; else 0, and two messages that differ
-   and have one BLAKE3 digest, each in a buffer of 512 bytes with zeros after it, and their lengths.
-   Refuses: 4 (n, k), 5 (challenges, roots or a message buffer), 7 (the base domain), 11 (the position), 32 (a record is not accepted),
+   and have one BLAKE3 digest, each in a buffer of `DEQUMLO_MESSAGE_BUFFER` bytes with zeros after it, and their lengths.
+   Refuses: 4 (widths, n, k), 5 (challenges, roots or a message buffer), 7 (the base domain), 11 (the position), 32 (a record is not accepted),
    33 (they are the same). */
-dequmlo_compared dequmlo_compare(const uint8_t *base, size_t base_length, size_t n, size_t k, size_t position, const uint64_t *challenges,
-                                 size_t challenges_length, const uint8_t *roots, size_t roots_length, const uint8_t *first,
-                                 size_t first_length, const uint8_t *second, size_t second_length, uint8_t *first_message,
-                                 size_t first_message_length, uint8_t *second_message, size_t second_message_length);
+dequmlo_compared dequmlo_compare(const uint8_t *base, size_t base_length, uint32_t widths, size_t n, size_t k, size_t position,
+                                 const uint64_t *challenges, size_t challenges_length, const uint8_t *roots, size_t roots_length,
+                                 const uint8_t *first, size_t first_length, const uint8_t *second, size_t second_length,
+                                 uint8_t *first_message, size_t first_message_length, uint8_t *second_message,
+                                 size_t second_message_length);
 
 /* ---- ring switching */
 

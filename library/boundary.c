@@ -1,6 +1,7 @@
 /* Every exported function that takes a buffer, called with each lent length one short, one long and 0, and with n, k and every other number
-   out of range. A refused call must answer the number of the question, 0 in every other field, and leave every lent byte; no call may
-   touch a byte outside its buffers. Each call is made twice, with the forbidden page after and before the buffers. */
+   out of range; those that take a set of widths under both sets, and under numbers that are no set's. A refused call must answer the number of the
+   question, 0 in every other field, and leave every lent byte; no call may touch a byte outside its buffers. Each call is made twice, with the
+   forbidden page after and before the buffers. */
 #include "lent.h"
 
 enum { SLICES = 6, NUMBERS = 5 };
@@ -29,6 +30,7 @@ typedef struct call {
 } call;
 
 static const seal *of;
+static uint32_t widths; /* the set that is called with */
 static dequmlo_coefficients rows;
 static size_t calls;
 
@@ -57,7 +59,7 @@ static answer answered(dequmlo_answered w) {
 }
 
 static answer run_commit(const call *c, const lent *b) {
-    return plain(dequmlo_commit(c->numbers[0], c->numbers[1], AT(0), WORDS(1), WORDS(2), WORDS(3), AT(4)));
+    return plain(dequmlo_commit(widths, c->numbers[0], c->numbers[1], AT(0), WORDS(1), WORDS(2), WORDS(3), AT(4)));
 }
 
 static answer run_fold(const call *c, const lent *b) {
@@ -67,7 +69,7 @@ static answer run_fold(const call *c, const lent *b) {
 }
 
 static answer run_fold_levels(const call *c, const lent *b) {
-    return plain(dequmlo_fold_levels(c->numbers[0], c->numbers[1], AT(0), WORDS(1), WORDS(2), WORDS(3), AT(4), AT(5)));
+    return plain(dequmlo_fold_levels(widths, c->numbers[0], c->numbers[1], AT(0), WORDS(1), WORDS(2), WORDS(3), AT(4), AT(5)));
 }
 
 static answer run_level_domain_length(const call *c, const lent *b) {
@@ -79,7 +81,7 @@ static answer run_level_domain_length(const call *c, const lent *b) {
 static answer run_level_domain(const call *c, const lent *b) { return plain(dequmlo_level_domain(AT(0), c->numbers[0], AT(1))); }
 
 static answer run_level_tree(const call *c, const lent *b) {
-    return plain(dequmlo_level_tree(c->numbers[0], c->numbers[1], c->numbers[2], AT(0), WORDS(1), AT(2)));
+    return plain(dequmlo_level_tree(widths, c->numbers[0], c->numbers[1], c->numbers[2], AT(0), WORDS(1), AT(2)));
 }
 
 static answer run_tree(const call *c, const lent *b) {
@@ -111,7 +113,7 @@ static answer run_next_part(const call *c, const lent *b) {
 }
 
 static answer run_level_leaves(const call *c, const lent *b) {
-    return plain(dequmlo_level_leaves(c->numbers[0], c->numbers[1], c->numbers[2], AT(0), c->numbers[3], WORDS(1), AT(2)));
+    return plain(dequmlo_level_leaves(widths, c->numbers[0], c->numbers[1], c->numbers[2], AT(0), c->numbers[3], WORDS(1), AT(2)));
 }
 
 static answer run_level_parents(const call *c, const lent *b) {
@@ -127,26 +129,27 @@ static answer run_root(const call *c, const lent *b) {
 }
 
 static answer run_build_query(const call *c, const lent *b) {
-    return plain(dequmlo_build_query(AT(0), WORDS(1), AT(2), c->numbers[0], c->numbers[1], c->numbers[2]));
+    return plain(dequmlo_build_query(AT(0), WORDS(1), AT(2), widths, c->numbers[0], c->numbers[1], c->numbers[2]));
 }
 
 static answer run_check_query(const call *c, const lent *b) {
-    dequmlo_checked k = dequmlo_check_query(AT(0), c->numbers[0], c->numbers[1], c->numbers[2], WORDS(1), AT(2), AT(3));
+    dequmlo_checked k = dequmlo_check_query(AT(0), widths, c->numbers[0], c->numbers[1], c->numbers[2], WORDS(1), AT(2), AT(3));
     answer a = {k.number, k.level == 0};
     return a;
 }
 
 static answer run_build_tail(const call *c, const lent *b) {
-    return plain(dequmlo_build_tail(AT(0), WORDS(1), AT(2), c->numbers[0], c->numbers[1]));
+    return plain(dequmlo_build_tail(AT(0), WORDS(1), AT(2), widths, c->numbers[0], c->numbers[1]));
 }
 
 static answer run_check_tail(const call *c, const lent *b) {
-    return plain(dequmlo_check_tail(AT(0), c->numbers[0], c->numbers[1], AT(1), c->word, AT(2)));
+    return plain(dequmlo_check_tail(AT(0), widths, c->numbers[0], c->numbers[1], AT(1), c->word, AT(2)));
 }
 
 static answer run_compare(const call *c, const lent *b) {
-    dequmlo_compared m =
-        dequmlo_compare((const uint8_t *)of->base, strlen(of->base), c->numbers[0], c->numbers[1], c->numbers[2], WORDS(0), AT(1), AT(2), AT(3), AT(4), AT(5));
+    const uint8_t *base = (const uint8_t *)of->base;
+    dequmlo_compared m = dequmlo_compare(base, strlen(of->base), widths, c->numbers[0], c->numbers[1], c->numbers[2], WORDS(0), AT(1), AT(2), AT(3),
+                                         AT(4), AT(5));
     answer a = {m.number, m.first == 0 && m.second == 0};
     return a;
 }
@@ -200,8 +203,8 @@ static void made(const call *c, uint32_t expected, side page_at) {
     answer a = c->run(c, b);
     calls++;
     if (a.number != expected) {
-        fprintf(stderr, "boundary: %s answers %u, not %u; numbers %zu %zu %zu, counts", c->name, a.number, expected, c->numbers[0],
-                c->numbers[1], c->numbers[2]);
+        fprintf(stderr, "boundary: %s answers %u, not %u; widths %u, numbers %zu %zu %zu, counts", c->name, a.number, expected, widths,
+                c->numbers[0], c->numbers[1], c->numbers[2]);
         for (size_t i = 0; i < c->slices; i++) fprintf(stderr, " %zu", c->slice[i].count);
         fprintf(stderr, "\n");
         exit(1);
@@ -272,6 +275,22 @@ static void sizes(const call *c, size_t i, int k_too, int at_least_1) {
     number(c, i + 1, (size_t)-1, 4);
 }
 
+/* Under numbers that are no set's: 4, whatever else is asked: n and k out of range, and any slice of another count. */
+static void unnamed(const call *c) {
+    uint32_t set = widths;
+    static const uint32_t unknown[] = {2, UINT32_MAX};
+    for (size_t i = 0; i < sizeof unknown / sizeof *unknown; i++) {
+        widths = unknown[i];
+        with(c, 4);
+        sizes(c, 0, 1, 1);
+        for (size_t j = 0; j < c->slices; j++) {
+            count(c, j, c->slice[j].count + 1, 4);
+            if (c->slice[j].count > 0) count(c, j, c->slice[j].count - 1, 4);
+        }
+    }
+    widths = set;
+}
+
 /* ---- slices */
 
 static slice reads(const void *content, size_t element, size_t count, uint32_t otherwise) {
@@ -309,31 +328,34 @@ static void *longer(const void *content, size_t size) {
     return copies[copied++] = copy;
 }
 
-int main(void) {
+/* All calls that are made under a set. Its level 0, of 16 words, has two groups of 8 under the present set and eight of 2 under the wide one. */
+static void all(uint32_t set) {
     enum { N = 3, K = 1, POSITION = 5 };
-    for (size_t i = 0; i < sizeof scratch; i++) scratch[i] = (uint8_t)(i * 7 + 3);
-    seal s = sealed(N, K, POSITION, 1);
+    widths = set;
+    seal s = sealed(widths, N, K, POSITION, 1);
     of = &s;
     uint64_t seed = 2;
     for (size_t i = 0; i < 128; i++) rows.words[i].lo = drawn(&seed), rows.words[i].hi = drawn(&seed);
     static uint8_t domain[257];
     memcpy(domain, s.base, strlen(s.base));
-    const size_t base = strlen(s.base), words = level_words(N, K, 0), trees = trees_bytes(N, K), levels = 2 * levels_words(N, K);
-    const void *challenges = longer(s.challenges, 16 * N), *roots = longer(s.roots, 32 * (N + 1)), *query = longer(s.query, query_bytes(N, K));
-    const void *tail = longer(s.tail, tail_bytes(K)), *all_levels = longer(s.levels, 8 * levels), *all_trees = longer(s.trees, trees);
+    const size_t base = strlen(s.base), words = level_words(N, K, 0), trees = trees_bytes(widths, N, K), levels = 2 * levels_words(N, K);
+    const void *challenges = longer(s.challenges, 16 * N), *roots = longer(s.roots, 32 * (N + 1)), *query = longer(s.query, query_bytes(widths, N, K));
+    const size_t query_size = query_bytes(widths, N, K), tail_size = tail_bytes(widths, K), tree_size = tree_bytes(widths, words);
+    const void *tail = longer(s.tail, tail_size), *all_levels = longer(s.levels, 8 * levels), *all_trees = longer(s.trees, trees);
     const void *table = longer(s.table, 16 << N);
     const uint8_t *last_root = (const uint8_t *)longer(s.roots + 32 * N, 32);
     const uint64_t *last_level = (const uint64_t *)longer(s.levels + levels - (4u << (K - 1)), 8 * (2 << K));
-    const uint8_t *last_tree = (const uint8_t *)longer(s.trees + trees - tree_bytes(1 << K), tree_bytes(1 << K));
-    const void *tree0 = longer(s.trees, tree_bytes(words));
+    const uint8_t *last_tree = (const uint8_t *)longer(s.trees + trees - tree_bytes(widths, 1 << K), tree_bytes(widths, 1 << K));
+    const void *tree0 = longer(s.trees, tree_size);
 
     call digest = {"digest", run_digest, {0}, 1, {reads(scratch, 1, 1025, 0)}, 0, {0, 0}};
     lengths(&digest);
 
     call commit = {"commit", run_commit, {N, K}, 5,
                    {reads(domain, 1, base, 0), reads(table, 8, 2 << N, 5), writes(scratch, 8, 2 * K * N), writes(scratch, 8, 2 * words),
-                    writes(scratch, 1, tree_bytes(words))}, 0, {0, 0}};
+                    writes(scratch, 1, tree_size)}, 0, {0, 0}};
     lengths(&commit);
+    unnamed(&commit);
     sizes(&commit, 0, 1, 0);
     number(&commit, 0, N + 1, 5);
     number(&commit, 1, K + 1, 5);
@@ -352,6 +374,7 @@ int main(void) {
                         {reads(domain, 1, base, 0), reads(challenges, 8, 2 * N, 5), writes(all_levels, 8, levels), writes(scratch, 8, words),
                          writes(scratch, 1, trees), writes(scratch, 1, 32 * (N + 1))}, 0, {0, 0}};
     lengths(&fold_levels);
+    unnamed(&fold_levels);
     sizes(&fold_levels, 0, 1, 1);
     number(&fold_levels, 0, N + 1, 5);
     number(&fold_levels, 1, K + 1, 5);
@@ -393,8 +416,9 @@ int main(void) {
     counts(&level_domain, 0, 0, 1, 8, 0);
 
     call level_tree = {"level_tree", run_level_tree, {N, K, 1}, 3,
-                       {reads(domain, 1, base, 0), reads(all_levels, 8, words, 5), writes(scratch, 1, tree_bytes(words / 2))}, 0, {0, 0}};
+                       {reads(domain, 1, base, 0), reads(all_levels, 8, words, 5), writes(scratch, 1, tree_bytes(widths, words / 2))}, 0, {0, 0}};
     lengths(&level_tree);
+    unnamed(&level_tree);
     sizes(&level_tree, 0, 1, 1);
     number(&level_tree, 0, N + 1, 5);
     number(&level_tree, 2, 0, 5);
@@ -526,6 +550,7 @@ int main(void) {
     call level_leaves = {"level_leaves", run_level_leaves, {N, K, 1, 2}, 3,
                          {reads(domain, 1, base, 0), reads(all_levels, 8, words, 5), writes_any(scratch, 1, 64)}, 0, {0, 0}};
     lengths(&level_leaves);
+    unnamed(&level_leaves);
     sizes(&level_leaves, 0, 1, 1);
     number(&level_leaves, 2, 0, 5);
     number(&level_leaves, 2, N + 1, 4);
@@ -560,8 +585,8 @@ int main(void) {
         counts(&level_parents, 0, 201, i, level_parents.slice[i].count - 1, 5);
     }
 
-    /* Level 0's tree has two groups of 8. */
-    call open = {"open", run_open, {words, 8, POSITION}, 2, {reads(tree0, 1, tree_bytes(words), 5), writes(scratch, 1, 32)}, 0, {0, 0}};
+    /* The tree of two groups of 8. */
+    call open = {"open", run_open, {words, 8, POSITION}, 2, {reads(tree0, 1, 96, 5), writes(scratch, 1, 32)}, 0, {0, 0}};
     lengths(&open);
     number(&open, 0, 0, 8);
     number(&open, 0, (size_t)1 << 25, 8);
@@ -584,8 +609,9 @@ int main(void) {
     number(&root, 2, words, 11);
 
     call build = {"build_query", run_build_query, {N, K, POSITION}, 3,
-                  {writes(scratch, 1, query_bytes(N, K)), reads(all_levels, 8, levels, 5), reads(all_trees, 1, trees, 5)}, 0, {0, 0}};
+                  {writes(scratch, 1, query_size), reads(all_levels, 8, levels, 5), reads(all_trees, 1, trees, 5)}, 0, {0, 0}};
     lengths(&build);
+    unnamed(&build);
     sizes(&build, 0, 1, 1);
     number(&build, 0, N + 1, 5);
     number(&build, 2, words - 1, 0);
@@ -594,8 +620,9 @@ int main(void) {
 
     call check = {"check_query", run_check_query, {N, K, POSITION}, 4,
                   {reads(domain, 1, base, 18), reads(challenges, 8, 2 * N, 5), reads(roots, 1, 32 * (N + 1), 5),
-                   reads(query, 1, query_bytes(N, K), 14)}, 0, {0, 0}};
+                   reads(query, 1, query_size, 14)}, 0, {0, 0}};
     lengths(&check);
+    unnamed(&check);
     sizes(&check, 0, 1, 1);
     number(&check, 0, N + 1, 5);
     number(&check, 1, K + 1, 17);
@@ -605,22 +632,25 @@ int main(void) {
     number(&check, 2, (size_t)-1, 11);
 
     call build_tail = {"build_tail", run_build_tail, {N, K}, 3,
-                       {writes(scratch, 1, tail_bytes(K)), reads(last_level, 8, 2 << K, 5), reads(last_tree, 1, tree_bytes(1 << K), 5)},
+                       {writes(scratch, 1, tail_size), reads(last_level, 8, 2 << K, 5), reads(last_tree, 1, tree_bytes(widths, 1 << K), 5)},
                        0, {0, 0}};
     lengths(&build_tail);
+    unnamed(&build_tail);
     sizes(&build_tail, 0, 1, 1);
 
     call check_tail = {"check_tail", run_check_tail, {N, K}, 3,
-                       {reads(domain, 1, base, 30), reads(last_root, 1, 32, 5), reads(tail, 1, tail_bytes(K), 14)}, 0, s.claim};
+                       {reads(domain, 1, base, 30), reads(last_root, 1, 32, 5), reads(tail, 1, tail_size, 14)}, 0, s.claim};
     lengths(&check_tail);
+    unnamed(&check_tail);
     sizes(&check_tail, 0, 1, 1);
     count(&check_tail, 0, 201, 7);
     number(&check_tail, 1, K + 1, 27);
 
     call compare = {"compare", run_compare, {N, K, POSITION}, 6,
-                    {reads(challenges, 8, 2 * N, 5), reads(roots, 1, 32 * (N + 1), 5), reads(query, 1, query_bytes(N, K), 32),
-                     reads(query, 1, query_bytes(N, K), 32), writes(scratch, 1, 512), writes(scratch, 1, 512)}, 33, {0, 0}};
+                    {reads(challenges, 8, 2 * N, 5), reads(roots, 1, 32 * (N + 1), 5), reads(query, 1, query_size, 32), reads(query, 1, query_size, 32),
+                     writes(scratch, 1, DEQUMLO_MESSAGE_BUFFER), writes(scratch, 1, DEQUMLO_MESSAGE_BUFFER)}, 33, {0, 0}};
     lengths(&compare);
+    unnamed(&compare);
     sizes(&compare, 0, 1, 1);
     number(&compare, 2, words, 11);
 
@@ -660,6 +690,12 @@ int main(void) {
 
     while (copied > 0) free(copies[--copied]);
     unsealed(&s);
+}
+
+int main(void) {
+    for (size_t i = 0; i < sizeof scratch; i++) scratch[i] = (uint8_t)(i * 7 + 3);
+    all(DEQUMLO_WIDTHS_PRESENT);
+    all(DEQUMLO_WIDTHS_WIDE);
     printf("boundary: %zu calls, each answer and every byte as it must be\n", calls);
     return 0;
 }

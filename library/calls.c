@@ -1,4 +1,5 @@
-/* Calls every function of include/dequmlo.h once with the small values of SPECIFICATION 12 where there are some. Compiled as C and as C++. */
+/* Calls every function of include/dequmlo.h, those that take a set of widths under both sets, with the small values of SPECIFICATION 12 where there
+   are some. Compiled as C and as C++. */
 #include "fixture.h"
 
 static dequmlo_word word(uint64_t lo) {
@@ -7,22 +8,43 @@ static dequmlo_word word(uint64_t lo) {
     return w;
 }
 
-/* The sizes that the fixture computes by itself, and a refusal. */
-static void sizes(void) {
+/* Numbers that are no set's: also some that a byte or a bit of them would take for one. */
+static const uint32_t unknown[] = {2, 3, 256, 257, 65536, 0x80000000, 0x80000001, UINT32_MAX};
+enum { UNKNOWN = sizeof unknown / sizeof *unknown };
+
+static void no_sizes(uint32_t widths, size_t n, size_t k) {
+    dequmlo_seal_sizes s = dequmlo_sizes(widths, n, k);
+    MUST(s.number == 4 && s.table == 0 && s.gammas == 0 && s.codeword == 0 && s.tree == 0 && s.levels == 0 && s.trees == 0);
+    MUST(s.half == 0 && s.roots == 0 && s.last_level == 0 && s.last_tree == 0 && s.query == 0 && s.tail == 0);
+}
+
+/* The sizes that the fixture computes by itself, and refusals. */
+static void sizes(uint32_t widths) {
     for (size_t n = 1; n <= 20; n++)
         for (size_t k = 0; k <= 4; k++) {
-            dequmlo_seal_sizes s = dequmlo_sizes(n, k);
+            dequmlo_seal_sizes s = dequmlo_sizes(widths, n, k);
             MUST(s.number == 0 && s.table == (size_t)1 << n && s.gammas == k * n && s.codeword == level_words(n, k, 0));
-            MUST(s.tree == tree_bytes(level_words(n, k, 0)) && s.levels == levels_words(n, k) && s.trees == trees_bytes(n, k));
+            MUST(s.tree == tree_bytes(widths, level_words(n, k, 0)) && s.levels == levels_words(n, k) && s.trees == trees_bytes(widths, n, k));
             MUST(s.half == level_words(n, k, 1) && s.roots == 32 * (n + 1));
-            MUST(s.last_level == level_words(n, k, n) && s.last_tree == tree_bytes(level_words(n, k, n)));
-            MUST(s.query == query_bytes(n, k) && s.tail == tail_bytes(k));
+            MUST(s.last_level == level_words(n, k, n) && s.last_tree == tree_bytes(widths, level_words(n, k, n)));
+            MUST(s.query == query_bytes(widths, n, k) && s.tail == tail_bytes(widths, k));
+            for (size_t i = 0; i < UNKNOWN; i++) no_sizes(unknown[i], n, k);
         }
     static const size_t wrong[][2] = {{0, 0}, {21, 0}, {(size_t)-1, 0}, {1, 5}, {1, (size_t)-1}};
     for (size_t i = 0; i < sizeof wrong / sizeof *wrong; i++) {
-        dequmlo_seal_sizes s = dequmlo_sizes(wrong[i][0], wrong[i][1]);
-        MUST(s.number == 4 && s.table == 0 && s.gammas == 0 && s.codeword == 0 && s.tree == 0 && s.levels == 0 && s.trees == 0);
-        MUST(s.half == 0 && s.roots == 0 && s.last_level == 0 && s.last_tree == 0 && s.query == 0 && s.tail == 0);
+        no_sizes(widths, wrong[i][0], wrong[i][1]);
+        no_sizes(unknown[i], wrong[i][0], wrong[i][1]);
+    }
+}
+
+/* Where the sets' widths begin; 0 for a number that is no set's. */
+static void tree_widths(void) {
+    static const size_t present[][2] = {{0, 1}, {1, 1}, {2, 2}, {8, 2}, {15, 2}, {16, 8}, {32, 8}, {63, 8}, {64, 8}, {(size_t)1 << 24, 8}};
+    static const size_t wide[][2] = {{0, 1}, {1, 1}, {2, 2}, {8, 2}, {15, 2}, {16, 2}, {32, 2}, {63, 2}, {64, 32}, {(size_t)1 << 24, 32}};
+    for (size_t i = 0; i < sizeof wide / sizeof *wide; i++) {
+        MUST(dequmlo_fold_tree_width(DEQUMLO_WIDTHS_PRESENT, present[i][0]) == present[i][1]);
+        MUST(dequmlo_fold_tree_width(DEQUMLO_WIDTHS_WIDE, wide[i][0]) == wide[i][1]);
+        for (size_t j = 0; j < UNKNOWN; j++) MUST(dequmlo_fold_tree_width(unknown[j], wide[i][0]) == 0);
     }
 }
 
@@ -33,14 +55,14 @@ static void hash(void) {
 }
 
 /* n = k = 1, table 5, 9, gamma 7: codeword 5, 9, 33, 45, folded by 2: 29, 57. Here the codeword is lent as it stands. */
-static void code(void) {
+static void code(uint32_t widths) {
     uint64_t codeword[8] = {5, 0, 9, 0, 33, 0, 45, 0}, out[4];
     dequmlo_folded f = dequmlo_fold(1, 1, 0, word(2), codeword, 8, out, 4);
     MUST(f.number == 0 && f.n == 0 && out[0] == 29 && out[2] == 57 && out[1] == 0 && out[3] == 0);
     uint64_t table[4] = {5, 0, 9, 0}, gammas[2];
     uint8_t tree[96];
-    MUST(tree_bytes(4) == 96);
-    MUST(dequmlo_commit(1, 1, (const uint8_t *)"d", 1, table, 4, gammas, 2, codeword, 8, tree, 96) == 0);
+    MUST(tree_bytes(widths, 4) == 96);
+    MUST(dequmlo_commit(widths, 1, 1, (const uint8_t *)"d", 1, table, 4, gammas, 2, codeword, 8, tree, 96) == 0);
     MUST(codeword[0] == 5 && codeword[2] == 9);
 }
 
@@ -49,8 +71,6 @@ static void trees(void) {
     for (size_t i = 0; i < 16; i++) values[i] = i;
     uint8_t tree[224], path[64];
     const uint8_t *domain = (const uint8_t *)"d";
-    MUST(dequmlo_fold_tree_width(1) == 1 && dequmlo_fold_tree_width(2) == 2 && dequmlo_fold_tree_width(8) == 2);
-    MUST(dequmlo_fold_tree_width(16) == 8);
     MUST(dequmlo_tree(domain, 1, 8, 2, values, 16, tree, sizeof tree) == 0);
     MUST(dequmlo_open(8, 2, 5, tree, sizeof tree, path, sizeof path) == 0);
     dequmlo_digested d = dequmlo_root_of_path(domain, 1, 8, 2, 5, values + 8, 4, path, sizeof path);
@@ -58,9 +78,10 @@ static void trees(void) {
 }
 
 /* Blocks and their halves are those of the codeword; a fold and level 0's tree, divided into parts of this many entries or digests, are those made whole. */
-static void parts(size_t n, size_t k, size_t each) {
-    seal s = sealed(n, k, 0, n + k);
-    size_t words = level_words(n, k, 0), width = dequmlo_fold_tree_width(words), groups = words / width, size = tree_bytes(words), block = (size_t)2 << n;
+static void parts(uint32_t widths, size_t n, size_t k, size_t each) {
+    seal s = sealed(widths, n, k, 0, n + k);
+    size_t words = level_words(n, k, 0), width = dequmlo_fold_tree_width(widths, words), groups = words / width, size = tree_bytes(widths, words);
+    size_t block = (size_t)2 << n;
     uint64_t *folded = (uint64_t *)room(8 * words), *made = (uint64_t *)room(16 * words);
     uint8_t *tree = (uint8_t *)room(size), domain[64];
     size_t length = dequmlo_level_domain_length((const uint8_t *)s.base, strlen(s.base), 0).length;
@@ -97,19 +118,19 @@ static void parts(size_t n, size_t k, size_t each) {
 }
 
 /* Every level and its tree in parts of this many entries or digests are those of the fixture; the gammas too. */
-static void level_parts(size_t n, size_t k, size_t each) {
-    seal s = sealed(n, k, 0, n + k);
+static void level_parts(uint32_t widths, size_t n, size_t k, size_t each) {
+    seal s = sealed(widths, n, k, 0, n + k);
     const uint8_t *base = (const uint8_t *)s.base, *trees = s.trees;
     const uint64_t *level = s.levels;
     size_t length = strlen(s.base);
     uint64_t *next = (uint64_t *)room(8 * level_words(n, k, 0)), *gammas = (uint64_t *)room(16 * k * n + 1);
-    uint8_t *tree = (uint8_t *)room(trees_bytes(n, k));
+    uint8_t *tree = (uint8_t *)room(trees_bytes(widths, n, k));
     MUST(dequmlo_gammas(n, k, base, length, gammas, 2 * k * n) == 0 && memcmp(gammas, s.gammas, 16 * k * n) == 0);
     for (size_t l = 0; l <= n; l++) {
-        size_t words = level_words(n, k, l), size = tree_bytes(words), groups = (size / 32 + 1) / 2, height = 0;
+        size_t words = level_words(n, k, l), size = tree_bytes(widths, words), groups = (size / 32 + 1) / 2, height = 0;
         for (size_t first = 0, m; first < groups; first += m) {
             m = groups - first < each ? groups - first : each;
-            MUST(dequmlo_level_leaves(n, k, l, base, length, first, level, 2 * words, tree + 32 * first, 32 * m) == 0);
+            MUST(dequmlo_level_leaves(widths, n, k, l, base, length, first, level, 2 * words, tree + 32 * first, 32 * m) == 0);
         }
         uint8_t *below = tree;
         for (size_t half = groups / 2; half > 0; height++, below += 64 * half, half /= 2)
@@ -144,22 +165,22 @@ static void domains(void) {
 }
 
 /* All levels, trees and roots in one call, and each tree by itself, are what the fixture made fold by fold and tree by tree. */
-static void levels(size_t n, size_t k) {
-    seal s = sealed(n, k, 0, n + k);
+static void levels(uint32_t widths, size_t n, size_t k) {
+    seal s = sealed(widths, n, k, 0, n + k);
     const uint8_t *base = (const uint8_t *)s.base;
     size_t length = strlen(s.base), first = 0, first_tree = 0;
-    dequmlo_seal_sizes z = dequmlo_sizes(n, k);
+    dequmlo_seal_sizes z = dequmlo_sizes(widths, n, k);
     uint64_t *all = (uint64_t *)room(16 * z.levels), *half = (uint64_t *)room(16 * z.half);
     uint8_t *trees = (uint8_t *)room(z.trees), *roots = (uint8_t *)room(z.roots);
     memset(all, 0x5a, 16 * z.levels), memset(half, 0x5a, 16 * z.half);
     memcpy(all, s.levels, 16 * z.codeword);
-    MUST(dequmlo_fold_levels(n, k, base, length, s.challenges, 2 * n, all, 2 * z.levels, half, 2 * z.half, trees, z.trees, roots, z.roots) == 0);
+    MUST(dequmlo_fold_levels(widths, n, k, base, length, s.challenges, 2 * n, all, 2 * z.levels, half, 2 * z.half, trees, z.trees, roots, z.roots) == 0);
     MUST(memcmp(all, s.levels, 16 * z.levels) == 0 && memcmp(trees, s.trees, z.trees) == 0 && memcmp(roots, s.roots, z.roots) == 0);
     for (size_t i = 0; i < 2 * z.half; i++) MUST(half[i] == 0);
     for (size_t l = 0; l <= n; l++) {
-        size_t words = level_words(n, k, l), size = tree_bytes(words);
+        size_t words = level_words(n, k, l), size = tree_bytes(widths, words);
         memset(trees, 0x5a, z.trees);
-        MUST(dequmlo_level_tree(n, k, l, base, length, s.levels + 2 * first, 2 * words, trees, size) == 0);
+        MUST(dequmlo_level_tree(widths, n, k, l, base, length, s.levels + 2 * first, 2 * words, trees, size) == 0);
         MUST(memcmp(trees, s.trees + first_tree, size) == 0);
         first += words, first_tree += size;
     }
@@ -167,17 +188,22 @@ static void levels(size_t n, size_t k) {
     unsealed(&s);
 }
 
-static void records(void) {
-    seal s = sealed(3, 1, 5, 1);
-    const uint8_t *base = (const uint8_t *)s.base;
-    size_t length = strlen(s.base);
-    dequmlo_checked c = dequmlo_check_query(base, length, 3, 1, 5, s.challenges, 6, s.roots, 128, s.query, query_bytes(3, 1));
-    MUST(c.number == 0 && c.level == 0);
-    MUST(dequmlo_check_tail(base, length, 3, 1, s.roots + 96, 32, s.claim, s.tail, tail_bytes(1)) == 0);
-    uint8_t first[512], second[512];
-    dequmlo_compared same = dequmlo_compare(base, length, 3, 1, 5, s.challenges, 6, s.roots, 128, s.query, query_bytes(3, 1), s.query,
-                                            query_bytes(3, 1), first, 512, second, 512);
-    MUST(same.number == 33 && same.first == 0 && same.second == 0);
+/* The records of a seal are accepted under its own set. Where the sets' widths differ, the other one refuses them: the query record by the width of its
+   first group, the tail record by its group count. */
+static void records(uint32_t widths, size_t n, size_t k, size_t position) {
+    seal s = sealed(widths, n, k, position, 1);
+    const uint8_t *base = (const uint8_t *)s.base, *last = s.roots + 32 * n;
+    size_t length = strlen(s.base), query = query_bytes(widths, n, k), tail = tail_bytes(widths, k), roots = 32 * (n + 1);
+    static uint8_t first[DEQUMLO_MESSAGE_BUFFER], second[DEQUMLO_MESSAGE_BUFFER];
+    for (uint32_t set = 0; set < 2; set++) {
+        uint32_t own = set == widths || n + k < 4;
+        dequmlo_checked c = dequmlo_check_query(base, length, set, n, k, position, s.challenges, 2 * n, s.roots, roots, s.query, query);
+        MUST(c.number == (own ? 0u : 16u) && c.level == 0);
+        MUST(dequmlo_check_tail(base, length, set, n, k, last, 32, s.claim, s.tail, tail) == (set == widths || k < 4 ? 0u : 27u));
+        dequmlo_compared same = dequmlo_compare(base, length, set, n, k, position, s.challenges, 2 * n, s.roots, roots, s.query, query, s.query,
+                                                query, first, sizeof first, second, sizeof second);
+        MUST(same.number == (own ? 33u : 32u) && same.first == 0 && same.second == 0);
+    }
     unsealed(&s);
 }
 
@@ -281,25 +307,31 @@ static void parameters(void) {
 }
 
 int main(void) {
-    sizes();
     hash();
-    code();
+    tree_widths();
     trees();
     domains();
-    levels(1, 0);
-    levels(1, 4);
-    levels(3, 1);
-    levels(6, 2);
-    levels(11, 0);
-    parts(1, 0, 1);
-    parts(3, 1, 3);
-    parts(6, 2, 5);
-    parts(8, 3, 64);
-    parts(8, 3, 100000);
-    level_parts(1, 0, 1);
-    level_parts(3, 1, 3);
-    level_parts(8, 4, 100);
-    records();
+    for (uint32_t widths = DEQUMLO_WIDTHS_PRESENT; widths <= DEQUMLO_WIDTHS_WIDE; widths++) {
+        sizes(widths);
+        code(widths);
+        levels(widths, 1, 0);
+        levels(widths, 1, 4);
+        levels(widths, 3, 1);
+        levels(widths, 6, 2);
+        levels(widths, 11, 0);
+        parts(widths, 1, 0, 1);
+        parts(widths, 3, 1, 3);
+        parts(widths, 6, 2, 5);
+        parts(widths, 8, 3, 64);
+        parts(widths, 8, 3, 100000);
+        level_parts(widths, 1, 0, 1);
+        level_parts(widths, 3, 1, 3);
+        level_parts(widths, 8, 4, 100);
+        records(widths, 2, 1, 5);
+        records(widths, 3, 1, 5);
+        records(widths, 4, 2, 37);
+        records(widths, 6, 4, 1000);
+    }
     ring();
     blocks_by_value();
     block_runs(0);

@@ -13,7 +13,7 @@
 int main(void) {
     enum { N = 3, K = 1 };
     const char *base = "example";
-    dequmlo_seal_sizes sizes = dequmlo_sizes(N, K);
+    dequmlo_seal_sizes sizes = dequmlo_sizes(DEQUMLO_WIDTHS_PRESENT, N, K);
     if (sizes.number != 0) return 1;
 
     /* A word is two halves, the low one first. */
@@ -24,8 +24,8 @@ int main(void) {
     if (table == NULL || gammas == NULL || codeword == NULL || tree == NULL) return 1;
     for (size_t i = 0; i < sizes.table; i++) table[2 * i] = i;
 
-    uint32_t number = dequmlo_commit(N, K, (const uint8_t *)base, strlen(base), table, 2 * sizes.table, gammas, 2 * sizes.gammas, codeword,
-                                     2 * sizes.codeword, tree, sizes.tree);
+    uint32_t number = dequmlo_commit(DEQUMLO_WIDTHS_PRESENT, N, K, (const uint8_t *)base, strlen(base), table, 2 * sizes.table, gammas,
+                                     2 * sizes.gammas, codeword, 2 * sizes.codeword, tree, sizes.tree);
     if (number != 0) {
         fprintf(stderr, "refused: %u\n", (unsigned)number); /* docs/REFUSALS.md */
         return 1;

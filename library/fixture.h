@@ -1,5 +1,5 @@
 /* A seal made through the library, for the tests: a table committed, folded by challenges, with its trees, roots and records. The sizes are
-   computed here once more, from docs/LINKING.md's formulas. */
+   computed here once more, from docs/LINKING.md's formulas. A set of widths comes before n. */
 #ifndef FIXTURE_H
 #define FIXTURE_H
 
@@ -9,6 +9,7 @@
 #include <string.h>
 
 typedef struct {
+    uint32_t widths;
     size_t n, k;
     const char *base;
     uint64_t *table, *gammas, *levels, *challenges;
@@ -28,35 +29,40 @@ typedef struct {
 /* ---- sizes */
 
 static inline size_t level_words(size_t n, size_t k, size_t l) { return (size_t)1 << (n + k - l); }
-static inline size_t width_of(size_t words) { return words >= 16 ? 8 : words >= 2 ? 2 : 1; }
-static inline size_t groups_of(size_t words) { return words / width_of(words); }
-static inline size_t tree_bytes(size_t words) { return 32 * (2 * groups_of(words) - 1); }
 
-static inline size_t depth_of(size_t words) {
+static inline size_t width_of(uint32_t widths, size_t words) {
+    if (widths == DEQUMLO_WIDTHS_WIDE) return words >= 64 ? 32 : words >= 2 ? 2 : 1;
+    return words >= 16 ? 8 : words >= 2 ? 2 : 1;
+}
+
+static inline size_t groups_of(uint32_t widths, size_t words) { return words / width_of(widths, words); }
+static inline size_t tree_bytes(uint32_t widths, size_t words) { return 32 * (2 * groups_of(widths, words) - 1); }
+
+static inline size_t depth_of(uint32_t widths, size_t words) {
     size_t depth = 0;
-    while ((groups_of(words) >> depth) > 1) depth++;
+    while ((groups_of(widths, words) >> depth) > 1) depth++;
     return depth;
 }
 
-static inline size_t group_bytes(size_t words) { return 8 + 16 * width_of(words) + 32 * depth_of(words); }
+static inline size_t group_bytes(uint32_t widths, size_t words) { return 8 + 16 * width_of(widths, words) + 32 * depth_of(widths, words); }
 
 static inline size_t levels_words(size_t n, size_t k) { return ((size_t)1 << k) * (((size_t)2 << n) - 1); }
 
-static inline size_t trees_bytes(size_t n, size_t k) {
+static inline size_t trees_bytes(uint32_t widths, size_t n, size_t k) {
     size_t sum = 0;
-    for (size_t l = 0; l <= n; l++) sum += tree_bytes(level_words(n, k, l));
+    for (size_t l = 0; l <= n; l++) sum += tree_bytes(widths, level_words(n, k, l));
     return sum;
 }
 
-static inline size_t query_bytes(size_t n, size_t k) {
+static inline size_t query_bytes(uint32_t widths, size_t n, size_t k) {
     size_t sum = 4;
-    for (size_t l = 0; l < n; l++) sum += 48 + group_bytes(level_words(n, k, l)) + group_bytes(level_words(n, k, l + 1));
+    for (size_t l = 0; l < n; l++) sum += 48 + group_bytes(widths, level_words(n, k, l)) + group_bytes(widths, level_words(n, k, l + 1));
     return sum;
 }
 
-static inline size_t tail_bytes(size_t k) {
+static inline size_t tail_bytes(uint32_t widths, size_t k) {
     size_t words = (size_t)1 << k;
-    return 4 + groups_of(words) * group_bytes(words);
+    return 4 + groups_of(widths, words) * group_bytes(widths, words);
 }
 
 /* ---- numbers that look random, the same in every run */
@@ -85,38 +91,41 @@ static inline void next_level(seal *s, size_t l, size_t first, size_t first_tree
     MUST(f.number == 0 && f.n == s->n - l - 1);
     char domain[64];
     int length = snprintf(domain, sizeof domain, "%s/level/%zu", s->base, l + 1);
-    uint8_t *tree = s->trees + first_tree + tree_bytes(from);
-    MUST(dequmlo_tree((const uint8_t *)domain, (size_t)length, to, dequmlo_fold_tree_width(to), next, 2 * to, tree, tree_bytes(to)) == 0);
-    memcpy(s->roots + 32 * (l + 1), tree + tree_bytes(to) - 32, 32);
+    uint8_t *tree = s->trees + first_tree + tree_bytes(s->widths, from);
+    size_t width = dequmlo_fold_tree_width(s->widths, to), size = tree_bytes(s->widths, to);
+    MUST(dequmlo_tree((const uint8_t *)domain, (size_t)length, to, width, next, 2 * to, tree, size) == 0);
+    memcpy(s->roots + 32 * (l + 1), tree + size - 32, 32);
 }
 
-static inline seal sealed(size_t n, size_t k, size_t position, uint64_t seed) {
+static inline seal sealed(uint32_t widths, size_t n, size_t k, size_t position, uint64_t seed) {
     seal s;
-    s.n = n, s.k = k, s.base = "dequmlo/test", s.position = position;
+    s.widths = widths, s.n = n, s.k = k, s.base = "dequmlo/test", s.position = position;
     s.table = (uint64_t *)room(16 << n);
     s.gammas = (uint64_t *)room(16 * k * n);
     s.levels = (uint64_t *)room(16 * levels_words(n, k));
     s.challenges = (uint64_t *)room(16 * n);
-    s.trees = (uint8_t *)room(trees_bytes(n, k));
+    s.trees = (uint8_t *)room(trees_bytes(widths, n, k));
     s.roots = (uint8_t *)room(32 * (n + 1));
-    s.query = (uint8_t *)room(query_bytes(n, k));
-    s.tail = (uint8_t *)room(tail_bytes(k));
+    s.query = (uint8_t *)room(query_bytes(widths, n, k));
+    s.tail = (uint8_t *)room(tail_bytes(widths, k));
     for (size_t i = 0; i < (size_t)2 << n; i++) s.table[i] = drawn(&seed);
     for (size_t i = 0; i < 2 * n; i++) s.challenges[i] = drawn(&seed);
-    size_t words = level_words(n, k, 0);
-    MUST(dequmlo_commit(n, k, (const uint8_t *)s.base, strlen(s.base), s.table, (size_t)2 << n, s.gammas, 2 * k * n, s.levels, 2 * words,
-                        s.trees, tree_bytes(words)) == 0);
-    memcpy(s.roots, s.trees + tree_bytes(words) - 32, 32);
+    size_t words = level_words(n, k, 0), size = tree_bytes(widths, words);
+    MUST(dequmlo_commit(widths, n, k, (const uint8_t *)s.base, strlen(s.base), s.table, (size_t)2 << n, s.gammas, 2 * k * n, s.levels, 2 * words,
+                        s.trees, size) == 0);
+    memcpy(s.roots, s.trees + size - 32, 32);
     size_t first = 0, first_tree = 0;
     for (size_t l = 0; l < n; l++) {
         next_level(&s, l, first, first_tree);
         first += level_words(n, k, l);
-        first_tree += tree_bytes(level_words(n, k, l));
+        first_tree += tree_bytes(widths, level_words(n, k, l));
     }
     s.claim.lo = s.levels[2 * first], s.claim.hi = s.levels[2 * first + 1];
     size_t last = (size_t)1 << k;
-    MUST(dequmlo_build_tail(s.tail, tail_bytes(k), s.levels + 2 * first, 2 * last, s.trees + first_tree, tree_bytes(last), n, k) == 0);
-    MUST(dequmlo_build_query(s.query, query_bytes(n, k), s.levels, 2 * levels_words(n, k), s.trees, trees_bytes(n, k), n, k, position) == 0);
+    MUST(dequmlo_build_tail(s.tail, tail_bytes(widths, k), s.levels + 2 * first, 2 * last, s.trees + first_tree, tree_bytes(widths, last), widths, n,
+                            k) == 0);
+    MUST(dequmlo_build_query(s.query, query_bytes(widths, n, k), s.levels, 2 * levels_words(n, k), s.trees, trees_bytes(widths, n, k), widths, n, k,
+                             position) == 0);
     return s;
 }
 

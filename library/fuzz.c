@@ -114,25 +114,27 @@ static int same(const uint8_t *a, size_t m, const uint8_t *b, size_t n) { return
 
 /* Comparing the sound record with a shown one: 33 for the same, 32 for a refused one, and the message buffers stay. */
 static void compared(const seal *s, const lent *shown, int is_same, side page_at) {
-    static const uint8_t before[512] = {1, 2, 3};
+    enum { ROOM = DEQUMLO_MESSAGE_BUFFER };
+    static const uint8_t before[ROOM] = {1, 2, 3};
     size_t n = s->n;
-    lent first = lend(before, 512, page_at), second = lend(before, 512, page_at);
-    dequmlo_compared c = dequmlo_compare((const uint8_t *)s->base, strlen(s->base), n, s->k, s->position, s->challenges, 2 * n, s->roots, 32 * (n + 1),
-                                         s->query, query_bytes(n, s->k), shown->bytes, shown->size, first.bytes, 512, second.bytes, 512);
+    lent first = lend(before, ROOM, page_at), second = lend(before, ROOM, page_at);
+    dequmlo_compared c = dequmlo_compare((const uint8_t *)s->base, strlen(s->base), s->widths, n, s->k, s->position, s->challenges, 2 * n, s->roots,
+                                         32 * (n + 1), s->query, query_bytes(s->widths, n, s->k), shown->bytes, shown->size, first.bytes, ROOM,
+                                         second.bytes, ROOM);
     MUST(c.number == (is_same ? 33u : 32u) && c.first == 0 && c.second == 0);
-    MUST(memcmp(first.bytes, before, 512) == 0 && memcmp(second.bytes, before, 512) == 0);
+    MUST(memcmp(first.bytes, before, ROOM) == 0 && memcmp(second.bytes, before, ROOM) == 0);
     answers[c.number]++;
     take_back(&first);
     take_back(&second);
 }
 
 static void query(const seal *s, uint8_t *copy, side page_at) {
-    size_t n = s->n, size = query_bytes(n, s->k);
+    size_t n = s->n, size = query_bytes(s->widths, n, s->k);
     memcpy(copy, s->query, size);
     size_t shown_size = below(4) == 0 ? reshaped_query(copy, size, n) : damage(copy, size);
     int is_same = same(copy, shown_size, s->query, size);
     lent shown = lend(copy, shown_size, page_at);
-    dequmlo_checked c = dequmlo_check_query((const uint8_t *)s->base, strlen(s->base), n, s->k, s->position, s->challenges, 2 * n, s->roots,
+    dequmlo_checked c = dequmlo_check_query((const uint8_t *)s->base, strlen(s->base), s->widths, n, s->k, s->position, s->challenges, 2 * n, s->roots,
                                             32 * (n + 1), shown.bytes, shown.size);
     MUST((c.number == 0) == is_same);
     MUST(c.number == 0 || (c.number >= 14 && c.number <= 26));
@@ -144,12 +146,12 @@ static void query(const seal *s, uint8_t *copy, side page_at) {
 }
 
 static void tail(const seal *s, uint8_t *copy, side page_at) {
-    size_t size = tail_bytes(s->k);
+    size_t size = tail_bytes(s->widths, s->k);
     memcpy(copy, s->tail, size);
     size_t shown_size = below(4) == 0 ? reshaped_tail(copy, size) : damage(copy, size);
     lent shown = lend(copy, shown_size, page_at);
-    uint32_t number = dequmlo_check_tail((const uint8_t *)s->base, strlen(s->base), s->n, s->k, s->roots + 32 * s->n, 32, s->claim, shown.bytes,
-                                         shown.size);
+    uint32_t number = dequmlo_check_tail((const uint8_t *)s->base, strlen(s->base), s->widths, s->n, s->k, s->roots + 32 * s->n, 32, s->claim,
+                                         shown.bytes, shown.size);
     MUST((number == 0) == same(copy, shown_size, s->tail, size));
     MUST(number == 0 || number == 14 || (number >= 27 && number <= 31));
     answers[number]++;
@@ -158,8 +160,8 @@ static void tail(const seal *s, uint8_t *copy, side page_at) {
 
 static dequmlo_checked checked(const seal *s) {
     size_t n = s->n;
-    dequmlo_checked c = dequmlo_check_query((const uint8_t *)s->base, strlen(s->base), n, s->k, s->position, s->challenges, 2 * n, s->roots,
-                                            32 * (n + 1), s->query, query_bytes(n, s->k));
+    dequmlo_checked c = dequmlo_check_query((const uint8_t *)s->base, strlen(s->base), s->widths, n, s->k, s->position, s->challenges, 2 * n, s->roots,
+                                            32 * (n + 1), s->query, query_bytes(s->widths, n, s->k));
     answers[c.number]++;
     return c;
 }
@@ -183,7 +185,8 @@ static void elsewhere(seal *s) {
         *byte ^= 1;
     }
     dequmlo_word claim = {s->claim.lo ^ 1, s->claim.hi};
-    uint32_t number = dequmlo_check_tail((const uint8_t *)s->base, strlen(s->base), n, s->k, s->roots + 32 * n, 32, claim, s->tail, tail_bytes(s->k));
+    uint32_t number = dequmlo_check_tail((const uint8_t *)s->base, strlen(s->base), s->widths, n, s->k, s->roots + 32 * n, 32, claim, s->tail,
+                                         tail_bytes(s->widths, s->k));
     MUST(number == 31);
     answers[number]++;
 }
@@ -191,13 +194,16 @@ static void elsewhere(seal *s) {
 int main(int count, char **words) {
     uint64_t seed = count > 1 ? strtoull(words[1], NULL, 10) : 1;
     size_t rounds = count > 2 ? strtoull(words[2], NULL, 10) : 1500;
-    static const size_t shapes[][3] = {{1, 0, 1}, {1, 4, 31}, {2, 1, 5}, {3, 3, 40}, {5, 2, 77}, {8, 2, 1000}};
+    static const struct {
+        uint32_t widths;
+        size_t n, k, position;
+    } shapes[] = {{0, 1, 0, 1}, {0, 1, 4, 31}, {0, 2, 1, 5}, {0, 3, 3, 40}, {0, 5, 2, 77}, {0, 8, 2, 1000}, {1, 1, 4, 31}, {1, 3, 3, 40}, {1, 5, 2, 77}};
     for (size_t i = 0; i < sizeof shapes / sizeof *shapes; i++) {
-        size_t n = shapes[i][0], k = shapes[i][1];
-        seal s = sealed(n, k, shapes[i][2], seed + i);
+        size_t n = shapes[i].n, k = shapes[i].k;
+        seal s = sealed(shapes[i].widths, n, k, shapes[i].position, seed + i);
         state = seed * 1000 + i;
         elsewhere(&s);
-        uint8_t *copy = (uint8_t *)room(query_bytes(n, k) + tail_bytes(k) + 64);
+        uint8_t *copy = (uint8_t *)room(query_bytes(s.widths, n, k) + tail_bytes(s.widths, k) + 64);
         for (size_t round = 0; round < rounds; round++) {
             query(&s, copy, round % 2 ? PAGE_AFTER : PAGE_BEFORE);
             tail(&s, copy, round % 2 ? PAGE_AFTER : PAGE_BEFORE);

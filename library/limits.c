@@ -13,6 +13,7 @@ enum { DOMAIN, LEVEL_DOMAIN, INPUT, TABLE, CHALLENGES, GAMMAS, LEVELS, HALF, TRE
 static const size_t ROOM = (size_t)1 << 31;
 static uint8_t *ends[2][PLACES]; /* of what is written, and of what may only be read */
 static int refusing;
+static uint32_t widths; /* the set of the rows that are run */
 
 static uint8_t *bytes_of(int place, size_t size) { return ends[refusing][place] - size; }
 static uint64_t *halves_of(int place, size_t words) { return (uint64_t *)(void *)bytes_of(place, 16 * words); }
@@ -74,10 +75,11 @@ static uint32_t answered(dequmlo_answered a) {
 /* n, k */
 static uint32_t sizes(const size_t *v) {
     size_t n = v[0], k = v[1], last = (size_t)1 << k;
-    dequmlo_seal_sizes s = dequmlo_sizes(n, k);
+    dequmlo_seal_sizes s = dequmlo_sizes(widths, n, k);
     const size_t got[] = {s.table, s.gammas, s.codeword, s.tree, s.levels, s.trees, s.half, s.roots, s.last_level, s.last_tree, s.query, s.tail};
-    const size_t done[] = {(size_t)1 << n, k * n, level_words(n, k, 0), tree_bytes(level_words(n, k, 0)), levels_words(n, k), trees_bytes(n, k),
-                           level_words(n, k, 1), 32 * (n + 1), last, tree_bytes(last), query_bytes(n, k), tail_bytes(k)};
+    const size_t done[] = {(size_t)1 << n, k * n, level_words(n, k, 0), tree_bytes(widths, level_words(n, k, 0)), levels_words(n, k),
+                           trees_bytes(widths, n, k), level_words(n, k, 1), 32 * (n + 1), last, tree_bytes(widths, last), query_bytes(widths, n, k),
+                           tail_bytes(widths, k)};
     static const size_t refused[sizeof done / sizeof *done];
     MUST(memcmp(got, s.number == 0 ? done : refused, sizeof got) == 0);
     return s.number;
@@ -96,9 +98,9 @@ static uint32_t digest(const size_t *v) {
 static uint32_t commit(const size_t *v) {
     size_t n = v[0], k = v[1], words = level_words(n, k, 0);
     uint64_t *codeword = halves_of(LEVELS, levels_words(n, k));
-    uint8_t *tree = bytes_of(TREES, trees_bytes(n, k));
-    uint32_t number = dequmlo_commit(n, k, BYTES(DOMAIN, v[2]), WORDS(TABLE, (size_t)1 << n), WORDS(GAMMAS, k * n), codeword, 2 * words, tree,
-                                     tree_bytes(words));
+    uint8_t *tree = bytes_of(TREES, trees_bytes(widths, n, k));
+    uint32_t number = dequmlo_commit(widths, n, k, BYTES(DOMAIN, v[2]), WORDS(TABLE, (size_t)1 << n), WORDS(GAMMAS, k * n), codeword, 2 * words, tree,
+                                     tree_bytes(widths, words));
     if (number == 0) MUST(memcmp(codeword, halves_of(TABLE, (size_t)1 << n), (size_t)16 << n) == 0);
     return number;
 }
@@ -203,20 +205,20 @@ static uint32_t level_domain(const size_t *v) {
 /* bytes of the base domain, n, k, challenges. All levels, their trees and roots, from the codeword that was committed. */
 static uint32_t fold_levels(const size_t *v) {
     size_t n = v[1], k = v[2];
-    return dequmlo_fold_levels(n, k, BYTES(DOMAIN, v[0]), WORDS(CHALLENGES, v[3]), WORDS(LEVELS, levels_words(n, k)),
-                               WORDS(HALF, level_words(n, k, 0) / 2), BYTES(TREES, trees_bytes(n, k)), BYTES(ROOTS, 32 * (n + 1)));
+    return dequmlo_fold_levels(widths, n, k, BYTES(DOMAIN, v[0]), WORDS(CHALLENGES, v[3]), WORDS(LEVELS, levels_words(n, k)),
+                               WORDS(HALF, level_words(n, k, 0) / 2), BYTES(TREES, trees_bytes(widths, n, k)), BYTES(ROOTS, 32 * (n + 1)));
 }
 
 /* The words before level l, and the bytes before its tree; 0 of a level that is not there. */
 static size_t words_before(size_t n, size_t k, size_t l) { return l > n ? 0 : levels_words(n, k) - levels_words(n - l, k); }
-static size_t bytes_before(size_t n, size_t k, size_t l) { return l > n ? 0 : trees_bytes(n, k) - trees_bytes(n - l, k); }
+static size_t bytes_before(size_t n, size_t k, size_t l) { return l > n ? 0 : trees_bytes(widths, n, k) - trees_bytes(widths, n - l, k); }
 
 /* bytes of the base domain, n, k, level. The same tree as among all trees. */
 static uint32_t level_tree(const size_t *v) {
-    size_t n = v[1], k = v[2], l = v[3], words = level_words(n, k, l), size = tree_bytes(words);
+    size_t n = v[1], k = v[2], l = v[3], words = level_words(n, k, l), size = tree_bytes(widths, words);
     const uint64_t *level = halves_of(LEVELS, levels_words(n, k)) + 2 * words_before(n, k, l);
-    uint32_t number = dequmlo_level_tree(n, k, l, BYTES(DOMAIN, v[0]), level, 2 * words, BYTES(LEVEL_TREE, size));
-    if (number == 0) MUST(memcmp(bytes_of(LEVEL_TREE, size), bytes_of(TREES, trees_bytes(n, k)) + bytes_before(n, k, l), size) == 0);
+    uint32_t number = dequmlo_level_tree(widths, n, k, l, BYTES(DOMAIN, v[0]), level, 2 * words, BYTES(LEVEL_TREE, size));
+    if (number == 0) MUST(memcmp(bytes_of(LEVEL_TREE, size), bytes_of(TREES, trees_bytes(widths, n, k)) + bytes_before(n, k, l), size) == 0);
     return number;
 }
 
@@ -238,15 +240,15 @@ static uint32_t next_part(const size_t *v) {
 static uint32_t level_leaves(const size_t *v) {
     size_t n = v[1], k = v[2], l = v[3], words = level_words(n, k, l);
     const uint64_t *level = halves_of(LEVELS, levels_words(n, k)) + 2 * words_before(n, k, l);
-    uint32_t number = dequmlo_level_leaves(n, k, l, BYTES(DOMAIN, v[0]), v[4], level, 2 * words, BYTES(LEVEL_TREE, 32 * v[5]));
+    uint32_t number = dequmlo_level_leaves(widths, n, k, l, BYTES(DOMAIN, v[0]), v[4], level, 2 * words, BYTES(LEVEL_TREE, 32 * v[5]));
     if (number == 0)
-        MUST(memcmp(bytes_of(LEVEL_TREE, 32 * v[5]), bytes_of(TREES, trees_bytes(n, k)) + bytes_before(n, k, l) + 32 * v[4], 32 * v[5]) == 0);
+        MUST(memcmp(bytes_of(LEVEL_TREE, 32 * v[5]), bytes_of(TREES, trees_bytes(widths, n, k)) + bytes_before(n, k, l) + 32 * v[4], 32 * v[5]) == 0);
     return number;
 }
 
 /* bytes of the base domain, n, k, level, parents. Those of level 0's leaves stand after all of them. */
 static uint32_t level_parents(const size_t *v) {
-    const uint8_t *leaves = bytes_of(TREES, trees_bytes(20, 4));
+    const uint8_t *leaves = bytes_of(TREES, trees_bytes(widths, 20, 4));
     uint32_t number = dequmlo_level_parents(v[1], v[2], v[3], BYTES(DOMAIN, v[0]), 0, leaves, 64 * v[4], BYTES(LEVEL_TREE, 32 * v[4]));
     if (number == 0 && v[3] == 0) MUST(memcmp(bytes_of(LEVEL_TREE, 32 * v[4]), leaves + ((size_t)32 << 21), 32 * v[4]) == 0);
     return number;
@@ -255,14 +257,15 @@ static uint32_t level_parents(const size_t *v) {
 /* n, k, position */
 static uint32_t build_query(const size_t *v) {
     size_t n = v[0], k = v[1];
-    return dequmlo_build_query(BYTES(QUERY, query_bytes(n, k)), WORDS(LEVELS, levels_words(n, k)), BYTES(TREES, trees_bytes(n, k)), n, k, v[2]);
+    return dequmlo_build_query(BYTES(QUERY, query_bytes(widths, n, k)), WORDS(LEVELS, levels_words(n, k)), BYTES(TREES, trees_bytes(widths, n, k)),
+                               widths, n, k, v[2]);
 }
 
 /* bytes of the base domain, n, k, position, challenges, roots */
 static uint32_t check_query(const size_t *v) {
     size_t n = v[1], k = v[2];
-    dequmlo_checked c = dequmlo_check_query(BYTES(DOMAIN, v[0]), n, k, v[3], WORDS(CHALLENGES, v[4]), BYTES(ROOTS, 32 * v[5]),
-                                            BYTES(QUERY, query_bytes(n, k)));
+    dequmlo_checked c = dequmlo_check_query(BYTES(DOMAIN, v[0]), widths, n, k, v[3], WORDS(CHALLENGES, v[4]), BYTES(ROOTS, 32 * v[5]),
+                                            BYTES(QUERY, query_bytes(widths, n, k)));
     MUST(c.level == 0);
     return c.number;
 }
@@ -270,21 +273,22 @@ static uint32_t check_query(const size_t *v) {
 /* n, k. The last level and its tree lie at the ends of all levels and all trees. */
 static uint32_t build_tail(const size_t *v) {
     size_t last = (size_t)1 << v[1];
-    return dequmlo_build_tail(BYTES(TAIL, tail_bytes(v[1])), WORDS(LEVELS, last), BYTES(TREES, tree_bytes(last)), v[0], v[1]);
+    return dequmlo_build_tail(BYTES(TAIL, tail_bytes(widths, v[1])), WORDS(LEVELS, last), BYTES(TREES, tree_bytes(widths, last)), widths, v[0], v[1]);
 }
 
 /* bytes of the base domain, n, k, bytes of the root */
 static uint32_t check_tail(const size_t *v) {
     const uint64_t *last_level = halves_of(LEVELS, (size_t)1 << v[2]);
     dequmlo_word claim = {last_level[0], last_level[1]};
-    return dequmlo_check_tail(BYTES(DOMAIN, v[0]), v[1], v[2], BYTES(ROOTS, v[3]), claim, BYTES(TAIL, tail_bytes(v[2])));
+    return dequmlo_check_tail(BYTES(DOMAIN, v[0]), widths, v[1], v[2], BYTES(ROOTS, v[3]), claim, BYTES(TAIL, tail_bytes(widths, v[2])));
 }
 
 /* bytes of the base domain, n, k, position, bytes of the first and of the second message's buffer. The query record with itself. */
 static uint32_t compare(const size_t *v) {
     size_t n = v[1], k = v[2];
-    dequmlo_compared c = dequmlo_compare(BYTES(DOMAIN, v[0]), n, k, v[3], WORDS(CHALLENGES, n), BYTES(ROOTS, 32 * (n + 1)),
-                                         BYTES(QUERY, query_bytes(n, k)), BYTES(QUERY, query_bytes(n, k)), BYTES(FIRST, v[4]), BYTES(SECOND, v[5]));
+    size_t size = query_bytes(widths, n, k);
+    dequmlo_compared c = dequmlo_compare(BYTES(DOMAIN, v[0]), widths, n, k, v[3], WORDS(CHALLENGES, n), BYTES(ROOTS, 32 * (n + 1)), BYTES(QUERY, size),
+                                         BYTES(QUERY, size), BYTES(FIRST, v[4]), BYTES(SECOND, v[5]));
     MUST(c.first == 0 && c.second == 0);
     return c.number;
 }
@@ -370,10 +374,10 @@ typedef struct {
 
 #define CALL(function) #function, function
 
-/* The largest value count, and the positions of the largest seal. */
-enum { MOST = 1 << 24, LAST = MOST - 1 };
+/* The largest value count, the positions of the largest seal, and the room for a message. */
+enum { MOST = 1 << 24, LAST = MOST - 1, ROOM_OF_MESSAGE = DEQUMLO_MESSAGE_BUFFER };
 
-/* A row builds on what the done ones above it left: refused ones leave everything. */
+/* Under the present set. A row builds on what the done ones above it left: refused ones leave everything. */
 static const row rows[] = {
     {CALL(sizes), {1, 0}, 0},
     {CALL(sizes), {0, 0}, 4},
@@ -555,16 +559,16 @@ static const row rows[] = {
     {CALL(check_tail), {200, 20, 4, 33}, 5},
     {CALL(check_tail), {201, 20, 4, 32}, 7},
 
-    {CALL(compare), {200, 20, 4, LAST, 512, 512}, 33},
-    {CALL(compare), {200, 0, 4, 0, 512, 512}, 4},
-    {CALL(compare), {200, 21, 4, LAST, 512, 512}, 4},
-    {CALL(compare), {200, 20, 5, LAST, 512, 512}, 4},
-    {CALL(compare), {200, 20, 4, LAST, 511, 512}, 5},
-    {CALL(compare), {200, 20, 4, LAST, 513, 512}, 5},
-    {CALL(compare), {200, 20, 4, LAST, 512, 511}, 5},
-    {CALL(compare), {200, 20, 4, LAST, 512, 513}, 5},
-    {CALL(compare), {201, 20, 4, LAST, 512, 512}, 7},
-    {CALL(compare), {200, 20, 4, MOST, 512, 512}, 11},
+    {CALL(compare), {200, 20, 4, LAST, ROOM_OF_MESSAGE, ROOM_OF_MESSAGE}, 33},
+    {CALL(compare), {200, 0, 4, 0, ROOM_OF_MESSAGE, ROOM_OF_MESSAGE}, 4},
+    {CALL(compare), {200, 21, 4, LAST, ROOM_OF_MESSAGE, ROOM_OF_MESSAGE}, 4},
+    {CALL(compare), {200, 20, 5, LAST, ROOM_OF_MESSAGE, ROOM_OF_MESSAGE}, 4},
+    {CALL(compare), {200, 20, 4, LAST, ROOM_OF_MESSAGE - 1, ROOM_OF_MESSAGE}, 5},
+    {CALL(compare), {200, 20, 4, LAST, ROOM_OF_MESSAGE + 1, ROOM_OF_MESSAGE}, 5},
+    {CALL(compare), {200, 20, 4, LAST, ROOM_OF_MESSAGE, ROOM_OF_MESSAGE - 1}, 5},
+    {CALL(compare), {200, 20, 4, LAST, ROOM_OF_MESSAGE, ROOM_OF_MESSAGE + 1}, 5},
+    {CALL(compare), {201, 20, 4, LAST, ROOM_OF_MESSAGE, ROOM_OF_MESSAGE}, 7},
+    {CALL(compare), {200, 20, 4, MOST, ROOM_OF_MESSAGE, ROOM_OF_MESSAGE}, 11},
 
     {CALL(materialize), {0, 0}, 0},
     {CALL(eval_at), {0, 0, 0}, 0},
@@ -618,6 +622,74 @@ static const row rows[] = {
     {CALL(ghash), {17}, 5},
 };
 
+/* Under the wide set, from the largest codeword that was committed above. */
+static const row wide_rows[] = {
+    {CALL(sizes), {1, 0}, 0},
+    {CALL(sizes), {20, 4}, 0},
+    {CALL(sizes), {21, 4}, 4},
+
+    {CALL(fold_levels), {200, 20, 4, 20}, 0},
+    {CALL(fold_levels), {200, 21, 4, 21}, 4},
+    {CALL(fold_levels), {200, 20, 4, 21}, 5},
+    {CALL(fold_levels), {201, 20, 4, 20}, 7},
+
+    {CALL(level_tree), {200, 20, 4, 14}, 0},
+    {CALL(level_tree), {200, 20, 4, 18}, 0},
+    {CALL(level_tree), {200, 20, 4, 20}, 0},
+    {CALL(level_tree), {200, 20, 4, 21}, 4},
+
+    {CALL(level_leaves), {200, 20, 4, 0, MOST / 32 - 1, 1}, 0},
+    {CALL(level_leaves), {200, 20, 4, 0, MOST / 32, 0}, 0},
+    {CALL(level_leaves), {200, 20, 4, 0, MOST / 32, 1}, 11},
+    {CALL(level_leaves), {200, 20, 4, 20, 7, 1}, 0},
+    {CALL(level_leaves), {200, 20, 4, 20, 8, 1}, 11},
+
+    {CALL(build_query), {20, 4, LAST}, 0},
+    {CALL(build_query), {20, 4, MOST}, 11},
+    {CALL(build_query), {21, 4, LAST}, 4},
+
+    {CALL(check_query), {200, 20, 4, LAST, 20, 21}, 0},
+    {CALL(check_query), {200, 20, 4, MOST, 20, 21}, 11},
+    {CALL(check_query), {201, 20, 4, LAST, 20, 21}, 7},
+
+    {CALL(build_tail), {20, 4}, 0},
+    {CALL(build_tail), {20, 5}, 4},
+
+    {CALL(check_tail), {200, 20, 4, 32}, 0},
+    {CALL(check_tail), {200, 20, 4, 33}, 5},
+
+    {CALL(compare), {200, 20, 4, LAST, ROOM_OF_MESSAGE, ROOM_OF_MESSAGE}, 33},
+    {CALL(compare), {200, 20, 4, LAST, ROOM_OF_MESSAGE - 1, ROOM_OF_MESSAGE}, 5},
+    {CALL(compare), {200, 20, 4, LAST, ROOM_OF_MESSAGE, ROOM_OF_MESSAGE + 1}, 5},
+
+    {CALL(commit), {0, 0, 0}, 0},
+    {CALL(commit), {2, 4, 200}, 0},
+    {CALL(commit), {12, 4, 200}, 0},
+    {CALL(commit), {20, 4, 201}, 7},
+    {CALL(commit), {20, 5, 200}, 4},
+};
+
+/* Under a number that is no set's: 4, also where all else is right, or where a length or the base domain is wrong too. */
+static const row unnamed_rows[] = {
+    {CALL(sizes), {20, 4}, 4},
+    {CALL(commit), {20, 4, 200}, 4},
+    {CALL(commit), {20, 4, 201}, 4},
+    {CALL(fold_levels), {200, 20, 4, 20}, 4},
+    {CALL(fold_levels), {201, 20, 4, 19}, 4},
+    {CALL(level_tree), {200, 20, 4, 20}, 4},
+    {CALL(level_leaves), {200, 20, 4, 20, 1, 1}, 4},
+    {CALL(level_leaves), {200, 20, 4, 20, 100, 1}, 4},
+    {CALL(build_query), {20, 4, LAST}, 4},
+    {CALL(build_query), {20, 4, MOST}, 4},
+    {CALL(check_query), {200, 20, 4, LAST, 20, 21}, 4},
+    {CALL(check_query), {200, 20, 4, MOST, 19, 20}, 4},
+    {CALL(build_tail), {20, 4}, 4},
+    {CALL(check_tail), {200, 20, 4, 32}, 4},
+    {CALL(check_tail), {201, 20, 4, 31}, 4},
+    {CALL(compare), {200, 20, 4, LAST, ROOM_OF_MESSAGE, ROOM_OF_MESSAGE}, 4},
+    {CALL(compare), {201, 20, 4, MOST, ROOM_OF_MESSAGE - 1, ROOM_OF_MESSAGE}, 4},
+};
+
 /* ---- the run */
 
 static char running[128];
@@ -629,21 +701,32 @@ static void touched(int signal) {
     _exit(1);
 }
 
-int main(void) {
-    prepared();
-    MUST(signal(SIGSEGV, touched) != SIG_ERR);
-    for (size_t i = 0; i < sizeof rows / sizeof *rows; i++) {
-        const row *r = &rows[i];
+/* The rows of a table, under the set with a number. How many they are. */
+static size_t run(uint32_t set, const row *table, size_t count) {
+    widths = set;
+    for (size_t i = 0; i < count; i++) {
+        const row *r = &table[i];
         const size_t *v = r->numbers;
-        snprintf(running, sizeof running, "limits: %s %zu %zu %zu %zu %zu %zu", r->name, v[0], v[1], v[2], v[3], v[4], v[5]);
+        snprintf(running, sizeof running, "limits: %s, widths %u: %zu %zu %zu %zu %zu %zu", r->name, set, v[0], v[1], v[2], v[3], v[4], v[5]);
         /* 33 is said of records that were accepted: they must be there. */
         refusing = r->expected != 0 && r->expected != 33;
         uint32_t number = r->call(v);
         if (number != r->expected) {
             fprintf(stderr, "%s answers %u, not %u\n", running, number, r->expected);
-            return 1;
+            exit(1);
         }
     }
-    printf("limits: %zu calls at the limit or one past it, each answer as it must be\n", sizeof rows / sizeof *rows);
+    return count;
+}
+
+#define TABLE_OF(rows) rows, sizeof rows / sizeof *rows
+
+int main(void) {
+    prepared();
+    MUST(signal(SIGSEGV, touched) != SIG_ERR);
+    size_t calls = run(DEQUMLO_WIDTHS_PRESENT, TABLE_OF(rows));
+    calls += run(DEQUMLO_WIDTHS_WIDE, TABLE_OF(wide_rows));
+    calls += run(2, TABLE_OF(unnamed_rows)) + run(UINT32_MAX, TABLE_OF(unnamed_rows));
+    printf("limits: %zu calls at the limit or one past it, each answer as it must be\n", calls);
     return 0;
 }

@@ -1,4 +1,5 @@
-/* How much stack each function takes: it is run on a painted stack, and the paint that is left is counted. Fails above 96 KiB. */
+/* How much stack each function takes, under either set of widths: it is run on a painted stack, and the paint that is left is counted. Fails above
+   96 KiB. */
 #include "fixture.h"
 #include <pthread.h>
 #include <sys/mman.h>
@@ -11,13 +12,14 @@ static uint64_t words[1 << 11], table[1 << 9];
 static uint8_t bytes[1 << 16];
 
 #define BASE (const uint8_t *)s.base, strlen(s.base)
-#define CHECKED s.position, s.challenges, 2 * s.n, s.roots, 32 * (s.n + 1), s.query, query_bytes(s.n, s.k)
+#define CHECKED s.position, s.challenges, 2 * s.n, s.roots, 32 * (s.n + 1), s.query, query_bytes(s.widths, s.n, s.k)
 
 static void nothing(void) {}
 static void digest(void) { dequmlo_digest(bytes, sizeof bytes); }
 static void commit(void) {
     size_t count = level_words(s.n, s.k, 0);
-    MUST(dequmlo_commit(s.n, s.k, BASE, s.table, (size_t)2 << s.n, s.gammas, 2 * s.k * s.n, s.levels, 2 * count, s.trees, tree_bytes(count)) == 0);
+    MUST(dequmlo_commit(s.widths, s.n, s.k, BASE, s.table, (size_t)2 << s.n, s.gammas, 2 * s.k * s.n, s.levels, 2 * count, s.trees,
+                        tree_bytes(s.widths, count)) == 0);
 }
 static void fold(void) {
     size_t count = level_words(s.n, s.k, 0);
@@ -25,11 +27,11 @@ static void fold(void) {
 }
 static void fold_levels(void) {
     size_t levels = 2 * levels_words(s.n, s.k);
-    MUST(dequmlo_fold_levels(s.n, s.k, BASE, s.challenges, 2 * s.n, s.levels, levels, words, level_words(s.n, s.k, 0), s.trees,
-                             trees_bytes(s.n, s.k), s.roots, 32 * (s.n + 1)) == 0);
+    MUST(dequmlo_fold_levels(s.widths, s.n, s.k, BASE, s.challenges, 2 * s.n, s.levels, levels, words, level_words(s.n, s.k, 0), s.trees,
+                             trees_bytes(s.widths, s.n, s.k), s.roots, 32 * (s.n + 1)) == 0);
 }
 static void level_domain(void) { MUST(dequmlo_level_domain(BASE, 8, bytes, strlen(s.base) + 8) == 0); }
-static void level_tree(void) { MUST(dequmlo_level_tree(s.n, s.k, 0, BASE, s.levels, 2048, bytes, tree_bytes(1024)) == 0); }
+static void level_tree(void) { MUST(dequmlo_level_tree(s.widths, s.n, s.k, 0, BASE, s.levels, 2048, bytes, tree_bytes(s.widths, 1024)) == 0); }
 static void tree(void) { MUST(dequmlo_tree(BASE, 1024, 512, s.levels, 2048, bytes, 96) == 0); }
 static void codeword_block(void) {
     size_t block = (size_t)2 << s.n;
@@ -42,31 +44,37 @@ static void codeword_half(void) {
 static void fold_part(void) { MUST(dequmlo_fold_part(s.n, s.k, 0, s.claim, 1, s.levels, 2 * level_words(s.n, s.k, 0), words, 1000) == 0); }
 static void gammas(void) { MUST(dequmlo_gammas(s.n, s.k, BASE, s.gammas, 2 * s.k * s.n) == 0); }
 static void next_part(void) { MUST(dequmlo_next_part(s.n, s.k, 0, s.claim, 1, s.levels, 2 * level_words(s.n, s.k, 0), words, 1000) == 0); }
-static void level_leaves(void) { MUST(dequmlo_level_leaves(s.n, s.k, 0, BASE, 1, s.levels, 2048, bytes, 32 * 100) == 0); }
+static void level_leaves(void) { MUST(dequmlo_level_leaves(s.widths, s.n, s.k, 0, BASE, 1, s.levels, 2048, bytes, 32 * 30) == 0); }
 static void level_parents(void) { MUST(dequmlo_level_parents(s.n, s.k, 0, BASE, 0, s.trees, 128 * 32, bytes, 64 * 32) == 0); }
 static void tree_leaves(void) { MUST(dequmlo_tree_leaves(BASE, 1024, 512, 1, s.levels, 2048, bytes, 32) == 0); }
 static void tree_parents(void) { MUST(dequmlo_tree_parents(BASE, 0, s.trees, 128 * 32, bytes, 64 * 32) == 0); }
-static void open(void) { MUST(dequmlo_open(1024, 8, 5, s.trees, tree_bytes(1024), bytes, 32 * depth_of(1024)) == 0); }
+static void open(void) {
+    MUST(dequmlo_open(1024, width_of(s.widths, 1024), 5, s.trees, tree_bytes(s.widths, 1024), bytes, 32 * depth_of(s.widths, 1024)) == 0);
+}
 static void root(void) { MUST(dequmlo_root_of_path(BASE, 1024, 512, 5, s.levels, 1024, s.trees, 32).number == 0); }
 static void build_query(void) {
-    MUST(dequmlo_build_query(bytes, query_bytes(s.n, s.k), s.levels, 2 * levels_words(s.n, s.k), s.trees, trees_bytes(s.n, s.k), s.n, s.k, 3) == 0);
+    MUST(dequmlo_build_query(bytes, query_bytes(s.widths, s.n, s.k), s.levels, 2 * levels_words(s.n, s.k), s.trees, trees_bytes(s.widths, s.n, s.k),
+                             s.widths, s.n, s.k, 3) == 0);
 }
-static void check_query(void) { MUST(dequmlo_check_query(BASE, s.n, s.k, CHECKED).number == 0); }
+static void check_query(void) { MUST(dequmlo_check_query(BASE, s.widths, s.n, s.k, CHECKED).number == 0); }
 static void build_tail(void) {
     size_t last = (size_t)1 << s.k;
-    MUST(dequmlo_build_tail(bytes, tail_bytes(s.k), s.levels + 2 * (levels_words(s.n, s.k) - last), 2 * last,
-                            s.trees + trees_bytes(s.n, s.k) - tree_bytes(last), tree_bytes(last), s.n, s.k) == 0);
+    MUST(dequmlo_build_tail(bytes, tail_bytes(s.widths, s.k), s.levels + 2 * (levels_words(s.n, s.k) - last), 2 * last,
+                            s.trees + trees_bytes(s.widths, s.n, s.k) - tree_bytes(s.widths, last), tree_bytes(s.widths, last), s.widths, s.n,
+                            s.k) == 0);
 }
-static void check_tail(void) { MUST(dequmlo_check_tail(BASE, s.n, s.k, s.roots + 32 * s.n, 32, s.claim, s.tail, tail_bytes(s.k)) == 0); }
+static void check_tail(void) { MUST(dequmlo_check_tail(BASE, s.widths, s.n, s.k, s.roots + 32 * s.n, 32, s.claim, s.tail, tail_bytes(s.widths, s.k)) == 0); }
 static void compare(void) {
-    MUST(dequmlo_compare(BASE, s.n, s.k, CHECKED, s.query, query_bytes(s.n, s.k), bytes, 512, bytes + 512, 512).number == 33);
+    MUST(dequmlo_compare(BASE, s.widths, s.n, s.k, CHECKED, s.query, query_bytes(s.widths, s.n, s.k), bytes, DEQUMLO_MESSAGE_BUFFER,
+                         bytes + DEQUMLO_MESSAGE_BUFFER, DEQUMLO_MESSAGE_BUFFER)
+             .number == 33);
 }
 static void partial_evals(void) { MUST(dequmlo_partial_evals(s.n, s.table, (size_t)2 << s.n, table, (size_t)2 << s.n, words, 256) == 0); }
 static void fold_partials(void) { MUST(dequmlo_fold_partials(words, 256, rows).number == 0); }
 static void materialize(void) { MUST(dequmlo_materialize(s.n, s.challenges, 2 * s.n, rows, table, (size_t)2 << s.n) == 0); }
 static void small_answers(void) {
     static volatile size_t kept;
-    kept = dequmlo_sizes(s.n, s.k).levels + dequmlo_fold_tree_width(16) + dequmlo_level_domain_length(BASE, 8).length;
+    kept = dequmlo_sizes(s.widths, s.n, s.k).levels + dequmlo_fold_tree_width(s.widths, 64) + dequmlo_level_domain_length(BASE, 8).length;
     kept += dequmlo_default_parameters().k + dequmlo_unnamed_parameters(1).k + dequmlo_firstdefault().k;
     kept += dequmlo_fastchunk().k + dequmlo_balanced().k + dequmlo_compactwrap().k + dequmlo_deepwrap().k;
     kept += dequmlo_import_block(dequmlo_export_block(rows.words[0])).lo;
@@ -140,15 +148,19 @@ int main(void) {
         {"ghash", ghash},
     };
     static const function empty = {"nothing", nothing};
-    s = sealed(8, 2, 100, 1);
-    size_t thread = used(&empty), most = 0;
-    printf("stack, in bytes:");
-    for (size_t i = 0; i < sizeof functions / sizeof *functions; i++) {
-        size_t whole = used(&functions[i]), own = whole > thread ? whole - thread : 0;
-        printf(" %s %zu%s", functions[i].name, own, i + 1 < sizeof functions / sizeof *functions ? "," : "\n");
-        if (own > most) most = own;
+    enum { COUNT = sizeof functions / sizeof *functions };
+    static size_t most[COUNT];
+    size_t thread = used(&empty);
+    for (uint32_t widths = DEQUMLO_WIDTHS_PRESENT; widths <= DEQUMLO_WIDTHS_WIDE; widths++) {
+        s = sealed(widths, 8, 2, 100, 1);
+        for (size_t i = 0; i < COUNT; i++) {
+            size_t whole = used(&functions[i]), own = whole > thread ? whole - thread : 0;
+            if (own > most[i]) most[i] = own;
+        }
+        unsealed(&s);
     }
-    unsealed(&s);
-    MUST(most <= MOST);
+    printf("stack, in bytes:");
+    for (size_t i = 0; i < COUNT; i++) printf(" %s %zu%s", functions[i].name, most[i], i + 1 < COUNT ? "," : "\n");
+    for (size_t i = 0; i < COUNT; i++) MUST(most[i] <= MOST);
     return 0;
 }

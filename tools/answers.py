@@ -12,6 +12,9 @@ from model import derive, encode, equality_table, extension, fold_tree_width, ga
 from model import exported, fold as fold_first, ghash, imported, number as number_bytes, part, root_of_path, seal_parameters as parameters_of_seal, shift, tree
 from records import Deposit, first_no, query, query_bytes, tail_bytes
 
+# how many bytes a message of a comparison is given
+MESSAGE_BUFFER = 1024
+
 OPERATIONS = {}
 
 
@@ -483,8 +486,8 @@ OPERATIONS["root_of_path"] = OPERATIONS.pop("root_of_path_")
 
 
 @operation
-def fold_tree_width_(length):
-    return [fold_tree_width(length)], []
+def fold_tree_width_(widths, length):
+    return [fold_tree_width(widths, length)], []
 
 
 OPERATIONS["fold_tree_width"] = OPERATIONS.pop("fold_tree_width_")
@@ -499,10 +502,10 @@ OPERATIONS["level_domain"] = OPERATIONS.pop("level_domain_")
 
 
 @operation
-def commit(n, k, base, table, gammas, codeword, out):
+def commit(widths, n, k, base, table, gammas, codeword, out):
     number = no((4, in_range(n, k)))
     if number == 0:
-        count, width, _ = records.shape(n, k, 0)
+        count, width, _ = records.shape(widths, n, k, 0)
         sized = halves(table) == 2 << n and gammas == 2 * n * k and codeword == 2 << n + k and out == 32 * (2 * (count // width) - 1)
         number = no((5, sized), (7, len(base) <= 200))
     if number:
@@ -528,36 +531,36 @@ def has_level(n, k, l):
     return 1 <= n and in_range(n, k) and l <= n
 
 
-def level_sizes(n, k, l):
+def level_sizes(widths, n, k, l):
     """Halves of the level's words, and bytes of its tree."""
-    count, width, _ = records.shape(n, k, l)
+    count, width, _ = records.shape(widths, n, k, l)
     return 2 * count, 32 * (2 * (count // width) - 1)
 
 
 @operation
-def level_tree(n, k, l, base, values, out):
+def level_tree(widths, n, k, l, base, values, out):
     number = no((4, has_level(n, k, l)))
     if number == 0:
-        number = no((5, (halves(values), out) == level_sizes(n, k, l)), (7, len(base) <= 200))
+        number = no((5, (halves(values), out) == level_sizes(widths, n, k, l)), (7, len(base) <= 200))
     if number:
         return [number], []
-    return [0], [b"".join(tree(level_domain(base, l), fold_tree_width(len(values) // 16), ints(values)))]
+    return [0], [b"".join(tree(level_domain(base, l), fold_tree_width(widths, len(values) // 16), ints(values)))]
 
 
 @operation
 def next_part(n, k, l, r, first, values, out):
     number = no((4, has_level(n, k, l + 1)))
     if number == 0:
-        count, _, _ = records.shape(n, k, l)
+        count = 1 << (n + k - l)
         number = no((5, halves(values) == 2 * count and out % 2 == 0), (11, first + out // 2 <= count // 2))
     return done(number, *([packed(fold_first(ints(values), ints(r)[0])[first : first + out // 2])] if number == 0 else []))
 
 
 @operation
-def level_leaves(n, k, l, base, first, values, out):
+def level_leaves(widths, n, k, l, base, first, values, out):
     number = no((4, has_level(n, k, l)))
     if number == 0:
-        count, width, _ = records.shape(n, k, l)
+        count, width, _ = records.shape(widths, n, k, l)
         number = no((5, halves(values) == 2 * count and out % 32 == 0), (7, len(base) <= 200), (11, first + out // 32 <= count // width))
     if number:
         return [number], []
@@ -571,11 +574,11 @@ def level_parents(n, k, l, base, height, children, out):
 
 
 @operation
-def fold_levels(n, k, base, challenges, codeword, levels, half, trees, roots):
+def fold_levels(widths, n, k, base, challenges, codeword, levels, half, trees, roots):
     before = (codeword + FILL * (8 * levels))[: 8 * levels]
     number = no((4, 1 <= n and in_range(n, k)))
     if number == 0:
-        sizes = [level_sizes(n, k, l) for l in range(n + 1)]
+        sizes = [level_sizes(widths, n, k, l) for l in range(n + 1)]
         lent = (halves(challenges), levels, half, trees, roots)
         fixed = (2 * n, sum(w for w, _ in sizes), sizes[1][0], sum(b for _, b in sizes), 32 * (n + 1))
         number = no((5, lent == fixed), (7, len(base) <= 200))
@@ -584,18 +587,24 @@ def fold_levels(n, k, base, challenges, codeword, levels, half, trees, roots):
     made = [ints(before)[: 1 << n + k]]
     for r in ints(challenges):
         made.append(fold_first(made[-1], r))
-    built = [tree(level_domain(base, l), fold_tree_width(len(v)), v) for l, v in enumerate(made)]
+    built = [tree(level_domain(base, l), fold_tree_width(widths, len(v)), v) for l, v in enumerate(made)]
     every = b"".join(digest for digests in built for digest in digests)
     return [0], [packed([w for level in made for w in level]), bytes(8 * half), every, b"".join(digests[-1] for digests in built)]
+
+
+@operation
+def sizes(widths, n, k):
+    """Bytes of all trees, of a query record and of a tail record."""
+    return ([0, *records.sizes(widths, n, k)] if 1 <= n <= 20 and k <= 4 else [4]), []
 
 
 class Lent(Deposit):
     """Levels and trees that are lent, end to end."""
 
-    def __init__(self, n, k, words, digests):
-        self.n, self.k, self.levels, self.trees = n, k, [], []
+    def __init__(self, widths, n, k, words, digests):
+        self.widths, self.n, self.k, self.levels, self.trees = widths, n, k, [], []
         for l in range(n + 1):
-            count, width, _ = records.shape(n, k, l)
+            count, width, _ = records.shape(widths, n, k, l)
             size = 32 * (2 * (count // width) - 1)
             self.levels.append(ints(words[: 16 * count]))
             self.trees.append([digests[i : i + 32] for i in range(0, size, 32)])
@@ -603,17 +612,17 @@ class Lent(Deposit):
 
 
 @operation
-def build_query(n, k, position, words, digests, out):
-    number, _ = first_no(records.build_query(n, k, position, len(words), len(digests), out))
-    return done(number, *([query_bytes(query(Lent(n, k, words, digests), position))] if number == 0 else []))
+def build_query(widths, n, k, position, words, digests, out):
+    number, _ = first_no(records.build_query(widths, n, k, position, len(words), len(digests), out))
+    return done(number, *([query_bytes(query(Lent(widths, n, k, words, digests), position))] if number == 0 else []))
 
 
 @operation
-def build_tail(n, k, words, digests, out):
-    number, _ = first_no(records.build_tail(n, k, len(words), len(digests), out))
+def build_tail(widths, n, k, words, digests, out):
+    number, _ = first_no(records.build_tail(widths, n, k, len(words), len(digests), out))
     if number:
         return [number], []
-    count, width, _ = records.shape(n, k, n)
+    count, width, _ = records.shape(widths, n, k, n)
     lent = [digests[i : i + 32] for i in range(0, len(digests), 32)]
     values = ints(words)
     groups = [records.Group(values[width * g : width * (g + 1)], path(lent, g)) for g in range(count // width)]
@@ -621,13 +630,13 @@ def build_tail(n, k, words, digests, out):
 
 
 @operation
-def check_query(base, n, k, position, challenges, roots, record):
-    return first_no(records.check_query(base, n, k, position, challenges, roots, record)), []
+def check_query(base, widths, n, k, position, challenges, roots, record):
+    return first_no(records.check_query(base, widths, n, k, position, challenges, roots, record)), []
 
 
 @operation
-def check_tail(base, n, k, root, claim, record):
-    return [first_no(records.check_tail(base, n, k, claim, root, record))[0]], []
+def check_tail(base, widths, n, k, root, claim, record):
+    return [first_no(records.check_tail(base, widths, n, k, claim, root, record))[0]], []
 
 
 def tally(numbers):
@@ -673,17 +682,17 @@ def prefixes_tail(*given):
 
 
 @operation
-def compare(base, n, k, position, challenges, roots, first, second, room, other):
+def compare(base, widths, n, k, position, challenges, roots, first, second, room, other):
     def questions():
         yield 4, 0, 1 <= n <= 20 and k <= 4
         yield 5, 0, len(challenges) == 16 * n
         yield 5, 0, len(roots) == 32 * (n + 1)
-        yield 5, 0, room == 512
-        yield 5, 0, other == 512
+        yield 5, 0, room == MESSAGE_BUFFER
+        yield 5, 0, other == MESSAGE_BUFFER
         yield 7, 0, len(base) <= 200
         yield 11, 0, position < 1 << (n + k)
         for record in (first, second):
-            yield 32, 0, first_no(records.check_query(base, n, k, position, challenges, roots, record)) == (0, 0)
+            yield 32, 0, first_no(records.check_query(base, widths, n, k, position, challenges, roots, record)) == (0, 0)
         yield 33, 0, first != second
 
     number, _ = first_no(questions())
@@ -700,7 +709,7 @@ def walk(leaf, node, depth, first, second, room, other):
     if not differing:
         return [0, 0, 0], []
     x, y = differing[-1]
-    return [0, len(x), len(y)], [x.ljust(512, b"\0"), y.ljust(512, b"\0")]
+    return [0, len(x), len(y)], [x.ljust(MESSAGE_BUFFER, b"\0"), y.ljust(MESSAGE_BUFFER, b"\0")]
 
 
 # ---- tail-list, and the whole run
@@ -743,57 +752,59 @@ def fold_number(n, k, var, codeword, room):
     return 0 if var < n else 6
 
 
+# how long the program's own buffers are for what a run leaves: roots, both records, both messages
+RUN_ROOMS = (160, 1640, 160, MESSAGE_BUFFER + 8, MESSAGE_BUFFER + 8)
+
+
 class Run(Deposit):
     """A table committed, and a list of fold calls until n are done; the levels behind stay zeros."""
 
-    def __init__(self, n, k, base, table, calls):
-        self.n, self.k, self.base, self.challenges = n, k, base, []
+    def __init__(self, widths, n, k, base, table, calls):
+        self.widths, self.n, self.k, self.base, self.challenges = widths, n, k, base, []
         self.levels = [encode(n, k, table, derive(base, n, k))]
         for call_n, call_k, var, room, r in calls:
             if len(self.challenges) < n and fold_number(call_n, call_k, var, len(self.levels[-1]), room) == 0:
                 self.levels.append(fold_at(self.levels[-1], var, r))
                 self.challenges.append(r)
         self.levels += [[0] * (1 << (n + k - l)) for l in range(len(self.levels), n + 1)]
-        self.trees = [tree(level_domain(base, l), fold_tree_width(len(v)), v) for l, v in enumerate(self.levels)]
+        self.trees = [tree(level_domain(base, l), fold_tree_width(widths, len(v)), v) for l, v in enumerate(self.levels)]
         self.roots = [digests[-1] for digests in self.trees]
 
 
-def run_questions(n, k, position, base, table, calls, challenges, lengths, kept):
+def run_questions(widths, n, k, position, base, table, calls, challenges, lengths, kept):
     """`lengths` are of the gammas, levels, half, trees, roots, query and tail record and the two messages."""
     yield 4, 0, 1 <= n <= 20 and k <= 4
     yield 5, 0, len(table) == 16 << n
     yield 5, 0, len(calls) % 4 == 0 and len(challenges) == 4 * len(calls)
-    shapes = [records.shape(n, k, l) for l in range(n + 1)]
-    opened = [8 + 16 * width + 32 * depth for count, width, depth in shapes]
-    groups = [count // width for count, width, depth in shapes]
+    trees, record, tail = records.sizes(widths, n, k)
     yield 5, 0, kept == 2 * n
     yield 5, 0, lengths == [
         2 * k * n,
-        sum(2 * count for count, width, depth in shapes),
+        2 * ((2 << n) - 1 << k),
         1 << (n + k),
-        sum(32 * (2 * g - 1) for g in groups),
+        trees,
         32 * (n + 1),
-        4 + sum(48 + a + c for a, c in zip(opened, opened[1:])),
-        4 + groups[n] * opened[n],
-        512,
-        512,
+        record,
+        tail,
+        MESSAGE_BUFFER,
+        MESSAGE_BUFFER,
     ]
     yield 7, 0, len(base) <= 200
     yield 11, 0, position < 1 << (n + k)
 
 
 @operation
-def run(n, k, position, base, table, calls, challenges, claim, first, second, lengths, kept, out, counts):
-    refusal, _ = first_no(run_questions(n, k, position, base, table, calls, challenges, lengths, kept))
+def run(widths, n, k, position, base, table, calls, challenges, claim, first, second, lengths, kept, out, counts):
+    refusal, _ = first_no(run_questions(widths, n, k, position, base, table, calls, challenges, lengths, kept))
     if refusal:
         return [refusal, 0, 0, 0], [None, None, bytes(32)]
-    made = Run(n, k, base, ints(table), zip(*(calls[i::4] for i in range(4)), ints(challenges)))
+    made = Run(widths, n, k, base, ints(table), zip(*(calls[i::4] for i in range(4)), ints(challenges)))
     held, roots = packed(made.challenges).ljust(16 * n, FILL), b"".join(made.roots)
     record, tail = query_bytes(query(made, position)), tail_bytes(made.tail())
-    number, level = first_no(records.check_query(base, n, k, position, held, roots, record))
-    number_of_tail, _ = first_no(records.check_tail(base, n, k, claim, made.roots[n], tail))
-    (compared, one, two), _ = compare(base, n, k, position, held, roots, first, second, 512, 512)
-    left = b"".join(part.ljust(size, FILL) for part, size in [(roots, 128), (record, 400), (tail, 64), (b"", 520), (b"", 520)])
+    number, level = first_no(records.check_query(base, widths, n, k, position, held, roots, record))
+    number_of_tail, _ = first_no(records.check_tail(base, widths, n, k, claim, made.roots[n], tail))
+    (compared, one, two), _ = compare(base, widths, n, k, position, held, roots, first, second, MESSAGE_BUFFER, MESSAGE_BUFFER)
+    left = b"".join(part.ljust(size, FILL) for part, size in zip((roots, record, tail, b"", b""), RUN_ROOMS))
     done = b"".join(x.to_bytes(8, "little") for x in (len(made.challenges), level, one, two))
     return [0, number, number_of_tail, compared], [held, left, done]
 

@@ -11,7 +11,7 @@ import records
 from cases_field import text
 from damages import Damage, change, of_lengths, of_numbers, other_byte
 from lines import Store, hex_words
-from model import leaf_message, node_message, some_words, word_bytes
+from model import PRESENT, WIDE, leaf_message, node_message, some_words, word_bytes
 from records import Deposit, LastLevel, OpenedDeposit, Reader, first_no, query, query_bytes, tail_bytes, words_bytes
 
 # ---- what an entry is given
@@ -22,6 +22,7 @@ class Check:
     """The items of a record, the edit of its bytes, and the scheme; a kind of record adds what its check is lent besides, by how it stands in a line."""
 
     base: bytes
+    widths: int
     n: int
     k: int
     items: list
@@ -36,11 +37,11 @@ class Check:
 
     def line(self, store):
         lent = (stands(store, getattr(self, field)) for field, stands in self.lent.items())
-        return " ".join(map(str, [store.named(self.base), self.n, self.k, *lent, store.named(self.record())]))
+        return " ".join(map(str, [store.named(self.base), self.widths, self.n, self.k, *lent, store.named(self.record())]))
 
     def answer(self):
         lent = {field: getattr(self, field) for field in self.lent}
-        return first_no(self.questions(self.base, self.n, self.k, record=self.record(), **lent))
+        return first_no(self.questions(self.base, self.widths, self.n, self.k, record=self.record(), **lent))
 
 
 def number(store, value):
@@ -71,6 +72,7 @@ class Build:
     """The words and trees that are lent, and how long the record's buffer is."""
 
     kind: str
+    widths: int
     n: int
     k: int
     position: int
@@ -83,19 +85,20 @@ class Build:
         return "build_" + self.kind
 
     def line(self, store):
-        numbers = [self.n, self.k] + ([self.position] if self.kind == "query" else [])
+        numbers = [self.widths, self.n, self.k] + ([self.position] if self.kind == "query" else [])
         return " ".join(map(str, [*numbers, store.words(self.words), store.named(self.trees), len(self.out)]))
 
     def answer(self):
         lengths = len(self.words), len(self.trees), len(self.out)
         if self.kind == "query":
-            return first_no(records.build_query(self.n, self.k, self.position, *lengths))
-        return first_no(records.build_tail(self.n, self.k, *lengths))
+            return first_no(records.build_query(self.widths, self.n, self.k, self.position, *lengths))
+        return first_no(records.build_tail(self.widths, self.n, self.k, *lengths))
 
 
 @dataclasses.dataclass
 class Compare:
     base: bytes
+    widths: int
     n: int
     k: int
     position: int
@@ -103,46 +106,48 @@ class Compare:
     roots: bytes
     first: bytes
     second: bytes
-    first_message: bytes = bytes(512)
-    second_message: bytes = bytes(512)
+    first_message: bytes = bytes(answers.MESSAGE_BUFFER)
+    second_message: bytes = bytes(answers.MESSAGE_BUFFER)
 
     kind, name = "query", "compare"
 
     def line(self, store):
-        numbers = [store.named(self.base), self.n, self.k, self.position, store.words(self.challenges), store.named(self.roots)]
+        numbers = [store.named(self.base), self.widths, self.n, self.k, self.position, store.words(self.challenges), store.named(self.roots)]
         rest = [store.named(self.first), store.named(self.second), len(self.first_message), len(self.second_message)]
         return " ".join(map(str, numbers + rest))
 
     def answer(self):
-        given = self.base, self.n, self.k, self.position, self.challenges, self.roots, self.first, self.second
+        given = self.base, self.widths, self.n, self.k, self.position, self.challenges, self.roots, self.first, self.second
         return answers.compare(*given, len(self.first_message), len(self.second_message))[0][0], 0
 
 
 def check_query(deposit, position):
     roots = b"".join(deposit.roots)
-    return CheckQuery(deposit.base, deposit.n, deposit.k, query(deposit, position), position, words_bytes(deposit.challenges), roots)
+    lent = position, words_bytes(deposit.challenges), roots
+    return CheckQuery(deposit.base, deposit.widths, deposit.n, deposit.k, query(deposit, position), *lent)
 
 
 def check_tail(deposit):
     claim = word_bytes(deposit.levels[-1][0])
-    return CheckTail(deposit.base, deposit.n, deposit.k, deposit.tail(), deposit.roots[-1], claim)
+    return CheckTail(deposit.base, deposit.widths, deposit.n, deposit.k, deposit.tail(), deposit.roots[-1], claim)
 
 
 def build_query(deposit, position):
     size = len(query_bytes(query(deposit, position)))
     words, trees = b"".join(map(words_bytes, deposit.levels)), b"".join(map(b"".join, deposit.trees))
-    return Build("query", deposit.n, deposit.k, position, words, trees, bytes(size))
+    return Build("query", deposit.widths, deposit.n, deposit.k, position, words, trees, bytes(size))
 
 
 def build_tail(deposit):
     size = len(tail_bytes(deposit.tail()))
-    return Build("tail", deposit.n, deposit.k, 0, words_bytes(deposit.levels[-1]), b"".join(deposit.trees[-1]), bytes(size))
+    return Build("tail", deposit.widths, deposit.n, deposit.k, 0, words_bytes(deposit.levels[-1]), b"".join(deposit.trees[-1]), bytes(size))
 
 
 def compare(deposit, position):
     """A deposit's query record with itself."""
     record = query_bytes(query(deposit, position))
-    return Compare(deposit.base, deposit.n, deposit.k, position, words_bytes(deposit.challenges), b"".join(deposit.roots), record, record)
+    lent = position, words_bytes(deposit.challenges), b"".join(deposit.roots)
+    return Compare(deposit.base, deposit.widths, deposit.n, deposit.k, *lent, record, record)
 
 
 # ---- cases: a remark, an operation, and what it is given
@@ -191,7 +196,7 @@ def accepted():
         (3, 2, b"a", [21]),
         (5, 2, b"", [0, 77, 127]),
     ]:
-        deposit = Deposit(n, k, base)
+        deposit = Deposit(PRESENT, n, k, base)
         title = "n %d k %d, a domain of %d bytes" % (n, k, len(base))
         for position in positions:
             yield right(title, check_query(deposit, position))
@@ -199,13 +204,13 @@ def accepted():
         yield right(title, check_tail(deposit))
         yield right(title, build_tail(deposit))
     for n, k, base, position in [(20, 4, b"deposit", (1 << 24) - 1), (12, 3, b"a" * 200, 12345)]:
-        yield right("n %d k %d" % (n, k), check_query(OpenedDeposit(n, k, base, position), position))
-    last = LastLevel(20, 4, b"deposit")
+        yield right("n %d k %d" % (n, k), check_query(OpenedDeposit(PRESENT, n, k, base, position), position))
+    last = LastLevel(PRESENT, 20, 4, b"deposit")
     yield from (right("n 20 k 4: the last level", given) for given in (check_tail(last), build_tail(last)))
 
 
 def query_cases():
-    given, levels = check_query(Deposit(3, 2, b"a"), 21), range(3)
+    given, levels = check_query(Deposit(PRESENT, 3, 2, b"a"), 21), range(3)
     yield from alone_and_in_pairs("query", given, damages.heads_of_query(3, 2) + [x for l in levels for x in damages.of_level(l)])
     for ways in [
         *(damages.of_level_otherwise(given, l) for l in levels),
@@ -219,14 +224,14 @@ def query_cases():
     # both positions of the pair are right; another pair of its group is not, and another group is not
     for position, number in [(20, 0), (22, 19), (17, 19), (5, 18), (29, 18)]:
         yield right("query, position %d for 21" % position, dataclasses.replace(given, position=position), number)
-    smallest, small = check_query(Deposit(1, 1, b"a"), 3), check_query(Deposit(2, 2, NOT_TEXT), 9)
+    smallest, small = check_query(Deposit(PRESENT, 1, 1, b"a"), 3), check_query(Deposit(PRESENT, 2, 2, NOT_TEXT), 9)
     yield "every other value of every byte", "damaged_query 1", smallest
     yield "every byte changed by 1, 128 and 255", "damaged_query 127", small
     yield "every proper prefix", "prefixes_query", small
 
 
 def tail_cases():
-    given, groups = check_tail(Deposit(1, 3, b"a")), (0, 2, 3)
+    given, groups = check_tail(Deposit(PRESENT, 1, 3, b"a")), (0, 2, 3)
     yield from alone_and_in_pairs("tail", given, damages.heads_of_tail() + [x for g in groups for x in damages.of_group(g)] + damages.of_claim())
     for ways in [
         damages.of_tail_otherwise(groups),
@@ -236,13 +241,13 @@ def tail_cases():
         damages.of_counts(given, Reader.group),
     ]:
         yield from alone("tail", given, ways)
-    yield "every other value of every byte", "damaged_tail 1", check_tail(Deposit(1, 1, b"a"))
+    yield "every other value of every byte", "damaged_tail 1", check_tail(Deposit(PRESENT, 1, 1, b"a"))
     yield "every byte changed by 1, 128 and 255", "damaged_tail 127", given
     yield "every proper prefix", "prefixes_tail", given
 
 
 def build_cases():
-    given_query, given_tail = build_query(Deposit(2, 2, NOT_TEXT), 9), build_tail(Deposit(1, 3, b"a"))
+    given_query, given_tail = build_query(Deposit(PRESENT, 2, 2, NOT_TEXT), 9), build_tail(Deposit(PRESENT, 1, 3, b"a"))
     for title, given in [("build query", given_query), ("build tail", given_tail)]:
         yield from alone_and_in_pairs(title, given, damages.heads_of_build(given.kind, given.n, given.k))
         yield from alone(title, given, damages.of_numbers(given))
@@ -284,17 +289,17 @@ def of_records(given):
 
 def compared():
     for n, k, base, positions in [(1, 0, b"", [0, 1]), (1, 4, b"deposit", [17]), (2, 1, b"a" * 200, [0, 7]), (3, 2, NOT_TEXT, [21]), (5, 2, b"", [77])]:
-        deposit = Deposit(n, k, base)
+        deposit = Deposit(PRESENT, n, k, base)
         for position in positions:
             yield right("a record with itself, n %d k %d" % (n, k), compare(deposit, position), 33)
-    yield right("n 12 k 3", compare(OpenedDeposit(12, 3, b"a" * 200, 12345), 12345), 33)
-    given = compare(Deposit(3, 2, b"a"), 21)
+    yield right("n 12 k 3", compare(OpenedDeposit(PRESENT, 12, 3, b"a" * 200, 12345), 12345), 33)
+    given = compare(Deposit(PRESENT, 3, 2, b"a"), 21)
     yield from alone_and_in_pairs("compare", given, heads_of_compare(3, 2))
     lengths = [("challenges", 16), ("roots", 32), ("first_message", 1), ("second_message", 1)]
     for ways in [of_numbers(given), of_lengths(lengths), of_records(given)]:
         yield from alone("compare", given, ways)
     position = (1 << 24) - 1
-    yield right("n 20 k 4", compare(OpenedDeposit(20, 4, b"deposit", position), position), 33)
+    yield right("n 20 k 4", compare(OpenedDeposit(PRESENT, 20, 4, b"deposit", position), position), 33)
 
 
 # ---- chains of messages under a stand-in digest: two accepted records that differ would be a collision of BLAKE3
@@ -328,7 +333,7 @@ def tries(width, depth):
 
 def walks(store):
     """For each set of places at which two chains with one root can differ, two such chains."""
-    for domain, count, width, place, depth in [(b"", 1, 1, 0, 0), (b"a", 8, 1, 5, 3), (b"d" * 209, 64, 8, 37, 3)]:
+    for domain, count, width, place, depth in [(b"", 1, 1, 0, 0), (b"a", 8, 1, 5, 3), (b"d" * 209, 64, 8, 37, 3), (b"d" * 209, 64, 32, 37, 1)]:
         openings = [chain(domain, count, width, place, *opening) for opening in tries(width, depth)]
         first, seen = openings[0], set()
         for second in openings:
@@ -342,7 +347,7 @@ def walks(store):
             yield "# chains that differ at %s of %d" % (", ".join(map(str, places)) or "no place", depth + 1)
             lent = store.named(b"".join(first)), store.named(b"".join(second))
             yield from kept(store)
-            yield "walk %d %d %d %s %s 512 512" % (*sizes, *lent)
+            yield "walk %d %d %d %s %s %d %d" % (*sizes, *lent, answers.MESSAGE_BUFFER, answers.MESSAGE_BUFFER)
         assert len(seen) == 2 ** (depth + 1), sorted(seen)
 
 
@@ -395,35 +400,38 @@ LENT = ["gammas", "levels", "half", "trees", "roots", "query record", "tail reco
 
 @dataclasses.dataclass
 class WholeRun:
-    """The table 5, 9, 3, 7 committed with k 1 under the domain `deposit`, calls of n, k, variable, room and challenge, and two records to compare."""
+    """A table, at first 5, 9, 3, 7, committed with k 1 under the domain `deposit`, calls of n, k, variable, room and challenge, and two records to compare."""
 
     calls: list
     position: int = 5
     claim: int = 0
     first: bytes = b""
     second: bytes = b""
+    widths: int = PRESENT
     n: int = 2
     k: int = 1
     base: str = b"deposit".hex()
     table: str = "5,9,3,7"
     numbers: typing.Optional[list] = None
     challenges: typing.Optional[list] = None
-    lengths: tuple = (4, 28, 8, 352, 96, 388, 44, 512, 512)
+    lengths: tuple = (4, 28, 8, 352, 96, 388, 44, 1024, 1024)
     kept: int = 4
 
     def line(self, store):
         numbers = [x for call in self.calls for x in call[:4]] if self.numbers is None else self.numbers
         challenges = [call[4] for call in self.calls] if self.challenges is None else self.challenges
         sizes = ",".join(map(str, self.lengths))
-        lent = self.n, self.k, self.position, self.base, self.table, ",".join(map(str, numbers)) or "-", hex_words(challenges) or "-", "%x" % self.claim
-        return "run %s %s %s %s %d 1632 32" % (" ".join(map(str, lent)), store.named(self.first), store.named(self.second), sizes, self.kept)
+        scheme = self.widths, self.n, self.k, self.position, self.base
+        lent = *scheme, self.table, ",".join(map(str, numbers)) or "-", hex_words(challenges) or "-", "%x" % self.claim
+        given = " ".join(map(str, lent)), store.named(self.first), store.named(self.second), sizes, self.kept, sum(answers.RUN_ROOMS)
+        return "run %s %s %s %s %d %d 32" % given
 
 
 def run_cases():
     from model import extension
 
     table, folds = [5, 9, 3, 7], [(2, 1, 0, 8, 2), (1, 1, 0, 4, 4)]
-    made = answers.Run(2, 1, b"deposit", table, folds)
+    made = answers.Run(PRESENT, 2, 1, b"deposit", table, folds)
     records_at = [query_bytes(query(made, position)) for position in range(8)]
     claim = extension(table, [2, 4])
     right = WholeRun(folds, 5, claim, records_at[5], records_at[5])
@@ -462,9 +470,39 @@ def run_cases():
         yield "%d before %d" % (number, later), replace(right, **one, **two)
 
 
+# the lengths of what a run of n 4 and k 2 is lent under either set: its level 0 has one wide group of the wide set for four of the present one
+LENGTHS = {
+    PRESENT: (16, 248, 64, 1120, 160, 1444, 148, 1024, 1024),
+    WIDE: (16, 248, 64, 1888, 160, 1636, 148, 1024, 1024),
+}
+
+
+def wide_run_cases():
+    """One table under both sets: each has its own roots and records, and takes no length and no record of the other."""
+    from model import extension
+
+    table, challenges = some_words("table of a run", 16), some_words("challenges of a run", 4)
+    folds = [(4 - l, 2, 0, 64 >> l, r) for l, r in enumerate(challenges)]
+    given = dict(n=4, k=2, table=hex_words(table), kept=8, claim=extension(table, challenges), position=37)
+    made = {widths: answers.Run(widths, 4, 2, b"deposit", table, folds) for widths in LENGTHS}
+    shown = {widths: query_bytes(query(run, 37)) for widths, run in made.items()}
+    runs = {widths: WholeRun(folds, first=x, second=x, widths=widths, lengths=LENGTHS[widths], **given) for widths, x in shown.items()}
+    assert made[PRESENT].roots[0] != made[WIDE].roots[0] and made[PRESENT].roots[4] == made[WIDE].roots[4]
+    for widths, other in ((PRESENT, WIDE), (WIDE, PRESENT)):
+        title = "n 4 k 2 under set %d" % widths
+        yield title, runs[widths]
+        yield title + ", a record of the other set", dataclasses.replace(runs[widths], second=shown[other])
+        yield title + ", lengths of the other set", dataclasses.replace(runs[widths], lengths=LENGTHS[other])
+    wide = runs[WIDE]
+    yield "another claim under the wide set", dataclasses.replace(wide, claim=wide.claim ^ 1)
+    yield "three calls under the wide set", dataclasses.replace(wide, calls=folds[:3])
+    yield "a fold at variable 1 under the wide set", dataclasses.replace(wide, calls=[(4, 2, 1, 64, challenges[0]), *folds[1:]])
+    yield "a position past the end under the wide set", dataclasses.replace(wide, position=64)
+
+
 def run_lines():
     store = Store()
-    for remark, case in run_cases():
+    for remark, case in itertools.chain(run_cases(), wide_run_cases()):
         line = case.line(store)
         yield from kept(store)
         yield "# " + remark
@@ -472,7 +510,7 @@ def run_lines():
 
 
 def level_lines():
-    yield from ("fold_tree_width %d" % length for length in (1, 2, 8, 16))
+    yield from ("fold_tree_width %d %d" % (PRESENT, length) for length in (1, 2, 8, 16))
     yield from ("level_domain 61 %d %d" % (level, 8 + len(str(level))) for level in (0, 9, 10, 20))
     yield from ("profile %d 24" % which for which in range(5))
     yield "# named or not, older than the change of the default or not"
@@ -482,15 +520,15 @@ def level_lines():
 
 def commit_lines():
     """4, 5 and 7, alone and in pairs."""
-    right_sizes = [1, 1, "61", "5,9", 2, 8, 96]
-    wrong = [(0, 21), (1, 5), (3, "5"), (4, 3), (5, 7), (6, 95), (2, "61x201")]
-    yield "commit 1 1 61 5,9 2 8 96"
-    yield from ["commit 2 1 61x200 5,9,3,7 4 16 224", "commit 0 0 - 5 0 2 32"]
+    right_sizes = [PRESENT, 1, 1, "61", "5,9", 2, 8, 96]
+    wrong = [(1, 21), (2, 5), (4, "5"), (5, 3), (6, 7), (7, 95), (3, "61x201")]
+    yield "commit 0 1 1 61 5,9 2 8 96"
+    yield from ["commit 0 2 1 61x200 5,9,3,7 4 16 224", "commit 0 0 0 - 5 0 2 32"]
     for (i, x), (j, y) in itertools.combinations_with_replacement(wrong, 2):
         given = list(right_sizes)
         given[i], given[j] = x, y
         yield "commit " + " ".join(map(str, given))
-    yield from ["# n and k at their largest", "commit 20 4 61 5,9 2 8 96"]
+    yield from ["# n and k at their largest", "commit 0 20 4 61 5,9 2 8 96"]
 
 
 def in_pairs(name, right, wrong):
@@ -510,15 +548,16 @@ def all_levels_lines():
     yield from ["domain_into 61x200 20 209", "domain_into 61x201 20 210", "domain_into 61x201 21 210", "domain_into - 0 8"]
     for l, words, size in ((0, 8, 224), (1, 4, 96), (2, 2, 32)):
         values = ",".join(str(3 * i + 1) for i in range(words))
-        yield from in_pairs("level_tree", [2, 1, l, "61", values, size], [(0, 0), (0, 21), (1, 5), (2, 3), (4, "5"), (5, size - 1), (5, size + 1), (3, "61x201")])
-    yield "level_tree 4 4 0 61x200 7x256 %d" % (32 * 63)
+        wrong = [(1, 0), (1, 21), (2, 5), (3, 3), (5, "5"), (6, size - 1), (6, size + 1), (4, "61x201")]
+        yield from in_pairs("level_tree", [PRESENT, 2, 1, l, "61", values, size], wrong)
+    yield "level_tree 0 4 4 0 61x200 7x256 %d" % (32 * 63)
     yield from in_pairs(
         "fold_levels",
-        [2, 1, "61", "2,4", "5,9,3,7,33,45,1,2", 28, 8, 352, 96],
-        [(0, 0), (0, 21), (1, 5), (3, "2"), (3, "2,4,6"), (5, 27), (6, 7), (6, 9), (7, 351), (8, 95), (2, "61x201")],
+        [PRESENT, 2, 1, "61", "2,4", "5,9,3,7,33,45,1,2", 28, 8, 352, 96],
+        [(1, 0), (1, 21), (2, 5), (4, "2"), (4, "2,4,6"), (6, 27), (7, 7), (7, 9), (8, 351), (9, 95), (3, "61x201")],
     )
-    yield from ["fold_levels 1 0 - 2 5,9 6 2 64 64", "fold_levels 1 1 61x200 2 5,9,33,45 12 4 128 64"]
-    yield "fold_levels 5 2 61 1,2,3,4,5 9x128 %d 128 %d 192" % (2 * (128 + 64 + 32 + 16 + 8 + 4), 32 * (31 + 15 + 7 + 3 + 7 + 3))
+    yield from ["fold_levels 0 1 0 - 2 5,9 6 2 64 64", "fold_levels 0 1 1 61x200 2 5,9,33,45 12 4 128 64"]
+    yield "fold_levels 0 5 2 61 1,2,3,4,5 9x128 %d 128 %d 192" % (2 * (128 + 64 + 32 + 16 + 8 + 4), 32 * (31 + 15 + 7 + 3 + 7 + 3))
 
 
 def level_part_lines():
@@ -526,20 +565,20 @@ def level_part_lines():
     values, past = ",".join(str(3 * i + 1) for i in range(8)), (1 << 64) - 1
     for first, count in [(0, 1), (1, 2), (3, 1), (0, 4), (4, 0)]:
         yield "next_part 2 1 0 9 %d %s %d" % (first, values, 2 * count)
-        yield "level_leaves 2 1 0 61 %d %s %d" % (first, values, 32 * count)
+        yield "level_leaves 0 2 1 0 61 %d %s %d" % (first, values, 32 * count)
         yield "level_parents 2 1 0 61 %d ~b1x%d %d" % (first, 64 * count, 32 * count)
     yield from in_pairs("next_part", [2, 1, 1, 9, 1, "5,9,3,7", 2], [(2, 2), (6, 3), (4, past)])
     yield from ["next_part 0 1 0 9 0 5,9 0", "next_part 2 5 1 9 1 5,9,3,7 2", "next_part 2 1 1 9 1 5,9,3 2", "next_part 2 1 1 9 1 5,9,3,7 4"]
-    yield from in_pairs("level_leaves", [3, 1, 3, "61x200", 0, "5,9", 32], [(2, 4), (6, 33), (3, "61x201"), (4, past)])
-    yield from ["level_leaves 21 1 3 61 0 5,9 32", "level_leaves 3 5 3 61 0 5,9 32", "level_leaves 3 1 3 61 0 5,9,3 32", "level_leaves 3 1 3 61 1 5,9 32"]
+    yield from in_pairs("level_leaves", [PRESENT, 3, 1, 3, "61x200", 0, "5,9", 32], [(3, 4), (7, 33), (4, "61x201"), (5, past)])
+    yield from ("level_leaves 0 " + given for given in ("21 1 3 61 0 5,9 32", "3 5 3 61 0 5,9 32", "3 1 3 61 0 5,9,3 32", "3 1 3 61 1 5,9 32"))
     yield from in_pairs("level_parents", [1, 1, 1, "61x200", 0, "~b1x128", 64], [(2, 2), (6, 63), (3, "61x201")])
     yield from ["level_parents 0 1 0 61 0 ~b1x64 32", "level_parents 1 5 1 61 0 ~b1x64 32", "level_parents 1 1 1 61 0 ~b1x96 48"]
 
 
 def difference_lines():
-    yield from ["# 6: base domains of 81 and 200 bytes", "commit 2 0 64x81 0x4 0 8 32", "commit 2 0 64x200 0x4 0 8 32"]
-    yield from ["# 8: n = 0", "build_query 0 0 0 5 00x32 4", "check_query - 0 0 0 - 00x32 00x4"]
-    yield from ["build_tail 0 0 5 00x32 28", "check_tail - 0 0 00x32 5 00x4"]
+    yield from ["# 6: base domains of 81 and 200 bytes", "commit 0 2 0 64x81 0x4 0 8 32", "commit 0 2 0 64x200 0x4 0 8 32"]
+    yield from ["# 8: n = 0", "build_query 0 0 0 0 5 00x32 4", "check_query - 0 0 0 0 - 00x32 00x4"]
+    yield from ["build_tail 0 0 0 5 00x32 28", "check_tail - 0 0 0 00x32 5 00x4"]
     yield from ["# 9: the Rust's default, and ours", "profile 0 24", "seal_parameters 5 0 24", "writer_parameters 5 24"]
 
 
@@ -551,14 +590,17 @@ def kept(store):
     return new
 
 
+def case_line(store, remark, name, given):
+    line = " ".join([name, given.line(store)])
+    yield from kept(store)
+    yield "# " + remark
+    yield line
+
+
 def case_lines(cases):
     store = Store()
-    for remark, name, given in cases:
-        operation, *numbers = name.split()
-        line = " ".join([operation, *numbers, given.line(store)])
-        yield from kept(store)
-        yield "# " + remark
-        yield line
+    for case in cases:
+        yield from case_line(store, *case)
 
 
 def files():

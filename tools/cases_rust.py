@@ -1,7 +1,7 @@
 """Lines of the fixed list: the published Rust answers them (oracle/README.md), and the programs replay them without it. Inputs are drawn from a
-case's number, as 16 times it and the input's own number from 0 to 15."""
+case's number, as 16 times it and the input's own number from 0 to 15. The Rust has the present set of widths."""
 from lines import drawn, drawn_word
-from model import fold_tree_width
+from model import PRESENT, fold_tree_width
 
 RUST = "# Answers: the published Rust (oracle/README.md).\n"
 GOLDEN = 0x9E3779B97F4A7C15
@@ -150,30 +150,30 @@ def trees():
 
 
 def tree_bytes(count):
-    return 32 * (2 * (count // fold_tree_width(count)) - 1)
+    return 32 * (2 * (count // fold_tree_width(PRESENT, count)) - 1)
 
 
 def opening_bytes(count):
-    width = fold_tree_width(count)
+    width = fold_tree_width(PRESENT, count)
     return 8 + 16 * width + 32 * ((count // width).bit_length() - 1)
 
 
 def levels():
-    yield from ("fold_tree_width %d" % length for length in [*range(41), 64, 1024, 65536])
+    yield from ("fold_tree_width %d %d" % (PRESENT, length) for length in [*range(41), 64, 1024, 65536])
     for case, (length, level) in enumerate((length, level) for length in (0, 1, 20, 200) for level in range(21)):
         yield "level_domain %s %d %d" % (chars(case, 0, length), level, length + 7 + len(str(level)))
     yield from ("profile %d 24" % which for which in range(5))
     domains = [0, 1, 20, 63, 64, 80]
     for case, (n, k) in enumerate(sizes(6, 8)):
         given = n, k, chars(case, 0, domains[case % 6]), words(case, 1, 1 << n), 2 * n * k, 2 << n + k, tree_bytes(1 << n + k)
-        yield "commit %d %d %s %s %d %d %d" % given
+        yield "commit 0 %d %d %s %s %d %d %d" % given
     cases = [(n, k, p) for n, k in sizes(6, 8) if n for last in [(1 << n + k) - 1] for p in (0, last // 3, last)]
     for case, (n, k, position) in enumerate(cases):
         counts = [1 << n + k - l for l in range(n + 1)]
         opened = [opening_bytes(count) for count in counts]
         size = 4 + sum(48 + a + c for a, c in zip(opened, opened[1:]))
         given = n, k, position, words(case, 0, sum(counts)), some_bytes(case, 1, sum(map(tree_bytes, counts))), size
-        yield "build_query %d %d %d %s %s %d" % given
+        yield "build_query 0 %d %d %d %s %s %d" % given
 
 
 def field_files():

@@ -72,12 +72,12 @@ def codeword(base, n, k, table):
     return [word.to_bytes(16, "little") for word in words]
 
 
-def root_of(base, k, data):
+def root_of(base, widths, k, data):
     """n and the root of level 0 of these bytes as a file (SPECIFICATION 15.1, 5.4)."""
     n = max(1, ((len(data) + 15) // 16).bit_length())
     table = [int.from_bytes(data[at : at + 16], "little") for at in range(0, 2 ** n * 16, 16)]
     table[-1] = len(data)
-    level, words = Level(base, n, k, 0), codeword(base, n, k, table)
+    level, words = Level(base, widths, n, k, 0), codeword(base, n, k, table)
     groups = [words[at : at + level.width] for at in range(0, level.count, level.width)]
     fresh = digest.__wrapped__
     digests = [fresh(leaf_message(level.domain, level.count, level.width, g, values)) for g, values in enumerate(groups)]
@@ -118,10 +118,10 @@ def manifest(text):
 
 def check_file(asked):
     """Prints the answer for the manifest, and then those for the records. Whether all are yes."""
-    base, n, k, root = read_seal(Path(asked.seal), asked.older)
+    base, widths, n, k, root = read_seal(Path(asked.seal), asked.older)
     shown = Path(asked.OPENING) / "manifest.txt"
     text = content(shown, PART) if shown.is_file() else b""
-    files = manifest(text) if len(text) <= PART and root_of(base, k, text) == (n, root) else None
+    files = manifest(text) if len(text) <= PART and root_of(base, widths, k, text) == (n, root) else None
     if files is None:
         print("manifest: no: what the opening shows is not the project's manifest")
         return False
@@ -132,7 +132,7 @@ def check_file(asked):
     index = asked.offset[0] // PART
     in_part = min(PART, size - PART * index)
     asked.at = sorted({offset % PART // 16 for offset in asked.offset})
-    return check_opening(asked, base, max(1, ((in_part + 15) // 16).bit_length()), k, roots[index])
+    return check_opening(asked, base, widths, max(1, ((in_part + 15) // 16).bit_length()), k, roots[index])
 
 
 def main():

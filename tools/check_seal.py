@@ -5,7 +5,7 @@
     tools/check_seal.py --try
 
 Challenges, positions and --roots, roots that were kept, are the checker's own; --claim is a value that is expected. --older says that a seal which names
-neither k nor a base domain was made before version 0.4.0 (SPECIFICATION 6.10). A line for each position and one for
+neither k nor a base domain was made before version 0.4.0 (SPECIFICATION 6.10). The set of widths is the seal's, the present one where it names none. A line for each position and one for
 the tail: `yes`, or `no` with the number of the first question that was answered with no (SPECIFICATION 8.2), its level where it has one, and the question.
 The last line is the verdict on all of it. --try tries this file on the values of SPECIFICATION 12. Exit status: 0 yes, 1 no, 2 nothing could be checked.
 """
@@ -148,12 +148,17 @@ def node_message(domain, level, left, right):
     return u64(5) + b"".join(map(part, (b"magnetar/node/v1", domain, u64(level), left, right)))
 
 
+# 6.7. The sets of widths: from which length on, and how wide.
+WIDTHS = {"present": (16, 8), "wide": (64, 32)}
+
+
 class Level:
     """Level l of a deposit and the shape of its tree (SPECIFICATION 6.7)."""
 
-    def __init__(self, base, n, k, l):
+    def __init__(self, base, widths, n, k, l):
         self.count = 2 ** (n + k - l)
-        self.width = 8 if self.count >= 16 else 2 if self.count >= 2 else 1
+        threshold, width = WIDTHS[widths]
+        self.width = width if self.count >= threshold else 2 if self.count >= 2 else 1
         self.groups = self.count // self.width
         self.depth = self.groups.bit_length() - 1
         self.domain = base + b"/level/" + str(l).encode()
@@ -208,9 +213,9 @@ class Reader:
         return self.whole(lambda: (self.run(16), self.run(32)))
 
 
-def record_bytes(n, k):
+def record_bytes(widths, n, k):
     """SPECIFICATION 7.6: the sizes of a query record and of a tail record."""
-    levels = [Level(b"", n, k, l) for l in range(n + 1)]
+    levels = [Level(b"", widths, n, k, l) for l in range(n + 1)]
     opened = [8 + 16 * level.width + 32 * level.depth for level in levels]
     return 4 + sum(48 + opened[l] + opened[l + 1] for l in range(n)), 4 + levels[n].groups * opened[n]
 
@@ -218,7 +223,7 @@ def record_bytes(n, k):
 # 8. Questions.
 
 
-def check_query(base, n, k, position, challenges, roots, record):
+def check_query(base, widths, n, k, position, challenges, roots, record):
     """SPECIFICATION 8.6."""
     ask(4, 1 <= n <= 20 and k <= 4)
     ask(5, len(challenges) == n and len(roots) == n + 1)
@@ -228,7 +233,7 @@ def check_query(base, n, k, position, challenges, roots, record):
     ask(15, len(levels) == n)
     for l, (a, b, c, a_group, c_group, a_path, c_path) in enumerate(levels):
         q = position // 2 ** (l + 1)
-        this, following = Level(base, n, k, l), Level(base, n, k, l + 1)
+        this, following = Level(base, widths, n, k, l), Level(base, widths, n, k, l + 1)
         w, w_next = this.width, following.width
         ask(16, len(a_group) == w, l)
         ask(17, len(a_path) == this.depth, l)
@@ -243,13 +248,13 @@ def check_query(base, n, k, position, challenges, roots, record):
         ask(26, folded(a, b, challenges[l]) == c, l)
 
 
-def check_tail(base, n, k, root, claim, record):
+def check_tail(base, widths, n, k, root, claim, record):
     """SPECIFICATION 8.7."""
     ask(4, 1 <= n <= 20 and k <= 4)
     ask(5, len(root) == 32)
     ask(7, len(base) <= 200)
     groups = Reader(record).tail()
-    last = Level(base, n, k, n)
+    last = Level(base, widths, n, k, n)
     ask(27, len(groups) == last.groups)
     for g, (values, path) in enumerate(groups):
         ask(28, len(values) == last.width)
@@ -298,14 +303,20 @@ def digests(path):
 
 
 def parameters(path, older):
-    """n, k and the base domain, a line each; where the line n is alone, the other two are those of SPECIFICATION 6.10."""
-    found = re.fullmatch(r"n (0|[1-9][0-9]?)(?:\nk ([0-9])\n(?:domain ([!-~]+)|domain-hex ?((?:[0-9a-f]{2})*)))?", "\n".join(lines(path)))
+    """The base domain, the set of widths, n and k. Where n is named without k and the base domain, these two are those of SPECIFICATION 6.10; a set that is
+    not named is the present one (15.3)."""
+    form = r"n (0|[1-9][0-9]?)(?:\nk ([0-9])\n(?:domain ([!-~]+)|domain-hex ?((?:[0-9a-f]{2})*)))?(?:\nwidths (.+))?"
+    found = re.fullmatch(form, "\n".join(lines(path)))
     if not found:
-        raise CannotCheck(f"{path} does not have its three lines n, k and domain, nor the line n alone")
-    n, k, text, digits = found.groups()
-    if k is None:
-        return int(n), FIRST_DEFAULT_K if older else DEFAULT_K, DEFAULT_DOMAIN
-    return int(n), int(k), text.encode() if text else bytes.fromhex(digits)
+        raise CannotCheck(f"{path} does not have its lines n, k, domain and widths, nor those without k and domain")
+    n, k, text, digits, widths = found.groups("")
+    if widths and widths not in WIDTHS:
+        raise CannotCheck(f"{path} names the set of widths `{widths}`, and this file knows `present` and `wide` alone")
+    if not k:
+        base, k = DEFAULT_DOMAIN, FIRST_DEFAULT_K if older else DEFAULT_K
+    else:
+        base = text.encode() if text else bytes.fromhex(digits)
+    return base, widths or "present", int(n), int(k)
 
 
 def answered(name, check, *given):
@@ -320,18 +331,18 @@ def answered(name, check, *given):
 
 
 def read_seal(folder, older):
-    """The base domain, n, k and the root, of a seal that is said to be older or not. One whose check lines are not its files' is damaged (SPECIFICATION 15.5)."""
+    """The base domain, the set of widths, n, k and the root, of a seal that is said to be older or not. One whose check lines are not its files' is damaged
+    (SPECIFICATION 15.5)."""
     check = folder / "check.txt"
     then = {line[66:]: line[:64] for line in written(check)} if check.exists() else None
     for name in ("parameters.txt", "root.txt"):
         text = "".join(line + "\n" for line in written(folder / name))
         if then is not None and digest((text.lower() if name == "root.txt" else text).encode()).hex() != then.get(name):
             raise CannotCheck(f"the seal is damaged: {name} and its line in check.txt do not agree")
-    n, k, base = parameters(folder / "parameters.txt", older)
-    return base, n, k, digests(folder / "root.txt")[0]
+    return parameters(folder / "parameters.txt", older) + (digests(folder / "root.txt")[0],)
 
 
-def check_opening(asked, base, n, k, root):
+def check_opening(asked, base, widths, n, k, root):
     """Prints an answer for each position and one for the tail. Whether all are yes. Level 0's root is the office's, whatever the opening says."""
     opening = Path(asked.OPENING)
     challenges = [word(asked.challenges, line) for line in lines(asked.challenges)]
@@ -344,7 +355,7 @@ def check_opening(asked, base, n, k, root):
         raise CannotCheck(no)
     roots[:1] = [root]
     claim = word("the claim", asked.claim or "".join(lines(opening / "claim.txt")))
-    query_bytes, tail_bytes = record_bytes(n, k)
+    query_bytes, tail_bytes = record_bytes(widths, n, k)
     tail = content(opening / "tail.record", tail_bytes)
     meant = [re.fullmatch(r"query-\+?0*([0-9]+)\.record", path.name) for path in opening.iterdir()]
     files = collections.Counter(int(found.group(1)) for found in meant if found)
@@ -356,11 +367,11 @@ def check_opening(asked, base, n, k, root):
         path = opening / f"query-{position}.record"
         if path.exists():
             record = content(path, query_bytes)
-            yes &= answered(f"position {position}", check_query, base, n, k, position, challenges, roots, record)
+            yes &= answered(f"position {position}", check_query, base, widths, n, k, position, challenges, roots, record)
         else:
             print(f"position {position}: no: the opening has no record at this position")
             yes = False
-    return answered("tail", check_tail, base, n, k, b"".join(roots[n : n + 1]), claim, tail) and yes
+    return answered("tail", check_tail, base, widths, n, k, b"".join(roots[n : n + 1]), claim, tail) and yes
 
 
 # 12. Values on which this file can be tried.
@@ -378,8 +389,10 @@ def try_this_file():
     """Whether SPECIFICATION 12.1, 12.3 and 12.4 come out as they stand there, as far as a check needs them."""
     yes = digest(bytes(i % 251 for i in range(3073))).hex() == OF_3073 and folded(bytes(16), bytes(15) + b"\x80", b"\2" + bytes(15))[0] == 0x87
     roots, tail = [bytes.fromhex(ROOT_0), bytes.fromhex(ROOT_1)], bytes.fromhex("01000000" + LAST + "00000000")
-    yes &= answered("12.4, the query record", check_query, b"d", 1, 1, 2, [b"\2" + bytes(15)], roots, QUERY)
-    return answered("12.4, the tail record", check_tail, b"d", 1, 1, roots[1], b"\x1d" + bytes(15), tail) and yes
+    for widths in WIDTHS:  # Under either set: no level has 16 words.
+        yes &= answered(f"12.4, the query record, {widths} widths", check_query, b"d", widths, 1, 1, 2, [b"\2" + bytes(15)], roots, QUERY)
+        yes &= answered(f"12.4, the tail record, {widths} widths", check_tail, b"d", widths, 1, 1, roots[1], b"\x1d" + bytes(15), tail)
+    return yes
 
 
 def main():

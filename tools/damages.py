@@ -45,6 +45,10 @@ def none(items):
     return items[:0]
 
 
+def one_more(digests):
+    return digests + [bytes(32)]
+
+
 def other(word):
     return word ^ 1
 
@@ -97,7 +101,7 @@ def of_level(l):
 def of_level_otherwise(given, l):
     """Other ways to these numbers."""
     q = given.position // 2 ** (l + 1)
-    width, next_width = (shape(given.n, given.k, level)[1] for level in (l, l + 1))
+    width, next_width = (shape(given.widths, given.n, given.k, level)[1] for level in (l, l + 1))
     a, b, c = 2 * q % width, (2 * q + 1) % width, q % next_width
     ways = [
         ("a group short", 16, in_item(l, "a_group", shorter)),
@@ -119,6 +123,26 @@ def of_level_otherwise(given, l):
         ("another value of c's group other", 24, in_item(l, "c_group", other_word((c + 1) % next_width))),
     ]
     yield from (Damage("%s at level %d" % (name, l), number, l, do) for name, number, do in ways)
+
+
+def of_any_level(given, l):
+    """The same numbers, and by values and digests that lie last, at a level that may have no path."""
+    (_, width, depth), (_, next_width, next_depth) = (shape(given.widths, given.n, given.k, level) for level in (l, l + 1))
+    ways = [
+        (16, in_item(l, "a_group", longer)),
+        (17, in_item(l, "a_path", one_more)),
+        (18, in_item(l, "a_group", other_word(width - 1))),
+        *([(18, in_item(l, "a_path", other_digest(depth - 1)))] if depth else []),
+        (19, in_item(l, "a", other)),
+        (21, in_item(l, "b", other)),
+        (22, in_item(l, "c_group", longer)),
+        (23, in_item(l, "c_path", one_more)),
+        (24, in_item(l, "c_group", other_word(next_width - 1))),
+        *([(24, in_item(l, "c_path", other_digest(next_depth - 1)))] if next_depth else []),
+        (25, in_item(l, "c", other)),
+        (26, change("challenges", other_byte(16 * l))),
+    ]
+    return [Damage("%d at level %d" % (number, l), number, l, do) for number, do in ways]
 
 
 def of_roots(given):
@@ -146,6 +170,21 @@ def of_group(g):
 
 def of_claim():
     return [Damage("31", 31, 0, change("claim", other_byte(0)))]
+
+
+def of_any_tail(given):
+    """27 to 31, of a last level whose groups may have no path, and by values that lie last."""
+    _, width, _ = shape(given.widths, given.n, given.k, given.n)
+    last = len(given.items) - 1
+    ways = [
+        (27, change("items", longer)),
+        (28, in_item(last, "values", longer)),
+        (29, in_item(last, "path", one_more)),
+        (30, in_item(last, "values", other_word(width - 1))),
+        (30, change("root", other_byte(31))),
+        (31, change("claim", other_byte(0))),
+    ]
+    return [Damage(str(number), number, 0, do) for number, do in ways]
 
 
 def of_tail_otherwise(groups):

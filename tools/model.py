@@ -221,8 +221,14 @@ def seal_parameters(named, older):
 # ---- trees, and levels
 
 
-def fold_tree_width(length):
-    return 8 if length >= 16 else 2 if length >= 2 else 1
+# The sets of widths by number: the present one, and the wide one. Of each, from which length on its groups are wide, and how wide.
+PRESENT, WIDE = 0, 1
+WIDTHS = ((16, 8), (64, 32))
+
+
+def fold_tree_width(widths, length):
+    threshold, width = WIDTHS[widths]
+    return width if length >= threshold else 2 if length >= 2 else 1
 
 
 def level_domain(base, l):

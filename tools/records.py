@@ -110,14 +110,22 @@ def first_no(questions):
     return next(((number, level) for number, level, yes in questions if not yes), (0, 0))
 
 
-def shape(n, k, l):
+def shape(widths, n, k, l):
     """Count, width and path length of level l."""
     count = 1 << (n + k - l)
-    width = fold_tree_width(count)
+    width = fold_tree_width(widths, count)
     return count, width, (count // width).bit_length() - 1
 
 
-def check_query(base, n, k, position, challenges, roots, record):
+def sizes(widths, n, k):
+    """Bytes of all trees, of a query record and of a tail record."""
+    shapes = [shape(widths, n, k, l) for l in range(n + 1)]
+    groups = [count // width for count, width, depth in shapes]
+    opened = [8 + 16 * width + 32 * depth for count, width, depth in shapes]
+    return sum(32 * (2 * g - 1) for g in groups), 4 + sum(48 + a + c for a, c in zip(opened, opened[1:])), 4 + groups[n] * opened[n]
+
+
+def check_query(base, widths, n, k, position, challenges, roots, record):
     yield 4, 0, 1 <= n <= 20 and k <= 4
     yield 5, 0, len(challenges) == 16 * n
     yield 5, 0, len(roots) == 32 * (n + 1)
@@ -129,7 +137,7 @@ def check_query(base, n, k, position, challenges, roots, record):
     for l, x in enumerate(levels):
         q = position // 2 ** (l + 1)
         r = int.from_bytes(challenges[16 * l : 16 * (l + 1)], "little")
-        count, width, depth = shape(n, k, l)
+        count, width, depth = shape(widths, n, k, l)
         yield 16, l, len(x.a_group) == width
         yield 17, l, len(x.a_path) == depth
         root = root_of_path(level_domain(base, l), count, width, 2 * q, x.a_group, x.a_path)
@@ -137,7 +145,7 @@ def check_query(base, n, k, position, challenges, roots, record):
         yield 19, l, x.a_group[2 * q % width] == x.a
         yield 20, l, 2 * q // width == (2 * q + 1) // width
         yield 21, l, x.a_group[(2 * q + 1) % width] == x.b
-        count, width, depth = shape(n, k, l + 1)
+        count, width, depth = shape(widths, n, k, l + 1)
         yield 22, l, len(x.c_group) == width
         yield 23, l, len(x.c_path) == depth
         root = root_of_path(level_domain(base, l + 1), count, width, q, x.c_group, x.c_path)
@@ -146,13 +154,13 @@ def check_query(base, n, k, position, challenges, roots, record):
         yield 26, l, x.a ^ mul(r, x.a ^ x.b) == x.c
 
 
-def check_tail(base, n, k, claim, root, record):
+def check_tail(base, widths, n, k, claim, root, record):
     yield 4, 0, 1 <= n <= 20 and k <= 4
     yield 5, 0, len(root) == 32
     yield 7, 0, len(base) <= 200
     groups = read(record, Reader.group)
     yield 14, 0, groups is not None
-    count, width, depth = shape(n, k, n)
+    count, width, depth = shape(widths, n, k, n)
     yield 27, 0, len(groups) == count // width
     for g, x in enumerate(groups):
         yield 28, 0, len(x.values) == width
@@ -161,49 +169,48 @@ def check_tail(base, n, k, claim, root, record):
     yield 31, 0, word_bytes(groups[0].values[0]) == claim
 
 
-def build_query(n, k, position, levels, trees, out):
+def build_query(widths, n, k, position, levels, trees, out):
     """What is lent here and below are lengths in bytes."""
     yield 4, 0, 1 <= n <= 20 and k <= 4
-    shapes = [shape(n, k, l) for l in range(n + 1)]
-    opened = [8 + 16 * width + 32 * depth for count, width, depth in shapes]
-    yield 5, 0, levels == sum(16 * count for count, width, depth in shapes)
-    yield 5, 0, trees == sum(32 * (2 * (count // width) - 1) for count, width, depth in shapes)
-    yield 5, 0, out == 4 + sum(48 + a + c for a, c in zip(opened, opened[1:]))
+    all_trees, size, _ = sizes(widths, n, k)
+    yield 5, 0, levels == 16 * ((2 << n) - 1 << k)
+    yield 5, 0, trees == all_trees
+    yield 5, 0, out == size
     yield 11, 0, position < 1 << (n + k)
 
 
-def build_tail(n, k, level, tree, out):
+def build_tail(widths, n, k, level, tree, out):
     yield 4, 0, 1 <= n <= 20 and k <= 4
-    count, width, depth = shape(n, k, n)
+    count, width, depth = shape(widths, n, k, n)
     yield 5, 0, level == 16 * count
     yield 5, 0, tree == 32 * (2 * (count // width) - 1)
-    yield 5, 0, out == 4 + count // width * (8 + 16 * width + 32 * depth)
+    yield 5, 0, out == sizes(widths, n, k)[2]
 
 
 # ---- deposits
 
 
 class Deposit:
-    """A table committed under a base domain and folded n times."""
+    """A table committed under a base domain, with a set of widths, and folded n times. The table and the challenges are the same under either set."""
 
-    def __init__(self, n, k, base):
+    def __init__(self, widths, n, k, base):
         words = some_words("deposit %d %d %s" % (n, k, base.hex()), (1 << n) + n)
-        self.n, self.k, self.base, self.challenges = n, k, base, words[1 << n :]
+        self.widths, self.n, self.k, self.base, self.challenges = widths, n, k, base, words[1 << n :]
         self.levels = [encode(n, k, words[: 1 << n], derive(base, n, k))]
         for r in self.challenges:
             self.levels.append(fold(self.levels[-1], r))
-        self.trees = [tree(level_domain(base, l), fold_tree_width(len(v)), v) for l, v in enumerate(self.levels)]
+        self.trees = [tree(level_domain(base, l), fold_tree_width(widths, len(v)), v) for l, v in enumerate(self.levels)]
         self.roots = [digests[-1] for digests in self.trees]
 
     def opening(self, l, place):
         """The values of the group that has a place of level l, and its path."""
-        width = fold_tree_width(len(self.levels[l]))
+        width = fold_tree_width(self.widths, len(self.levels[l]))
         group = place // width
         return self.levels[l][width * group : width * (group + 1)], path(self.trees[l], group)
 
     def tail(self):
         """The groups of its tail record."""
-        width = fold_tree_width(1 << self.k)
+        width = fold_tree_width(self.widths, 1 << self.k)
         return [Group(*self.opening(self.n, place)) for place in range(0, 1 << self.k, width)]
 
 
@@ -211,14 +218,14 @@ class OpenedDeposit:
     """A deposit that is too long to make: of each level the one group that a query at a position opens. Its other values and the digests on
     its path are any, and the root is what they lead to."""
 
-    def __init__(self, n, k, base, position):
-        label = "opened %d %d %d " % (n, k, position)
-        self.n, self.k, self.base, self.challenges = n, k, base, some_words(label + "challenges", n)
+    def __init__(self, widths, n, k, base, position):
+        self.widths, self.n, self.k, self.base, self.position = widths, n, k, base, position
+        self.challenges = self.words("challenges", n)
         self.openings, self.roots, folded = [], [], None
         for l in range(n + 1):
-            count, width, depth = shape(n, k, l)
-            values = some_words(label + "values %d" % l, width)
-            halves = some_words(label + "path %d" % l, 2 * depth)
+            count, width, depth = shape(widths, n, k, l)
+            values = self.words("values %d" % l, width)
+            halves = self.words("path %d" % l, 2 * depth)
             siblings = [words_bytes(halves[2 * i : 2 * i + 2]) for i in range(depth)]
             place = position >> l
             if l > 0:
@@ -229,6 +236,9 @@ class OpenedDeposit:
             self.openings.append((values, siblings))
             self.roots.append(root_of_path(level_domain(base, l), count, width, place, values, siblings))
 
+    def words(self, what, count):
+        return some_words("opened %d %d %d %s" % (self.n, self.k, self.position, what), count)
+
     def opening(self, l, place):
         return self.openings[l]
 
@@ -236,10 +246,10 @@ class OpenedDeposit:
 class LastLevel(Deposit):
     """A deposit that is too long to make: its last level alone, of any values."""
 
-    def __init__(self, n, k, base):
+    def __init__(self, widths, n, k, base):
         values = some_words("last level %d %d" % (n, k), 1 << k)
-        self.n, self.k, self.base, self.levels = n, k, base, [[]] * n + [values]
-        self.trees = [[]] * n + [tree(level_domain(base, n), fold_tree_width(1 << k), values)]
+        self.widths, self.n, self.k, self.base, self.levels = widths, n, k, base, [[]] * n + [values]
+        self.trees = [[]] * n + [tree(level_domain(base, n), fold_tree_width(widths, 1 << k), values)]
         self.roots = [self.trees[n][-1]]
 
 

@@ -15,7 +15,9 @@ import cases_field
 import cases_record
 import cases_rust
 import cases_tree
+import cases_wide
 import lines
+from model import PRESENT
 
 # a file's room in the programs
 ROOM = 262144
@@ -40,7 +42,7 @@ def files(oracle):
         "test_field": [*cases_field.files(), *cases_blocks.files(), *cases_rust.field_files()],
         "test_record": [
             *below("tree", [*cases_tree.files(), *cases_rust.tree_files()]),
-            *below("record", [*cases_record.files(), *cases_rust.record_files(records(oracle))]),
+            *below("record", [*cases_record.files(), *cases_wide.files(), *cases_rust.record_files(records(oracle))]),
         ],
     }
 
@@ -69,11 +71,14 @@ def by_rust(oracle, text):
 
 
 def rust_has(reader, line, number):
-    """Whether the Rust answers a request on a record: no question before 14 has a no, and the domain is text of at most 79 bytes."""
-    name, domain = line.split()[:2]
+    """Whether the Rust answers a request on a record: its set of widths is the present one, no question before 14 has a no, and the domain is text of
+    at most 79 bytes."""
+    name, *given = line.split()
     if name not in ("check_query", "check_tail", "build_query") or 0 < number < 14:
         return False
-    base = b"" if name == "build_query" else reader.bytes(domain)
+    base, widths = (b"", given[0]) if name == "build_query" else (reader.bytes(given[0]), given[1])
+    if int(widths) != PRESENT:
+        return False
     return len(base) <= 79 and base.isascii()
 
 

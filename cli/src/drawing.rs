@@ -61,12 +61,14 @@ fn percent(chance: f64, count: usize) -> String {
 mod tests {
     use super::{challenges, percent, positions, worth};
     use crate::shape::Shape;
+    use dequmlo::Widths;
 
     fn shape() -> Shape {
         Shape {
             n: 6,
             k: 2,
             domain: Vec::new(),
+            widths: Widths::Present,
         }
     }
 

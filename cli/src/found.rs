@@ -155,6 +155,7 @@ impl Found {
             .found("manifest", manifest.unwrap_or(Json::Null))
             .found("not_checked", texts(unchecked))
             .found("own_questions", extent.own.map_or(Json::Null, Json::text))
+            .found("widths", Json::text(extent.shape.widths))
             .found("positions_checked", Json::number(extent.checked))
             .found(
                 "positions_of_a_full_check",

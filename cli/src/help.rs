@@ -17,7 +17,7 @@ struct Command {
 const COMMANDS: [Command; 12] = [
     Command {
         name: "commit",
-        usage: "seal commit FILE|FOLDER [--profile NAME | --k K --domain TEXT] [--out FOLDER] [--force] [--threads N]",
+        usage: "seal commit FILE|FOLDER [--profile NAME | --k K --domain TEXT] [--widths SET] [--out FOLDER] [--force] [--threads N]",
         does: "Seals a file, or a project of all files below a folder: its root and parameters go into the folder FILE.seal.",
         takes: &commands::commit::TAKEN,
     },
@@ -73,15 +73,15 @@ const COMMANDS: [Command; 12] = [
     },
     Command {
         name: "explain",
-        usage: "seal explain [NUMBER | older]",
-        does: "Says what the number of a refusal means, and what to ask the holder for; or which seals --older is for.",
+        usage: "seal explain [NUMBER | older | widths]",
+        does: "Says what the number of a refusal means, and what to ask the holder for; which seals --older is for; or what the sets of widths are.",
         takes: &["--json"],
     },
     Command {
         name: "demo",
-        usage: "seal demo",
+        usage: "seal demo [--widths SET]",
         does: "Seals a sample, opens places of it, checks them, damages a byte and shows the refusal.",
-        takes: &["--json"],
+        takes: &commands::demo::TAKEN,
     },
     Command {
         name: "help",
@@ -100,8 +100,8 @@ const COMMANDS: [Command; 12] = [
 const FOR_ALL: &str = "\
 --json prints one object for programs, whatever happens. A folder that exists is left alone; --force replaces it where it holds exactly what
 this program wrote, a seal by a seal and an opening by an opening. Profiles: default, fastchunk, balanced, compactwrap, deepwrap, firstdefault;
-`seal commit` takes the default, k 2, where none is named. Wherever --seal is given, --older says that a seal which names neither k nor a base domain
-was made before version 0.4.0, when the default had k 1.";
+`seal commit` takes the default, k 2, and the present set of widths where none is named; every other command goes by what the seal says. Wherever
+--seal is given, --older says that a seal which names neither k nor a base domain was made before version 0.4.0, when the default had k 1.";
 
 const STATUSES: &str = "\
 Exit status: 0 accepted, or done; 1 refused; 2 could not run: wrong use, a file that cannot be read, a damaged seal, a full disk; 3 sound, but

@@ -26,7 +26,7 @@ const fn option(name: &'static str, value: &'static str, means: &'static str) ->
 }
 
 /// Every option, in the order of the help.
-pub const OPTIONS: [Known; 26] = [
+pub const OPTIONS: [Known; 27] = [
     option("--seal", "FOLDER", "the seal, as `seal commit` wrote it"),
     option("--older", "", "the seal names neither k nor a base domain and was made before version 0.4.0; `seal explain older` says more"),
     option("--asked", "FOLDER", "the request that `seal ask` wrote; it has challenges, positions, roots and claim"),
@@ -36,6 +36,7 @@ pub const OPTIONS: [Known; 26] = [
     option("--profile", "NAME", "k and the base domain by a name: default, fastchunk, balanced, compactwrap, deepwrap, firstdefault"),
     option("--k", "K", "k by itself, from 0 to 4, together with --domain"),
     option("--domain", "TEXT", "the base domain by itself, at most 200 bytes, together with --k"),
+    option("--widths", "SET", "the set of the groups' widths: present, which is taken where none is named, or wide; `seal explain widths` says more"),
     option("--challenges", "FILE", "the checker's challenges, n words, one to a line"),
     option("--at", "P,P,..", "the checker's positions"),
     option("--positions", "FILE", "the checker's positions in a file, with blanks or line ends between them"),

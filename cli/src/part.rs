@@ -78,12 +78,17 @@ pub fn manifest_in(
         Err(e @ Unread::NotAFile(_)) => return another(e.to_string()),
         Err(e) => return Err(unreadable(&folder.join(MANIFEST), e)),
     };
-    let Shape { n, k, domain } = &seal.shape;
+    let Shape {
+        n,
+        k,
+        domain,
+        widths,
+    } = &seal.shape;
     if bytes.len() > MOST_BYTES || variables(bytes.len()) != *n {
         return another("it has another size".into());
     }
     room_for(&seal.shape)?;
-    match root_of(&bytes, Threads::all(), *k, domain) {
+    match root_of(&bytes, Threads::all(), domain, *widths, *k) {
         Ok(root) if root == seal.root => (),
         Ok(root) => {
             return another(format!(
@@ -197,7 +202,8 @@ fn part_seal(
     );
     Ok(Seal {
         summary: seal.summary.map(|line| format!("{line} {about}")),
-        sizes: Sizes::of(shape.n, shape.k).map_err(|refusal| Failure(refusal.to_string()))?,
+        sizes: Sizes::of(shape.widths, shape.n, shape.k)
+            .map_err(|refusal| Failure(refusal.to_string()))?,
         shape,
         root: entry.parts[index],
         part: Some(part),

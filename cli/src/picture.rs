@@ -152,13 +152,14 @@ mod tests {
     use super::{length, picture, start, x, y};
     use crate::found::{Answer, Item};
     use crate::shape::Shape;
-    use dequmlo::Refusal;
+    use dequmlo::{Refusal, Widths};
 
     fn shape(n: usize, k: usize) -> Shape {
         Shape {
             n,
             k,
             domain: Vec::new(),
+            widths: Widths::Present,
         }
     }
 

@@ -5,7 +5,7 @@ use crate::outcome::{Failure, Outcome};
 use crate::progress::Progress;
 use crate::reading::{not_a_file, reason, shown_name, shown_path, stretch_in, unreadable};
 use crate::table::{room_for_many, table_in, table_of, variables};
-use dequmlo::{Buffers, Deposit, Refusal, Root, Threads, Word};
+use dequmlo::{Buffers, Deposit, Refusal, Root, Threads, Widths, Word};
 use std::ffi::OsStr;
 use std::fs;
 use std::mem;
@@ -98,9 +98,15 @@ impl Stop {
 }
 
 /// The root of these bytes as a deposit of their own. They are at most as many as a deposit has.
-pub fn root_of(bytes: &[u8], threads: Threads, k: usize, domain: &[u8]) -> Result<Root, Refusal> {
+pub fn root_of(
+    bytes: &[u8],
+    threads: Threads,
+    domain: &[u8],
+    widths: Widths,
+    k: usize,
+) -> Result<Root, Refusal> {
     let table = table_of(bytes).expect("no more bytes than a deposit has");
-    Deposit::commit_on(threads, domain, k, &table).map(|deposit| deposit.root())
+    Deposit::commit_on(threads, domain, widths, k, &table).map(|deposit| deposit.root())
 }
 
 /// What a thread keeps from one part to the next, so that the system makes its pages once.
@@ -113,10 +119,11 @@ struct Kept {
 
 impl Kept {
     /// The root of the bytes that were read.
-    fn root(&mut self, k: usize, domain: &[u8]) -> Result<Root, Refusal> {
+    fn root(&mut self, domain: &[u8], widths: Widths, k: usize) -> Result<Root, Refusal> {
         table_in(&mut self.table, &self.bytes).expect("no more bytes than a deposit has");
         let buffers = mem::take(&mut self.buffers);
-        let deposit = Deposit::commit_in(buffers, Threads::of(1), domain, k, &self.table)?;
+        let threads = Threads::of(1);
+        let deposit = Deposit::commit_in(buffers, threads, domain, widths, k, &self.table)?;
         let root = deposit.root();
         self.buffers = deposit.into_buffers();
         Ok(root)
@@ -128,8 +135,9 @@ pub fn manifest_of(
     folder: &Path,
     files: Vec<(Vec<u8>, u64)>,
     threads: Threads,
-    k: usize,
     domain: &[u8],
+    widths: Widths,
+    k: usize,
 ) -> Result<Manifest, Stop> {
     let mut jobs: Vec<Job> = Vec::new();
     for (file, (_, bytes)) in files.iter().enumerate() {
@@ -140,7 +148,7 @@ pub fn manifest_of(
     jobs.sort_by_key(|job| std::cmp::Reverse(size(job)));
     let largest = variables(jobs.first().map_or(0, size));
     let wanted = threads.number().min(jobs.len()).max(1);
-    let threads = room_for_many(largest, k, wanted).map_err(Stop::Failed)?;
+    let threads = room_for_many(widths, largest, k, wanted).map_err(Stop::Failed)?;
 
     let work = Work::new(&jobs, files.iter().map(|(_, bytes)| bytes).sum());
     thread::scope(|scope| {
@@ -151,7 +159,7 @@ pub fn manifest_of(
                     let (path, bytes) = &files[file];
                     part_of_file(&mut kept.bytes, &file_path(folder, path), *bytes, part)
                         .map_err(Stop::Failed)?;
-                    let root = kept.root(k, domain).map_err(Stop::Refused)?;
+                    let root = kept.root(domain, widths, k).map_err(Stop::Refused)?;
                     Ok((root, kept.bytes.len()))
                 })
             });

@@ -122,6 +122,7 @@ fn facts(subject: &Subject) -> String {
             "Base domain",
             format!("{}; profile: {profile}", shape.shown_domain()),
         ),
+        ("Widths", format!("the {} set", shape.widths)),
     ];
     let rows: String = rows
         .iter()

@@ -85,7 +85,7 @@ impl Request {
         if request.shape != seal.shape {
             let assumed = seal.assumed.as_ref();
             return Err(Failure(format!(
-                "the request in {shown} is about another seal: it names another n, k or base domain{}",
+                "the request in {shown} is about another seal: it names another n, k, base domain or set of widths{}",
                 assumed.map_or(String::new(), |assumed| format!(". Note that {assumed}"))
             )));
         }
@@ -94,7 +94,7 @@ impl Request {
 
     /// The files of a request.
     pub fn files(&self) -> Vec<Named> {
-        let mut files = self.contents();
+        let mut files = self.contents(self.shape.file());
         files.push((SUMMARY.into(), self.summary().into_bytes()));
         with_check_lines(files)
     }
@@ -139,8 +139,8 @@ impl Request {
         Ok(())
     }
 
-    /// The files that are read back.
-    fn contents(&self) -> Vec<Named> {
+    /// The files that are read back, with these bytes of `parameters.txt`.
+    fn contents(&self, parameters: Vec<u8>) -> Vec<Named> {
         let by = self.by.as_ref().map(|by| format!("by {by}\n"));
         let when = self
             .answered
@@ -153,7 +153,7 @@ impl Request {
             when.unwrap_or_default()
         );
         let mut files: Vec<Named> = vec![
-            (PARAMETERS.into(), self.shape.file()),
+            (PARAMETERS.into(), parameters),
             (ROOT.into(), lines::file(&[self.root])),
             (ASKED.into(), marked(&asked).into_bytes()),
             (CHALLENGES.into(), lines::file(&self.challenges)),
@@ -209,7 +209,8 @@ fn in_order(folder: &Path) -> Result<(), Failure> {
 }
 
 fn parts(folder: &Path) -> Result<Request, Failure> {
-    let shape = Shape::read(folder)?.shape;
+    let parameters = Shape::read(folder)?;
+    let shape = parameters.shape;
     let text = |name, lines, digits| text_inside(folder, name, most_bytes(lines, digits));
     let at = |name| folder.join(name);
     let asked = text_inside(folder, ASKED, MOST_BYTES)?;
@@ -240,16 +241,15 @@ fn parts(folder: &Path) -> Result<Request, Failure> {
         shape,
         answered,
     };
-    agreed(folder, &request)?;
+    agreed(folder, &request.contents(parameters.written.into_bytes()))?;
     request.fits().map_err(|what| Failure(what.into()))?;
     Ok(request)
 }
 
 /// Fails unless the check lines are those of what was read, in its written form.
-fn agreed(folder: &Path, request: &Request) -> Result<(), Failure> {
+fn agreed(folder: &Path, files: &[Named]) -> Result<(), Failure> {
     let lines = CheckLines::read(folder, 16)?
         .ok_or_else(|| Failure(format!("there is no {CHECK} in it")))?;
-    let files = request.contents();
     match files.iter().find(|(name, bytes)| !lines.agree(name, bytes)) {
         Some((name, _)) => Err(Failure(format!(
             "{name} and its line in {CHECK} do not agree"

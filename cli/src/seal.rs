@@ -1,7 +1,7 @@
 //! A seal: a small folder with the parameters, the root, their check lines, and a summary for a person. The first two begin with the line of
 //! their format (format.rs).
 //!
-//!     parameters.txt   n, k and the base domain (shape.rs); n alone where others wrote it so
+//!     parameters.txt   n, k, the base domain and the set of widths (shape.rs); without k and the base domain where others wrote it so
 //!     root.txt         64 hexadecimal digits
 //!     summary.txt      what this is, in sentences; no check reads it
 //!     check.txt        the digest of each of the three (check_lines.rs); seals of version 0.1.0 have none
@@ -65,10 +65,10 @@ impl Seal {
 
     /// The files of a seal, for a file of so many bytes.
     pub fn files(shape: &Shape, root: &Root, file: &str, bytes: usize) -> Vec<Named> {
-        let Shape { n, k, .. } = shape;
+        let Shape { n, k, widths, .. } = shape;
         let summary = format!(
             "{}\n\nIt stands for the file {file} of {bytes} bytes, as a table of {} words (n = {n}, k = {k}), under the base \
-             domain {}.\nRoot: {root}\n\nWhoever keeps this root can check that what a holder shows later is what was deposited:\n\
+             domain {} and the {widths} set of widths.\nRoot: {root}\n\nWhoever keeps this root can check that what a holder shows later is what was deposited:\n\
              `seal open` makes what is shown, `seal check` checks it.\n\n{}",
             Kind::Seal.heading(),
             1usize << n,
@@ -93,7 +93,7 @@ impl Seal {
     ) -> Vec<Named> {
         let summary = format!(
             "{}\n\nIt stands for the project {project}: {} files of {} bytes in all, in {} parts.\n\
-             {MANIFEST} lists them with the root of each part, and the root below is that of {MANIFEST}, as a table of {} words (n = {}, k = {}), under the base domain {}.\nRoot: {root}\n\n\
+             {MANIFEST} lists them with the root of each part, and the root below is that of {MANIFEST}, as a table of {} words (n = {}, k = {}), under the base domain {} and the {} set of widths.\nRoot: {root}\n\n\
              Whoever keeps this root can check that what a holder shows later is what was deposited:\n`seal open` makes what is shown of a file, `seal check` \
              checks it, `seal verify` says what has changed.\n\n{}",
             Kind::Seal.heading(),
@@ -104,6 +104,7 @@ impl Seal {
             shape.n,
             shape.k,
             shape.shown_domain(),
+            shape.widths,
             signature()
         );
         with_check_lines(vec![

@@ -1,22 +1,25 @@
-//! n, k and the base domain, and `parameters.txt`, which has them in three lines behind its format:
+//! n, k, the base domain and the set of the groups' widths, and `parameters.txt`, which has them in four lines behind its format:
 //!
 //!     format 1
 //!     n 12
 //!     k 2
 //!     domain magnetar/pcs/balanced     (or domain-hex and hexadecimal digits)
+//!     widths present                   (or widths wide)
 //!
-//! `seal commit` writes all three. A seal that others wrote may have the line n alone: it names neither k nor a base domain.
+//! `seal commit` writes all four. Before version 0.6.0 there was no line with the widths: a text without it is of the present set. A seal that others
+//! wrote may have neither of the two lines between: it names neither k nor a base domain.
 
-use crate::format::{marked, Body};
+use crate::format::{marked, Body, PROGRAM};
 use crate::hex;
 use crate::outcome::Failure;
-use crate::reading::text_inside;
-use dequmlo::{Parameters, Sizes};
+use crate::reading::{shown_name, text_inside};
+use dequmlo::{Parameters, Sizes, Widths};
+use std::ffi::OsStr;
 use std::path::Path;
 
 pub const PARAMETERS: &str = "parameters.txt";
 
-/// More than three lines with a domain of 200 bytes in hexadecimal digits can have.
+/// More than four lines with a domain of 200 bytes in hexadecimal digits can have.
 const MOST_BYTES: usize = 1024;
 
 #[derive(Clone, Debug, PartialEq, Eq)]
@@ -24,6 +27,7 @@ pub struct Shape {
     pub n: usize,
     pub k: usize,
     pub domain: Vec<u8>,
+    pub widths: Widths,
 }
 
 /// What a folder's `parameters.txt` says.
@@ -45,19 +49,25 @@ impl Read {
         let path = folder.join(PARAMETERS);
         let text = text_inside(folder, PARAMETERS, MOST_BYTES)?;
         let body = Body::of(&path, &text)?;
-        let whole = Shape::of_text(body.text).map(|shape| (shape.text(), shape));
+        let said = Said::of(body.text).map_err(|name| {
+            Failure(format!(
+                "{} names the set of widths `{}`, and this program, {PROGRAM}, knows `present` and `wide` alone; a newer program may know it",
+                path.display(),
+                shown_name(OsStr::new(name))
+            ))
+        })?;
+        let whole = said.shape();
         let named = whole.is_some();
-        let (content, shape) = whole
-            .or_else(|| of_n_alone(body.text, unnamed?))
-            .ok_or_else(|| {
-                Failure(format!(
-                    "{} does not have its three lines n, k and domain as `seal commit` writes them",
-                    path.display()
-                ))
-            })?;
-        let sizes = Sizes::of(shape.n, shape.k)
+        let (lines, shape) = whole.or_else(|| said.of_n_alone(unnamed?)).ok_or_else(|| {
+            Failure(format!(
+                "{} does not have its lines n, k, domain and widths as `seal commit` writes them",
+                path.display()
+            ))
+        })?;
+        let sizes = Sizes::of(shape.widths, shape.n, shape.k)
             .map_err(|refusal| Failure(format!("{}: {refusal}", path.display())))?;
-        let written = body.written(&content);
+        let widths = said.widths.map_or(String::new(), widths_line);
+        let written = body.written(&(lines + &widths));
         Ok(Read {
             untidy: text != written,
             shape,
@@ -85,33 +95,17 @@ impl Shape {
     }
 
     fn text(&self) -> String {
+        format!("{}{}", self.without_widths(), widths_line(self.widths))
+    }
+
+    /// The lines n, k and domain.
+    fn without_widths(&self) -> String {
         let domain = if plain(&self.domain) {
             format!("domain {}", String::from_utf8_lossy(&self.domain))
         } else {
             format!("domain-hex {}", hex::write(&self.domain))
         };
         format!("n {}\nk {}\n{domain}\n", self.n, self.k)
-    }
-
-    /// The shape whose text this is, but for blanks and carriage returns at the lines' ends and empty lines after the last.
-    fn of_text(text: &str) -> Option<Shape> {
-        let lines: Vec<&str> = text.trim_end().lines().map(str::trim_end).collect();
-        let (n, k, last) = match lines[..] {
-            [n, k, last] => (n, k, last),
-            _ => return None,
-        };
-        let domain = match last.strip_prefix("domain ") {
-            Some(text) => text.as_bytes().to_vec(),
-            None => hex::read(last.strip_prefix("domain-hex")?.trim_start())?,
-        };
-        let shape = Shape {
-            n: n.strip_prefix("n ")?.parse().ok()?,
-            k: k.strip_prefix("k ")?.parse().ok()?,
-            domain,
-        };
-        let written = shape.text();
-        let same = written.lines().map(str::trim_end).eq(lines);
-        same.then_some(shape)
     }
 
     pub fn shown_domain(&self) -> String {
@@ -144,11 +138,69 @@ impl Shape {
     }
 }
 
-/// The text of n alone, as it is written, and the shape that it has under these parameters.
-fn of_n_alone(text: &str, Parameters { k, domain, .. }: Parameters) -> Option<(String, Shape)> {
-    let n: usize = text.trim_end().strip_prefix("n ")?.parse().ok()?;
-    let written = format!("n {n}\n");
-    (written.trim_end() == text.trim_end()).then_some((written, Shape { n, k, domain }))
+/// The lines of a text, but for blanks and carriage returns at their ends and empty lines after the last.
+struct Said<'a> {
+    /// Those before the widths.
+    lines: Vec<&'a str>,
+    /// The set that the last line names, where there is such a line.
+    widths: Option<Widths>,
+}
+
+impl<'a> Said<'a> {
+    /// The name of a set of widths where there is none of this name.
+    fn of(text: &'a str) -> Result<Said<'a>, &'a str> {
+        let mut lines: Vec<&str> = text.trim_end().lines().map(str::trim_end).collect();
+        let named = lines.last().and_then(|last| last.strip_prefix("widths "));
+        let widths = named
+            .map(|name| name.parse().map_err(|_| name))
+            .transpose()?;
+        if widths.is_some() {
+            lines.pop();
+        }
+        Ok(Said { lines, widths })
+    }
+
+    /// The shape where the text names k and the base domain, and the lines before the widths as they are written.
+    fn shape(&self) -> Option<(String, Shape)> {
+        let (n, k, last) = match self.lines[..] {
+            [n, k, last] => (n, k, last),
+            _ => return None,
+        };
+        let domain = match last.strip_prefix("domain ") {
+            Some(text) => text.as_bytes().to_vec(),
+            None => hex::read(last.strip_prefix("domain-hex")?.trim_start())?,
+        };
+        let shape = Shape {
+            n: n.strip_prefix("n ")?.parse().ok()?,
+            k: k.strip_prefix("k ")?.parse().ok()?,
+            domain,
+            widths: self.widths.unwrap_or_default(),
+        };
+        self.as_written(shape.without_widths(), shape)
+    }
+
+    /// The same where the line n is alone, under these parameters.
+    fn of_n_alone(&self, Parameters { k, domain, .. }: Parameters) -> Option<(String, Shape)> {
+        let n = self.lines.first()?.strip_prefix("n ")?.parse().ok()?;
+        let shape = Shape {
+            n,
+            k,
+            domain,
+            widths: self.widths.unwrap_or_default(),
+        };
+        self.as_written(format!("n {n}\n"), shape)
+    }
+
+    /// A text and its shape, where the lines before the widths are those of the text.
+    fn as_written(&self, text: String, shape: Shape) -> Option<(String, Shape)> {
+        let lines = self.lines.iter().copied();
+        let same = text.lines().map(str::trim_end).eq(lines);
+        same.then_some((text, shape))
+    }
+}
+
+fn widths_line(widths: Widths) -> String {
+    format!("widths {widths}\n")
 }
 
 /// A domain that a line of text can show: at least one graphic character, no blank.
@@ -158,15 +210,20 @@ fn plain(domain: &[u8]) -> bool {
 
 #[cfg(test)]
 mod tests {
-    use super::{of_n_alone, Shape};
-    use dequmlo::Parameters;
+    use super::{Said, Shape};
+    use dequmlo::{Parameters, Widths};
 
-    fn shape(domain: &[u8]) -> Shape {
+    fn shape(domain: &[u8], widths: Widths) -> Shape {
         Shape {
             n: 12,
             k: 2,
             domain: domain.to_vec(),
+            widths,
         }
+    }
+
+    fn of_text(text: &str) -> Option<Shape> {
+        Said::of(text).ok()?.shape().map(|(_, shape)| shape)
     }
 
     #[test]
@@ -176,46 +233,85 @@ mod tests {
             &[],
             &[0, 10, 255],
             b"two words",
+            b"widths",
         ] {
-            let shape = shape(domain);
-            assert_eq!(Shape::of_text(&shape.text()), Some(shape));
+            for widths in Widths::ALL {
+                let shape = shape(domain, widths);
+                assert_eq!(of_text(&shape.text()), Some(shape));
+            }
+        }
+        let text = shape(b"d", Widths::Wide).text();
+        assert_eq!(text, "n 12\nk 2\ndomain d\nwidths wide\n");
+    }
+
+    /// Before version 0.6.0 no set was named.
+    #[test]
+    fn a_text_that_names_no_set_is_of_the_present_one() {
+        for domain in [&b"d"[..], &[]] {
+            let shape = shape(domain, Widths::Present);
+            assert_eq!(of_text(&shape.without_widths()), Some(shape));
+        }
+    }
+
+    #[test]
+    fn another_set_is_named() {
+        for name in ["broad", "Wide", " wide", "wide present", "1"] {
+            let text = format!("n 12\nk 2\ndomain d\nwidths {name}\n");
+            assert_eq!(Said::of(&text).err(), Some(name), "{text:?}");
         }
     }
 
     #[test]
     fn blanks_and_line_ends_are_no_part_of_it() {
         for text in [
-            "n 12\r\nk 2\r\ndomain d\r\n",
-            "n 12 \nk 2\ndomain d  \n\n",
-            "n 12\nk 2\ndomain d",
+            "n 12\r\nk 2\r\ndomain d\r\nwidths wide\r\n",
+            "n 12 \nk 2\ndomain d  \nwidths wide \n\n",
+            "n 12\nk 2\ndomain d\nwidths wide",
         ] {
-            assert_eq!(Shape::of_text(text), Some(shape(b"d")), "{text:?}");
+            assert_eq!(of_text(text), Some(shape(b"d", Widths::Wide)), "{text:?}");
         }
-        assert_eq!(Shape::of_text("n 12\nk 2\ndomain-hex\n"), Some(shape(b"")));
+        for text in [
+            "n 12\nk 2\ndomain-hex\n",
+            "n 12\nk 2\ndomain-hex\nwidths present\n",
+        ] {
+            assert_eq!(of_text(text), Some(shape(b"", Widths::Present)));
+        }
     }
 
     #[test]
     fn another_text_is_none() {
         for text in [
             "n 1\nk 2\n",
+            "n 1\nk 2\nwidths wide\n",
             "n 1\nk 2\ndomain d\nmore\n",
+            "n 1\nk 2\ndomain d\nwidths wide\nmore\n",
+            "n 1\nk 2\ndomain d\nwidths wide\nwidths wide\n",
+            "n 1\nk 2\ndomain d\nwidths\n",
+            "widths wide\nn 1\nk 2\ndomain d\n",
             "n +1\nk 2\ndomain d\n",
             "n 01\nk 2\ndomain d\n",
             "n 1\nk 2\ndomain two words\n",
             "n 1\nk 2\ndomain-hex 64\n",
             " n 1\nk 2\ndomain d\n",
         ] {
-            assert_eq!(Shape::of_text(text), None, "{text:?}");
+            assert_eq!(of_text(text), None, "{text:?}");
         }
     }
 
     #[test]
     fn n_alone_has_the_parameters_that_are_given() {
-        for text in ["n 12\n", "n 12", "n 12 \r\n\n"] {
-            let (written, shape) = of_n_alone(text, Parameters::unnamed(true)).unwrap();
+        let read = |text, parameters| Said::of(text).ok()?.of_n_alone(parameters);
+        for (text, widths) in [
+            ("n 12\n", Widths::Present),
+            ("n 12", Widths::Present),
+            ("n 12 \r\n\n", Widths::Present),
+            ("n 12\nwidths wide\n", Widths::Wide),
+        ] {
+            let (written, shape) = read(text, Parameters::unnamed(true)).unwrap();
             assert_eq!((&*written, shape.n, shape.k), ("n 12\n", 12, 1), "{text:?}");
             assert_eq!(shape.profile().unwrap().0, "firstdefault");
-            assert_eq!(Shape::of_text(text), None);
+            assert_eq!(shape.widths, widths, "{text:?}");
+            assert_eq!(of_text(text), None);
         }
         for text in [
             "",
@@ -225,21 +321,23 @@ mod tests {
             "n 1\ndomain d\n",
             "k 1\n",
             "n \n",
+            "widths wide\n",
         ] {
-            assert!(
-                of_n_alone(text, Parameters::default()).is_none(),
-                "{text:?}"
-            );
+            assert!(read(text, Parameters::default()).is_none(), "{text:?}");
         }
     }
 
-    /// The numbers of the default before version 0.4.0 are those of a profile, and those of the default now of another.
+    /// The numbers of the default before version 0.4.0 are those of a profile, and those of the default now of another; a profile says nothing of widths.
     #[test]
     fn the_profile_is_found_by_k_and_domain() {
         for (k, name) in [(1, Some("firstdefault")), (2, Some("default")), (3, None)] {
-            let domain = b"magnetar/pcs/default".to_vec();
-            let shape = Shape { n: 12, k, domain };
-            assert_eq!(shape.profile().map(|(name, _)| name), name);
+            for widths in Widths::ALL {
+                let shape = Shape {
+                    k,
+                    ..shape(b"magnetar/pcs/default", widths)
+                };
+                assert_eq!(shape.profile().map(|(name, _)| name), name);
+            }
         }
     }
 }

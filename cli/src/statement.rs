@@ -1,4 +1,4 @@
-//! What an opening is checked under: n, k, the base domain and level 0's root are the seal's; the further roots are those that the checker
+//! What an opening is checked under: n, k, the base domain, the set of widths and level 0's root are the seal's; the further roots are those that the checker
 //! kept, or else the opening's.
 
 use crate::lines::{items, most_bytes};
@@ -6,6 +6,7 @@ use crate::options::Options;
 use crate::outcome::Failure;
 use crate::reading::{lies_in, named_text};
 use crate::seal::Seal;
+use crate::shape::Shape;
 use crate::shown::Shown;
 use dequmlo::{Refusal, Root, Statement, Word};
 use std::path::Path;
@@ -64,7 +65,14 @@ pub fn checker_s_own(options: &Options, opening: &Path) -> Result<(), Failure> {
 
 pub fn statement(seal: &Seal, roots: &Roots, challenges: &[Word]) -> Result<Statement, Refusal> {
     let shape = &seal.shape;
-    Statement::new(&shape.domain, shape.n, shape.k, challenges, &roots.all)
+    Statement::new(
+        &shape.domain,
+        shape.widths,
+        shape.n,
+        shape.k,
+        challenges,
+        &roots.all,
+    )
 }
 
 /// The terminal claim: the checker's, or the opening's.
@@ -80,9 +88,13 @@ pub fn misfits(seal: &Seal, shown: &Shown, roots: &Roots, challenges: &[Word]) -
     let mut notes = Vec::new();
     match &shown.shape {
         Ok(shape) if *shape == seal.shape => (),
+        Ok(shape) if another_set(shape, &seal.shape) => notes.push(format!(
+            "the opening says that it was made under the {} set of widths, and the seal is of the {} one: it was made for another seal",
+            shape.widths, seal.shape.widths
+        )),
         Ok(_) if seal.assumed.is_some() => notes.push("the opening names another n, k or base domain than the seal is read under".into()),
         Ok(_) => notes.push("the opening names another n, k or base domain than the seal: it was made for another seal".into()),
-        Err(Failure(what)) => notes.push(format!("the opening does not say for which n, k and base domain it was made: {what}")),
+        Err(Failure(what)) => notes.push(format!("the opening does not say for which n, k, base domain and widths it was made: {what}")),
     }
     notes.extend(another_root(seal, shown));
     if roots.kept {
@@ -100,6 +112,17 @@ pub fn misfits(seal: &Seal, shown: &Shown, roots: &Roots, challenges: &[Word]) -
         )),
     }
     notes
+}
+
+/// Whether two shapes differ in the set of widths and in nothing else.
+fn another_set(one: &Shape, other: &Shape) -> bool {
+    let widths = one.widths;
+    one.widths != other.widths
+        && *one
+            == Shape {
+                widths,
+                ..other.clone()
+            }
 }
 
 /// The level of the first challenge in which two lists differ.

@@ -4,7 +4,7 @@
 use crate::outcome::Failure;
 use crate::reading::named;
 use crate::shape::Shape;
-use dequmlo::{Sizes, Word};
+use dequmlo::{Sizes, Widths, Word};
 use std::path::Path;
 
 /// A file's length and its table.
@@ -64,13 +64,13 @@ pub fn table_in(table: &mut Vec<Word>, bytes: &[u8]) -> Result<(), String> {
 /// Fails where there is no memory for the table, all levels and trees of a deposit of this shape, and the room for a fold. (Memory that runs out
 /// later would end the program without a sentence.)
 pub fn room_for(shape: &Shape) -> Result<(), Failure> {
-    room_for_many(shape.n, shape.k, 1).map(|_| ())
+    room_for_many(shape.widths, shape.n, shape.k, 1).map(|_| ())
 }
 
-/// How many deposits of n and k there is memory for at once, up to so many; fails where there is none for one.
-pub fn room_for_many(n: usize, k: usize, most: usize) -> Result<usize, Failure> {
+/// How many deposits of these widths, n and k there is memory for at once, up to so many; fails where there is none for one.
+pub fn room_for_many(widths: Widths, n: usize, k: usize, most: usize) -> Result<usize, Failure> {
     // The library refuses parameters that no deposit has; there is nothing to make room for.
-    let sizes = match Sizes::of(n, k) {
+    let sizes = match Sizes::of(widths, n, k) {
         Ok(sizes) => sizes,
         Err(_) => return Ok(most),
     };

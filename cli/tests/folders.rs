@@ -50,8 +50,10 @@ fn a_seal_replaces_a_seal_and_an_opening_an_opening() {
     desk.run("commit plan.txt")
         .says(2, &["plan.txt.seal exists", "--force replaces it"]);
     assert_eq!(desk.read("plan.txt.seal/root.txt"), root);
-    desk.run("commit plan.txt --force")
-        .says(0, &["sealed plan.txt: 7 bytes as 2 words (n = 1, k = 2)"]);
+    desk.run("commit plan.txt --force").says(
+        0,
+        &["sealed plan.txt: 7 bytes as 2 words (n = 1, k = 2, present widths)"],
+    );
     assert_ne!(desk.read("plan.txt.seal/root.txt"), root);
     desk.run("open plan.txt --seal plan.txt.seal --seed dice --force")
         .says(0, &["opened 8 positions"]);

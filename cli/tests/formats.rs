@@ -98,19 +98,26 @@ fn folders(folder: &Path) -> Vec<String> {
 #[test]
 fn what_earlier_versions_made_is_accepted() {
     let versions = folders(&kept(""));
-    for known in ["0.1.0", "0.2.0", "0.3.0", "0.4.0"] {
+    for known in ["0.1.0", "0.2.0", "0.3.0", "0.4.0", "0.5.0", "0.6.0"] {
         assert!(versions.iter().any(|v| v == known), "{known} is missing");
     }
     for version in versions {
         let desk = Desk::kept(&format!("kept-{version}"), &version);
-        // The default had other numbers before version 0.4.0, and its seals name them.
-        let profile = match version.as_str() {
-            "0.1.0" | "0.2.0" | "0.3.0" => "firstdefault",
-            _ => "default",
+        // The default had other numbers before version 0.4.0, and its seals name them. What is kept of 0.6.0 is of the wide set; before, there was one.
+        let (profile, widths) = match version.as_str() {
+            "0.1.0" | "0.2.0" | "0.3.0" => ("firstdefault", "present"),
+            "0.4.0" | "0.5.0" => ("default", "present"),
+            _ => ("default", "wide"),
         };
         let accepted =
             "verdict: accepted: 3 records and the tail, fewer than the 40 positions of the profile";
         desk.check().says(0, &[&format!("{accepted} {profile}")]);
+        let named = desk.text("plan.txt.seal/parameters.txt");
+        assert_eq!(named.contains("widths"), widths == "wide", "{version}");
+        desk.run(&format!("{CHECK} --json"))
+            .says(0, &[&format!("\"widths\": \"{widths}\"")]);
+        desk.run("verify plan.txt --seal plan.txt.seal")
+            .says(0, &["yes: plan.txt is the file that was sealed"]);
         desk.run("tail plan.txt.opening --seal plan.txt.seal")
             .says(3, &[]);
         desk.run("open plan.txt --seal plan.txt.seal --seed dice --at 7,0,127 --out again")
@@ -120,7 +127,7 @@ fn what_earlier_versions_made_is_accepted() {
         // Requests and projects came with version 0.3.0.
         if version != "0.1.0" && version != "0.2.0" {
             requests_are_accepted(&desk);
-            projects_are_accepted(&desk, profile);
+            projects_are_accepted(&desk, profile, widths);
         }
         // A damaged one is still told from a sound one.
         desk.damage("plan.txt.opening/query-7.record", 60);
@@ -139,7 +146,7 @@ fn requests_are_accepted(desk: &Desk) {
         .says(0, &["drew 40 positions"]);
 }
 
-fn projects_are_accepted(desk: &Desk, profile: &str) {
+fn projects_are_accepted(desk: &Desk, profile: &str, widths: &str) {
     let of = "--seal house.seal --file plans/north.txt";
     desk.run("verify house --seal house.seal")
         .says(0, &["yes: house is the project that was sealed"]);
@@ -156,7 +163,7 @@ fn projects_are_accepted(desk: &Desk, profile: &str) {
     ))
     .says(0, &["drew 40 positions"]);
     desk.run(&format!(
-        "commit house --profile {profile} --out house.again"
+        "commit house --profile {profile} --widths {widths} --out house.again"
     ))
     .says(0, &[]);
     assert_eq!(

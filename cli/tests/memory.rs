@@ -3,7 +3,7 @@
 
 mod desk;
 
-use dequmlo::Sizes;
+use dequmlo::{Sizes, Widths};
 use desk::Desk;
 use std::fs::File;
 use std::os::raw::{c_int, c_long};
@@ -36,9 +36,9 @@ fn a_commitment_takes_what_is_lent() {
         desk.run(&format!(
             "commit large --profile balanced --force {threads}"
         ))
-        .says(0, &["(n = 18, k = 2)"]);
+        .says(0, &["(n = 18, k = 2, present widths)"]);
     }
-    let sizes = Sizes::of(18, 2).unwrap();
+    let sizes = Sizes::of(Widths::Present, 18, 2).unwrap();
     let words = sizes.table_words + sizes.gamma_words + sizes.codeword_words;
     let lent = 16 * words + sizes.tree_bytes;
     let taken = largest() - program;

@@ -30,13 +30,15 @@ fn files_are_sealed_and_opened_as_the_model_has_it() {
     let stored = concat!(env!("CARGO_MANIFEST_DIR"), "/tests/model.txt");
     for line in fs::read_to_string(stored).unwrap().lines() {
         let fields: Vec<&str> = line.split(' ').collect();
-        let (size, profile, root, claim, tail, records) = match &fields[..] {
-            [size, profile, root, claim, tail, records @ ..] => {
-                (size, profile, root, claim, tail, records)
+        let (size, profile, widths, root, claim, tail, records) = match &fields[..] {
+            [size, profile, widths, root, claim, tail, records @ ..] => {
+                (size, profile, widths, root, claim, tail, records)
             }
             _ => panic!("{line}"),
         };
-        let folder = Path::new(env!("CARGO_TARGET_TMPDIR")).join(format!("model-{size}-{profile}"));
+        let said = format!("{size} {profile} {widths}");
+        let folder = Path::new(env!("CARGO_TARGET_TMPDIR"))
+            .join(format!("model-{}", said.replace(' ', "-")));
         let _ = fs::remove_dir_all(&folder);
         fs::create_dir(&folder).unwrap();
         let bytes: Vec<u8> = (0..size.parse().unwrap())
@@ -44,12 +46,9 @@ fn files_are_sealed_and_opened_as_the_model_has_it() {
             .collect();
         fs::write(folder.join("f"), bytes).unwrap();
 
-        seal(&folder, &format!("commit f --profile {profile}"));
-        assert_eq!(
-            value(&folder.join("f.seal/root.txt")),
-            *root,
-            "{size} {profile}"
-        );
+        let commit = format!("commit f --profile {profile} --widths {widths}");
+        seal(&folder, &commit);
+        assert_eq!(value(&folder.join("f.seal/root.txt")), *root, "{said}");
         let records: Vec<(&str, &str)> =
             records.iter().map(|r| r.split_once(':').unwrap()).collect();
         let positions: Vec<&str> = records.iter().map(|(p, _)| *p).collect();
@@ -61,22 +60,11 @@ fn files_are_sealed_and_opened_as_the_model_has_it() {
             ),
         );
         let opening = folder.join("f.opening");
-        assert_eq!(
-            value(&opening.join("claim.txt")),
-            *claim,
-            "{size} {profile}"
-        );
-        assert_eq!(
-            digest(&opening.join("tail.record")),
-            *tail,
-            "{size} {profile}"
-        );
+        assert_eq!(value(&opening.join("claim.txt")), *claim, "{said}");
+        assert_eq!(digest(&opening.join("tail.record")), *tail, "{said}");
         for (position, expected) in records {
-            assert_eq!(
-                digest(&opening.join(format!("query-{position}.record"))),
-                expected,
-                "{size} {profile} at {position}"
-            );
+            let record = opening.join(format!("query-{position}.record"));
+            assert_eq!(digest(&record), expected, "{said} at {position}");
         }
     }
 }

@@ -87,13 +87,13 @@ fn a_seal_of_the_default_is_accepted_without_older() {
 #[test]
 fn commit_takes_the_default_where_no_profile_is_named_and_names_it() {
     let desk = Desk::opened("older-commit");
-    let parameters = "format 1\nn 6\nk 2\ndomain magnetar/pcs/default\n";
+    let parameters = "format 1\nn 6\nk 2\ndomain magnetar/pcs/default\nwidths present\n";
     assert_eq!(desk.text("plan.txt.seal/parameters.txt"), parameters);
     for (profile, k) in [("default", 2), ("firstdefault", 1)] {
         desk.run(&format!(
             "commit plan.txt --profile {profile} --out {profile}"
         ))
-        .says(0, &[&format!("(n = 6, k = {k})")]);
+        .says(0, &[&format!("(n = 6, k = {k}, present widths)")]);
     }
     let root = |seal: &str| desk.value(&format!("{seal}/root.txt"));
     assert_eq!(root("plan.txt.seal"), root("default"));
@@ -126,7 +126,7 @@ fn other_commands_take_older_as_well() {
         .says(1, &["plan.txt is not the file that was sealed", NOW]);
     desk.run(&format!("{open} --older"))
         .says(0, &["opened 1 position", THEN]);
-    let parameters = "format 1\nn 6\nk 1\ndomain magnetar/pcs/default\n";
+    let parameters = "format 1\nn 6\nk 1\ndomain magnetar/pcs/default\nwidths present\n";
     assert_eq!(desk.text("again/parameters.txt"), parameters);
     desk.run("show again").says(0, &["position 3: "]);
 
@@ -154,9 +154,9 @@ fn a_request_names_what_the_seal_does_not() {
     let of = "--seal plan.txt.seal --asked plan.txt.asked";
     desk.run("ask --seal plan.txt.seal --older")
         .says(0, &[THEN]);
-    let parameters = "format 1\nn 6\nk 1\ndomain magnetar/pcs/default\n";
+    let parameters = "format 1\nn 6\nk 1\ndomain magnetar/pcs/default\nwidths present\n";
     assert_eq!(desk.text("plan.txt.asked/parameters.txt"), parameters);
-    let another = "the request in plan.txt.asked is about another seal: it names another n, k or base domain. Note that the seal names neither k";
+    let another = "the request in plan.txt.asked is about another seal: it names another n, k, base domain or set of widths. Note that the seal names neither k";
     desk.run(&format!("open plan.txt {of}"))
         .says(2, &[another, "give --older"]);
     desk.run(&format!("open plan.txt {of} --older"))
@@ -218,7 +218,7 @@ fn half_named_is_damaged() {
         desk.write(name, format!("format 1\n{text}").as_bytes());
         desk.vouch("plan.txt.seal");
         desk.run(&format!("{CHECK_TWO} --older"))
-            .says(2, &["does not have its three lines n, k and domain"]);
+            .says(2, &["does not have its lines n, k, domain and widths"]);
     }
     // The check line is that of the text as it stands.
     desk.write(name, b"format 1\nn 6\n");
@@ -232,7 +232,7 @@ fn half_named_is_damaged() {
     desk.write("plan.txt.opening/parameters.txt", b"format 1\nn 6\n");
     desk.run(&format!("{CHECK_TWO} --older")).says(
         0,
-        &["note: the opening does not say for which n, k and base domain it was made"],
+        &["note: the opening does not say for which n, k, base domain and widths it was made"],
     );
 }
 

@@ -17,7 +17,7 @@ fn a_seal_and_an_opening_are_plain_files() {
     );
     assert_eq!(
         desk.text("plan.txt.seal/parameters.txt"),
-        "format 1\nn 6\nk 2\ndomain magnetar/pcs/default\n"
+        "format 1\nn 6\nk 2\ndomain magnetar/pcs/default\nwidths present\n"
     );
     let names = [
         "challenges.txt",
@@ -268,7 +268,7 @@ fn a_file_too_large() {
 fn parameters_of_one_s_own() {
     let desk = Desk::new("own-parameters");
     desk.write("f", b"words");
-    let parameters = "format 1\nn 1\nk 0\ndomain-hex 616e206f6666696365\n";
+    let parameters = "format 1\nn 1\nk 0\ndomain-hex 616e206f6666696365\nwidths present\n";
     desk.seal(["commit", "f", "--k", "0", "--domain", "an office"])
         .says(0, &["k = 0"]);
     assert_eq!(desk.text("f.seal/parameters.txt"), parameters);
@@ -309,6 +309,7 @@ fn explaining() {
     desk.run("explain 34")
         .says(2, &["`34` is no refusal's number; they go from 1 to 33"]);
     desk.run("explain 0").says(2, &[]);
+    assert!(all.contains("`seal explain older`") && all.contains("`seal explain widths`"));
 }
 
 #[test]

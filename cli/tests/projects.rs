@@ -51,7 +51,7 @@ fn sealed(name: &str) -> Desk {
     let desk = project(name);
     desk.run("commit house").says(
         0,
-        &["sealed the project house: 16 files, 1779 bytes in 16 parts\nroot "],
+        &["sealed the project house: 16 files, 1779 bytes in 16 parts, present widths\nroot "],
     );
     desk
 }

@@ -18,9 +18,17 @@ type Answers = BTreeMap<String, String>;
 
 /// A sealed file of 64 words, k = 2, opened at these positions; the challenges are the checker's own file.
 fn opened(name: &str, positions: &[usize]) -> Desk {
+    opened_under(name, "present", positions)
+}
+
+/// The same under a set of widths.
+fn opened_under(name: &str, widths: &str, positions: &[usize]) -> Desk {
     let desk = Desk::new(name);
     desk.write("plan.txt", &desk::plan());
-    desk.run("commit plan.txt --profile balanced").says(0, &[]);
+    desk.run(&format!(
+        "commit plan.txt --profile balanced --widths {widths}"
+    ))
+    .says(0, &[]);
     let open = "open plan.txt --seal plan.txt.seal --seed dice --at";
     desk.run(&format!("{open} {}", listed(positions)))
         .says(0, &[]);
@@ -163,7 +171,12 @@ fn the_witness_gives_the_values_of_the_specification() {
     let tried = witness(&Desk::new("witness-values"), "--try");
     tried.says(
         0,
-        &["12.4, the query record: yes", "12.4, the tail record: yes"],
+        &[
+            "12.4, the query record, present widths: yes",
+            "12.4, the tail record, present widths: yes",
+            "12.4, the query record, wide widths: yes",
+            "12.4, the tail record, wide widths: yes",
+        ],
     );
 }
 
@@ -179,8 +192,14 @@ fn the_witness_accepts_an_intact_opening() {
 
 #[test]
 fn the_witness_numbers_each_damage_of_a_level() {
+    for widths in ["present", "wide"] {
+        each_damage_of_a_level(widths);
+    }
+}
+
+fn each_damage_of_a_level(widths: &str) {
     let positions: Vec<usize> = (0..DAMAGES.len() * LEVELS.len()).map(|i| 7 * i).collect();
-    let desk = opened("witness-levels", &positions);
+    let desk = opened_under(&format!("witness-levels-{widths}"), widths, &positions);
     let cases = LEVELS
         .iter()
         .flat_map(|level| DAMAGES.iter().map(move |damage| (*level, damage)));
@@ -363,7 +382,7 @@ fn the_witness_numbers_each_damage_of_the_tail() {
 fn the_witness_accepts_what_earlier_versions_wrote() {
     let desk = Desk::new("witness-fixtures");
     let fixtures = concat!(env!("CARGO_MANIFEST_DIR"), "/tests/fixtures/v1");
-    for version in ["0.1.0", "0.2.0", "0.3.0", "0.4.0"] {
+    for version in ["0.1.0", "0.2.0", "0.3.0", "0.4.0", "0.5.0", "0.6.0"] {
         let folder = format!("{fixtures}/{version}");
         fs::copy(
             format!("{folder}/plan.txt.opening/challenges.txt"),
@@ -400,6 +419,65 @@ fn the_witness_on_a_seal_that_names_nothing() {
             let numbers = ["position 0", "position 3", "tail"].map(|name| &*said[name]);
             assert_eq!(numbers, [record, record, tail], "{profile}");
         }
+    }
+}
+
+/// A set that the seal names, one that it names by its absence, one that neither knows, and records of the other set.
+#[test]
+fn the_witness_on_sets_of_widths() {
+    let desk = opened_under("witness-widths", "wide", &[0, 7, 255]);
+    both(&desk, 0, &[0, 7, 255], "");
+    let name = "plan.txt.seal/parameters.txt";
+    let sound = desk.text(name);
+    for (line, status, record) in [
+        ("widths wide\n", 0, "yes"),
+        ("", 1, "14"),
+        ("widths present\n", 1, "14"),
+        ("widths broad\n", 2, ""),
+        ("widths\n", 2, ""),
+        ("widths wide\nwidths wide\n", 2, ""),
+    ] {
+        desk.write(name, sound.replace("widths wide\n", line).as_bytes());
+        desk.vouch("plan.txt.seal");
+        let said = both(&desk, status, &[0, 7, 255], "");
+        if status != 2 {
+            assert_eq!(
+                (&*said["position 7"], &*said["tail"]),
+                (record, "yes"),
+                "{line:?}"
+            );
+        }
+    }
+    // The other way round the record is the shorter one, and reads whole.
+    let desk = opened("witness-widths-present", &[0, 7, 255]);
+    renamed(&desk, name, "wide");
+    assert_eq!(both(&desk, 1, &[7], "")["position 7"], "16 at level 0");
+    renamed(&desk, name, "present");
+    both(&desk, 0, &[7], "");
+}
+
+/// Names another set in a seal's parameters.
+fn renamed(desk: &Desk, name: &str, widths: &str) {
+    let text = desk.text(name);
+    let (before, _) = text.split_once("widths ").unwrap();
+    desk.write(name, format!("{before}widths {widths}\n").as_bytes());
+    desk.vouch("plan.txt.seal");
+}
+
+/// With k 4 the last level has 16 words: two groups in the present set, eight in the wide one.
+#[test]
+fn the_witness_on_tails_of_both_sets() {
+    for (widths, other, number) in [("present", "wide", "27"), ("wide", "present", "14")] {
+        let desk = Desk::new(&format!("witness-tail-{widths}"));
+        desk.write("plan.txt", b"words");
+        let commit = format!("commit plan.txt --profile deepwrap --widths {widths}");
+        desk.run(&commit).says(0, &[]);
+        desk.run("open plan.txt --seal plan.txt.seal --seed dice --at 3")
+            .says(0, &[]);
+        desk.keep("challenges.txt");
+        both(&desk, 0, &[3], "");
+        renamed(&desk, "plan.txt.seal/parameters.txt", other);
+        assert_eq!(both(&desk, 1, &[3], "")["tail"], number, "{widths}");
     }
 }
 
@@ -473,13 +551,16 @@ fn the_witness_checks_a_file_of_a_project() {
         let file = desk.path("house").join(OsStr::from_bytes(path));
         fs::write(file, &desk::plan()[..(i * 150) % 750]).unwrap();
     }
-    for (profile, path, offset) in [
-        ("balanced", paths[4], "599,0"),
-        ("deepwrap", paths[2], "17"),
-        ("default", paths[1], "0"),
+    for (profile, widths, path, offset) in [
+        ("balanced", "present", paths[4], "599,0"),
+        ("balanced", "wide", paths[4], "599,0"),
+        ("deepwrap", "present", paths[2], "17"),
+        ("default", "present", paths[1], "0"),
     ] {
-        desk.run(&format!("commit house --profile {profile} --force"))
-            .says(0, &[]);
+        desk.run(&format!(
+            "commit house --profile {profile} --widths {widths} --force"
+        ))
+        .says(0, &[]);
         let open =
             format!("open house --seal house.seal --seed dice --force --offset {offset} --file");
         let words = open

@@ -243,7 +243,7 @@ impl QueryBase {
         let record = file.part(damage, &damaged, self.front()..damaged.len());
         let (domain, n, k) = (domain_of(self.number, self.domain.len()), self.n, self.k);
         file.request(format!(
-            "check_query {domain} {n} {k} {position} {challenges} {roots} {record}"
+            "check_query {domain} 0 {n} {k} {position} {challenges} {roots} {record}"
         ));
     }
 
@@ -361,7 +361,7 @@ impl TailBase {
         let record = file.part(damage, &damaged, 48..damaged.len());
         let (domain, n, k) = (domain_of(self.number, self.domain.len()), self.n, self.k);
         file.request(format!(
-            "check_tail {domain} {n} {k} {root} {claim} {record}"
+            "check_tail {domain} 0 {n} {k} {root} {claim} {record}"
         ));
     }
 

@@ -52,6 +52,7 @@ A request is a line: its name, then its arguments, apart by blanks.
   bytes    hexadecimal, two digits a byte; a domain is bytes in UTF-8
   digests  32 bytes each, end to end
   number   decimal
+  widths   0: the present set of widths, which is the Rust's
   room     decimal: how long an output is, in halves of words or in bytes; the Rust makes its own
 A lone - is no words, bytes or digests. README.md has the shorter forms of long arguments.
 An answer is numbers, then outputs: words and bytes as above, past 64 bytes # and the first 16
@@ -229,9 +230,9 @@ const REQUESTS: &[Request] = &[
     },
     Request {
         name: "fold_tree_width",
-        arguments: "length:number",
+        arguments: "widths:number length:number",
         answer: "number",
-        call: |args| Ok(query::fold_tree_width(args.number("length")?).to_string()),
+        call: fold_tree_width,
     },
     Request {
         name: "level_domain",
@@ -247,26 +248,26 @@ const REQUESTS: &[Request] = &[
     },
     Request {
         name: "commit",
-        arguments: "n:number k:number domain table:words three rooms",
+        arguments: "widths:number n:number k:number domain table:words three rooms",
         answer: "0, gammas, codeword, digests of the level 0 tree (commit_table)",
         call: commit,
     },
     Request {
         name: "build_query",
-        arguments: "n:number k:number position:number levels:words trees:digests room",
+        arguments: "widths:number n:number k:number position:number levels:words trees:digests room",
         answer: "0, bytes: build_query over lent levels and trees",
         call: build_query,
     },
     Request {
         name: "check_query",
         arguments:
-            "domain n:number k:number position:number challenges:words roots:digests record:bytes",
+            "domain widths:number n:number k:number position:number challenges:words roots:digests record:bytes",
         answer: "number, level (step 5; 14 is ours)",
         call: check_query,
     },
     Request {
         name: "check_tail",
-        arguments: "domain n:number k:number root:digest claim:word record:bytes",
+        arguments: "domain widths:number n:number k:number root:digest claim:word record:bytes",
         answer: "number (step 6; 14 is ours)",
         call: check_tail,
     },
@@ -334,7 +335,7 @@ const REQUESTS: &[Request] = &[
     Request {
         name: "check_query_sha3",
         arguments:
-            "domain n:number k:number nonce:number challenges:words roots:digests record:bytes",
+            "domain widths:number n:number k:number nonce:number challenges:words roots:digests record:bytes",
         answer: "the position drawn by the published Transcript, number",
         call: check_query_sha3,
     },
@@ -356,6 +357,16 @@ fn some(bytes: &[u8]) -> String {
 /// A `panic` is to be the Rust's own: what the oracle itself needs is asked first.
 fn want(holds: bool, what: &str) -> Result<(), Bad> {
     holds.then_some(()).ok_or(format!("wanted: {what}"))
+}
+
+/// The set of widths: the Rust has one.
+fn present(args: &mut Args) -> Result<(), Bad> {
+    want(args.number("widths")? == 0, "the present set of widths, 0")
+}
+
+fn fold_tree_width(args: &mut Args) -> Result<String, Bad> {
+    present(args)?;
+    Ok(query::fold_tree_width(args.number("length")?).to_string())
 }
 
 fn pack_table(args: &mut Args) -> Result<String, Bad> {
@@ -547,6 +558,7 @@ fn profile(args: &mut Args) -> Result<String, Bad> {
 }
 
 fn commit(args: &mut Args) -> Result<String, Bad> {
+    present(args)?;
     let (n, k, domain) = (args.number("n")?, args.number("k")?, args.domain()?);
     let table = args.words("table")?;
     want(table.len() == 1 << n, "2^n words")?;
@@ -592,6 +604,7 @@ fn query_record(args: &mut Args) -> Result<String, Bad> {
 }
 
 fn build_query(args: &mut Args) -> Result<String, Bad> {
+    present(args)?;
     let (n, k) = (args.number("n")?, args.number("k")?);
     let position = args.number("position")?;
     let (values, digests) = (args.words("levels")?, args.digests("trees")?);
@@ -630,7 +643,9 @@ fn with_claim(
     place: &str,
     call: impl Fn(&Claim, usize, &[u8]) -> Result<String, Bad>,
 ) -> Result<String, Bad> {
-    let (domain, n, k) = (args.domain()?, args.number("n")?, args.number("k")?);
+    let domain = args.domain()?;
+    present(args)?;
+    let (n, k) = (args.number("n")?, args.number("k")?);
     let place = args.number(place)?;
     let (challenges, roots) = (args.words("challenges")?, args.digests("roots")?);
     want(
@@ -664,7 +679,9 @@ fn check_query_sha3(args: &mut Args) -> Result<String, Bad> {
 }
 
 fn check_tail(args: &mut Args) -> Result<String, Bad> {
-    let (domain, n, k) = (args.domain()?, args.number("n")?, args.number("k")?);
+    let domain = args.domain()?;
+    present(args)?;
+    let (n, k) = (args.number("n")?, args.number("k")?);
     let (root, claim) = (args.digest("root")?, args.word("claim")?);
     let record = args.bytes("record")?;
     Ok(query::check_tail_bytes(n, k, &domain, root, claim, &record).to_string())

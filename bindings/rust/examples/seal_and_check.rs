@@ -1,12 +1,13 @@
 //! An office seals a table and keeps the root; a holder shows one record of it; the office checks the record and the tail.
 
-use dequmlo::{Deposit, Parameters, Refusal, Statement, Word};
+use dequmlo::{Deposit, Parameters, Refusal, Statement, Widths, Word};
 
 fn main() -> Result<(), Refusal> {
     // The holder's table: 2^10 words.
     let table: Vec<Word> = (0..1024u128).map(|i| Word(i * i)).collect();
     let Parameters { k, domain, .. } = Parameters::balanced();
-    let deposit = Deposit::commit(&domain, k, &table)?;
+    let widths = Widths::default();
+    let deposit = Deposit::commit(&domain, widths, k, &table)?;
     let root = deposit.root();
     println!("the office keeps the root {root}");
 
@@ -18,7 +19,7 @@ fn main() -> Result<(), Refusal> {
 
     // The checker trusts its own root alone.
     roots[0] = root;
-    let statement = Statement::new(&domain, 10, k, &challenges, &roots)?;
+    let statement = Statement::new(&domain, widths, 10, k, &challenges, &roots)?;
     statement.check_query(position, &record)?;
     statement.check_tail(folded.claim(), &tail)?;
     println!("position {position}: accepted; tail: accepted");

@@ -5,7 +5,7 @@
 //! All cores, 3 rounds and 18,2 where nothing is said. A line has what was timed, n, k, how many threads, `kept` or `new`, the nanoseconds of the best
 //! round, and how many times faster that is than one thread, with tabs between; bench/run reads them.
 
-use dequmlo::{Buffers, Deposit, Root, Threads, Word};
+use dequmlo::{Buffers, Deposit, Root, Threads, Widths, Word};
 use std::mem;
 use std::time::{Duration, Instant};
 
@@ -60,7 +60,7 @@ impl Way {
         } else {
             Buffers::default()
         };
-        let commit = || Deposit::commit_in(buffers, on, BASE, k, table);
+        let commit = || Deposit::commit_in(buffers, on, BASE, Widths::Present, k, table);
         let deposit = timed(&mut self.commit, commit).expect("it can be committed");
         let fold = || deposit.fold_on(on, challenges);
         let folded = timed(&mut self.fold, fold).expect("it can be folded");

@@ -7,11 +7,11 @@ use std::fmt;
 /// small for a deposit gives way to a new one; one that is larger serves with its front. What they hold is never read before it is written.
 ///
 /// ```
-/// use dequmlo::{Buffers, Deposit, Threads, Word};
+/// use dequmlo::{Buffers, Deposit, Threads, Widths, Word};
 /// let mut buffers = Buffers::default();
 /// for table in [[Word(5), Word(9)], [Word(6), Word(7)]] {
-///     let deposit = Deposit::commit_in(buffers, Threads::of(1), b"example", 1, &table)?;
-///     assert_eq!(deposit.root(), Deposit::commit(b"example", 1, &table)?.root());
+///     let deposit = Deposit::commit_in(buffers, Threads::of(1), b"example", Widths::Present, 1, &table)?;
+///     assert_eq!(deposit.root(), Deposit::commit(b"example", Widths::Present, 1, &table)?.root());
 ///     buffers = deposit.into_buffers();
 /// }
 /// # Ok::<(), dequmlo::Refusal>(())
@@ -98,6 +98,7 @@ fn large_enough<T: Clone + Default>(kept: Vec<T>, needed: usize) -> Vec<T> {
 mod tests {
     use super::Buffers;
     use crate::sizes::Sizes;
+    use crate::widths::Widths;
 
     /// Where each buffer lies, and its length.
     fn places(buffers: &Buffers) -> [(usize, usize); 3] {
@@ -111,7 +112,7 @@ mod tests {
     /// Each of the three by itself: n = 4, k = 4 has more gammas than n = 8, k = 1, and fewer words and digests.
     #[test]
     fn what_is_large_enough_is_kept() {
-        let sizes = |n, k| Sizes::of(n, k).unwrap();
+        let sizes = |n, k| Sizes::of(Widths::Present, n, k).unwrap();
         let mut buffers = Buffers::default().with_room(&sizes(8, 1));
         let first = places(&buffers);
         for (n, k) in [(8, 1), (3, 2), (1, 0), (8, 1)] {

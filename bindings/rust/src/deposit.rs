@@ -9,6 +9,7 @@ use crate::root::Root;
 use crate::sizes::Sizes;
 use crate::threads::{Commitment, Threads};
 use crate::tree::root_of;
+use crate::widths::Widths;
 use crate::word::{halves, words, Word};
 use std::fmt;
 
@@ -28,18 +29,24 @@ impl fmt::Debug for Deposit {
 }
 
 impl Deposit {
-    /// Commits a table of 2^n words, n from 1 to 20, under a base domain of at most 200 bytes. Refused with 5 where the length is no power
-    /// of two, with 4 where n or k is out of range, with 7 where the base domain is too long.
+    /// Commits a table of 2^n words, n from 1 to 20, under a base domain of at most 200 bytes, in groups of a set of widths. Refused with 5 where
+    /// the length is no power of two, with 4 where n or k is out of range, with 7 where the base domain is too long. Whoever checks needs the
+    /// same base domain, set of widths and k.
     ///
     /// ```
-    /// use dequmlo::{Deposit, Word};
-    /// let deposit = Deposit::commit(b"example", 1, &[Word(5), Word(9)])?;
+    /// use dequmlo::{Deposit, Widths, Word};
+    /// let deposit = Deposit::commit(b"example", Widths::Present, 1, &[Word(5), Word(9)])?;
     /// assert_eq!(deposit.codeword()[..2], [Word(5), Word(9)]);
-    /// assert_eq!(Deposit::commit(b"example", 5, &[Word(5), Word(9)]).err().unwrap().number, 4);
+    /// assert_eq!(Deposit::commit(b"example", Widths::Present, 5, &[Word(5), Word(9)]).err().unwrap().number, 4);
     /// # Ok::<(), dequmlo::Refusal>(())
     /// ```
-    pub fn commit(base: &[u8], k: usize, table: &[Word]) -> Result<Deposit, Refusal> {
-        Deposit::commit_on(Threads::of(1), base, k, table)
+    pub fn commit(
+        base: &[u8],
+        widths: Widths,
+        k: usize,
+        table: &[Word],
+    ) -> Result<Deposit, Refusal> {
+        Deposit::commit_on(Threads::of(1), base, widths, k, table)
     }
 
     /// The same on this many threads, which give the same bytes: blocks of the codeword and halves of them, and the leaves and parents of its
@@ -47,22 +54,24 @@ impl Deposit {
     pub fn commit_on(
         threads: Threads,
         base: &[u8],
+        widths: Widths,
         k: usize,
         table: &[Word],
     ) -> Result<Deposit, Refusal> {
-        Deposit::commit_in(Buffers::default(), threads, base, k, table)
+        Deposit::commit_in(Buffers::default(), threads, base, widths, k, table)
     }
 
-    /// The same in the buffers of an earlier deposit, of whatever n and k, which it has left ([`Deposit::into_buffers`], [`Folded::into_buffers`]); nothing
+    /// The same in the buffers of an earlier deposit, of whatever widths, n and k, which it has left ([`Deposit::into_buffers`], [`Folded::into_buffers`]); nothing
     /// of that one shows in this one. Where it is refused, the buffers are gone.
     pub fn commit_in(
         buffers: Buffers,
         threads: Threads,
         base: &[u8],
+        widths: Widths,
         k: usize,
         table: &[Word],
     ) -> Result<Deposit, Refusal> {
-        let sizes = Sizes::of(variables(table.len())?, k)?;
+        let sizes = Sizes::of(widths, variables(table.len())?, k)?;
         let mut buffers = buffers.with_room(&sizes);
         let (gammas, codeword, tree) = buffers.committed_mut(&sizes);
         let table = halves(table);
@@ -89,7 +98,7 @@ impl Deposit {
         self.buffers
     }
 
-    /// What n and k fix.
+    /// What the set of widths, n and k fix.
     #[must_use]
     pub fn sizes(&self) -> Sizes {
         self.sizes
@@ -121,6 +130,7 @@ impl Deposit {
             let mut roots = vec![0u8; sizes.roots_bytes];
             Refusal::unless_done(unsafe {
                 raw::dequmlo_fold_levels(
+                    sizes.widths.number(),
                     sizes.n,
                     sizes.k,
                     base.as_ptr(),
@@ -185,6 +195,7 @@ fn commit_whole(
 ) -> Result<(), Refusal> {
     Refusal::unless_done(unsafe {
         raw::dequmlo_commit(
+            sizes.widths.number(),
             sizes.n,
             sizes.k,
             base.as_ptr(),
@@ -217,6 +228,7 @@ impl fmt::Debug for Folded {
 
 fn described(f: &mut fmt::Formatter, name: &str, sizes: &Sizes, root: &Root) -> fmt::Result {
     f.debug_struct(name)
+        .field("widths", &sizes.widths)
         .field("n", &sizes.n)
         .field("k", &sizes.k)
         .field("root", &format_args!("{root}"))
@@ -257,6 +269,7 @@ impl Folded {
                 levels.len(),
                 trees.as_ptr(),
                 trees.len(),
+                self.sizes.widths.number(),
                 self.sizes.n,
                 self.sizes.k,
                 position,
@@ -279,6 +292,7 @@ impl Folded {
                 level.len(),
                 tree.as_ptr(),
                 tree.len(),
+                self.sizes.widths.number(),
                 self.sizes.n,
                 self.sizes.k,
             )

@@ -6,12 +6,12 @@
 //! contract.
 //!
 //! ```
-//! use dequmlo::{Deposit, Parameters, Statement, Word};
+//! use dequmlo::{Deposit, Parameters, Statement, Widths, Word};
 //!
-//! // The holder commits a table of 2^n words and keeps it; the office keeps the root.
-//! let parameters = Parameters::balanced();
+//! // The holder commits a table of 2^n words and keeps it; the office keeps the root, with k, the base domain and the set of widths.
+//! let (parameters, widths) = (Parameters::balanced(), Widths::Present);
 //! let table: Vec<Word> = (0..8u128).map(Word).collect();
-//! let deposit = Deposit::commit(&parameters.domain, parameters.k, &table)?;
+//! let deposit = Deposit::commit(&parameters.domain, widths, parameters.k, &table)?;
 //! let root = deposit.root();
 //!
 //! // The checker draws one challenge for each variable; the holder folds by them and shows a record.
@@ -22,7 +22,7 @@
 //! // The checker puts its own root in front of the roots that the holder states.
 //! let mut roots = folded.roots();
 //! roots[0] = root;
-//! let statement = Statement::new(&parameters.domain, 3, parameters.k, &challenges, &roots)?;
+//! let statement = Statement::new(&parameters.domain, widths, 3, parameters.k, &challenges, &roots)?;
 //! statement.check_query(5, &record)?;
 //!
 //! // A damaged record is refused, with the number of the check that failed.
@@ -48,6 +48,7 @@ mod root;
 mod sizes;
 mod threads;
 pub mod tree;
+mod widths;
 mod word;
 
 pub use block::Block;
@@ -60,4 +61,5 @@ pub use root::{ParseRootError, Root};
 pub use sizes::Sizes;
 pub use threads::Threads;
 pub use tree::digest;
+pub use widths::{ParseWidthsError, Widths};
 pub use word::{ParseWordError, Word};

@@ -88,9 +88,10 @@ pub struct Parameters {
 }
 
 extern "C" {
-    pub fn dequmlo_sizes(n: usize, k: usize) -> Sizes;
+    pub fn dequmlo_sizes(widths: u32, n: usize, k: usize) -> Sizes;
     pub fn dequmlo_digest(input: *const u8, input_length: usize) -> Digested;
     pub fn dequmlo_commit(
+        widths: u32,
         n: usize,
         k: usize,
         base: *const u8,
@@ -115,6 +116,7 @@ extern "C" {
         out_length: usize,
     ) -> Folded;
     pub fn dequmlo_fold_levels(
+        widths: u32,
         n: usize,
         k: usize,
         base: *const u8,
@@ -130,7 +132,7 @@ extern "C" {
         roots: *mut u8,
         roots_length: usize,
     ) -> u32;
-    pub fn dequmlo_fold_tree_width(length: usize) -> usize;
+    pub fn dequmlo_fold_tree_width(widths: u32, length: usize) -> usize;
     pub fn dequmlo_level_domain_length(
         base: *const u8,
         base_length: usize,
@@ -144,6 +146,7 @@ extern "C" {
         out_length: usize,
     ) -> u32;
     pub fn dequmlo_level_tree(
+        widths: u32,
         n: usize,
         k: usize,
         level: usize,
@@ -184,6 +187,7 @@ extern "C" {
         out_length: usize,
     ) -> u32;
     pub fn dequmlo_level_leaves(
+        widths: u32,
         n: usize,
         k: usize,
         level: usize,
@@ -287,6 +291,7 @@ extern "C" {
         levels_length: usize,
         trees: *const u8,
         trees_length: usize,
+        widths: u32,
         n: usize,
         k: usize,
         position: usize,
@@ -294,6 +299,7 @@ extern "C" {
     pub fn dequmlo_check_query(
         base: *const u8,
         base_length: usize,
+        widths: u32,
         n: usize,
         k: usize,
         position: usize,
@@ -311,12 +317,14 @@ extern "C" {
         level_length: usize,
         tree: *const u8,
         tree_length: usize,
+        widths: u32,
         n: usize,
         k: usize,
     ) -> u32;
     pub fn dequmlo_check_tail(
         base: *const u8,
         base_length: usize,
+        widths: u32,
         n: usize,
         k: usize,
         root: *const u8,
@@ -328,6 +336,7 @@ extern "C" {
     pub fn dequmlo_compare(
         base: *const u8,
         base_length: usize,
+        widths: u32,
         n: usize,
         k: usize,
         position: usize,

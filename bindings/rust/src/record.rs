@@ -4,6 +4,7 @@ use crate::raw;
 use crate::refusal::Refusal;
 use crate::root::Root;
 use crate::sizes::Sizes;
+use crate::widths::Widths;
 use crate::word::{halves, Word};
 
 /// The bytes of a query record. Bytes that came from elsewhere may be anything: the check says what they are worth.
@@ -140,7 +141,10 @@ pub struct Collision {
     pub second: Vec<u8>,
 }
 
-/// What records are checked under: the base domain, n, k, one challenge for each variable, and the roots of levels 0 to n.
+/// The bytes of a buffer for a message of a comparison; the longest has 818.
+const MESSAGE_BYTES: usize = 1024;
+
+/// What records are checked under: the base domain, the set of widths, n, k, one challenge for each variable, and the roots of levels 0 to n.
 #[derive(Clone, Debug, PartialEq, Eq)]
 pub struct Statement {
     base: Vec<u8>,
@@ -154,12 +158,13 @@ impl Statement {
     /// the base domain has more than 200 bytes.
     pub fn new(
         base: &[u8],
+        widths: Widths,
         n: usize,
         k: usize,
         challenges: &[Word],
         roots: &[Root],
     ) -> Result<Statement, Refusal> {
-        let sizes = Sizes::of(n, k)?;
+        let sizes = Sizes::of(widths, n, k)?;
         if challenges.len() != n || roots.len() != n + 1 {
             return Err(Refusal::of(5));
         }
@@ -174,7 +179,7 @@ impl Statement {
         })
     }
 
-    /// What n and k fix.
+    /// What the set of widths, n and k fix.
     #[must_use]
     pub fn sizes(&self) -> Sizes {
         self.sizes
@@ -186,6 +191,7 @@ impl Statement {
             raw::dequmlo_check_query(
                 self.base.as_ptr(),
                 self.base.len(),
+                self.sizes.widths.number(),
                 self.sizes.n,
                 self.sizes.k,
                 position,
@@ -214,6 +220,7 @@ impl Statement {
             raw::dequmlo_check_tail(
                 self.base.as_ptr(),
                 self.base.len(),
+                self.sizes.widths.number(),
                 self.sizes.n,
                 self.sizes.k,
                 root.as_ptr(),
@@ -233,12 +240,13 @@ impl Statement {
         first: &QueryRecord,
         second: &QueryRecord,
     ) -> Result<Collision, Refusal> {
-        let mut messages = [[0u8; 512]; 2];
+        let mut messages = [[0u8; MESSAGE_BYTES]; 2];
         let [a, b] = &mut messages;
         let answer = unsafe {
             raw::dequmlo_compare(
                 self.base.as_ptr(),
                 self.base.len(),
+                self.sizes.widths.number(),
                 self.sizes.n,
                 self.sizes.k,
                 position,

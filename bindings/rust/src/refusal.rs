@@ -96,7 +96,11 @@ const PROGRAM: &str =
 const AGAIN: &str = "Ask for the record again: it was changed, or it was made for another seal, another position or other challenges.";
 const OTHER_SIZE: &str =
     "Ask for a record of this seal: this one was made for a file of another size.";
+const OTHER_WIDTH: &str =
+    "Ask for a record of this seal: this one was made for a file of another size, or under the other set of widths.";
 const OTHER_TAIL: &str = "Ask for the tail record of this seal: this one was made for another k.";
+const OTHER_GROUPS: &str =
+    "Ask for the tail record of this seal: this one was made for another k, or under the other set of widths.";
 const PARAMETERS: &str =
     "Look at the seal's parameters.txt, or at --k and --domain: no deposit has these parameters.";
 
@@ -105,10 +109,15 @@ pub const EXPLANATIONS: [Explanation; 33] = [
     explained(1, "the word to invert is 0, which has no inverse", PROGRAM),
     explained(2, "the number of bytes to pack is not a multiple of 128", PROGRAM),
     explained(3, "a byte to pack is neither 0 nor 1", PROGRAM),
-    explained(4, "n is above 20, or k is above 4, or n is 0 where there must be a level, or there is no such level", PARAMETERS),
+    explained(
+        4,
+        "n is above 20, or k is above 4, or n is 0 where there must be a level, or there is no such level, or the set of widths is neither the \
+         present nor the wide one",
+        PARAMETERS,
+    ),
     explained(
         5,
-        "a list does not have the length that n, k or a count fixes, or is not whole words or blocks",
+        "a list does not have the length that n, k, the set of widths or a count fixes, or is not whole words or blocks",
         "Ask for the challenges and the roots again: there is one challenge for each level, and one root more.",
     ),
     explained(6, "the variable to fold at is not below n", PROGRAM),
@@ -133,7 +142,7 @@ pub const EXPLANATIONS: [Explanation; 33] = [
         "Ask for the file again: it was cut short or added to on the way, or it is no record of this kind.",
     ),
     explained(15, "the record does not have one part for each level of the seal", OTHER_SIZE),
-    explained(16, "the group of a does not have the number of words that a group of this level has", OTHER_SIZE),
+    explained(16, "the group of a does not have the number of words that a group of this level has", OTHER_WIDTH),
     explained(17, "the path of a does not have the length that a path of this level has", OTHER_SIZE),
     explained(
         18,
@@ -157,7 +166,7 @@ pub const EXPLANATIONS: [Explanation; 33] = [
         "a and b do not fold to c: a + r × (a + b) is not c, where r is the checker's challenge",
         "Ask by which challenges the holder made the opening: the next level was not made by the checker's challenge.",
     ),
-    explained(27, "the tail record does not have as many groups as the last level", OTHER_TAIL),
+    explained(27, "the tail record does not have as many groups as the last level", OTHER_GROUPS),
     explained(28, "a group of the tail record does not have the number of words that a group of the last level has", OTHER_TAIL),
     explained(29, "a path of the tail record does not have the length that a path of the last level has", OTHER_TAIL),
     explained(

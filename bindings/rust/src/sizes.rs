@@ -1,19 +1,25 @@
-//! The sizes that n and k fix. The archive refuses any other with 5.
+//! The sizes that the set of widths, n and k fix. The archive refuses any other with 5.
 
 use crate::raw;
 use crate::refusal::Refusal;
+use crate::widths::Widths;
 
-/// What n and k fix: how many words and bytes each buffer has.
+/// What the set of widths, n and k fix: how many words and bytes each buffer has. Trees and records are those of the set; the rest is the same under both.
 ///
 /// ```
-/// let sizes = dequmlo::Sizes::of(18, 2).unwrap();
+/// use dequmlo::{Sizes, Widths};
+/// let sizes = Sizes::of(Widths::Present, 18, 2).unwrap();
 /// assert_eq!(sizes.codeword_words, 1 << 20);
 /// assert_eq!(sizes.query_bytes, 14_884);
 /// assert_eq!(sizes.tail_bytes, 148);
-/// assert_eq!(dequmlo::Sizes::of(21, 0).unwrap_err().number, 4);
+/// let wide = Sizes::of(Widths::Wide, 18, 2).unwrap();
+/// assert_eq!((wide.codeword_words, wide.query_bytes), (1 << 20, 24_036));
+/// assert_eq!(Sizes::of(Widths::Present, 21, 0).unwrap_err().number, 4);
 /// ```
 #[derive(Clone, Copy, Debug, PartialEq, Eq)]
 pub struct Sizes {
+    /// The set of the groups' widths.
+    pub widths: Widths,
     /// n: the table has 2^n words.
     pub n: usize,
     /// k: the codeword has 2^k blocks.
@@ -46,10 +52,11 @@ pub struct Sizes {
 
 impl Sizes {
     /// The sizes for n from 1 to 20 and k up to 4; any others are refused with 4.
-    pub fn of(n: usize, k: usize) -> Result<Sizes, Refusal> {
-        let sizes = unsafe { raw::dequmlo_sizes(n, k) };
+    pub fn of(widths: Widths, n: usize, k: usize) -> Result<Sizes, Refusal> {
+        let sizes = unsafe { raw::dequmlo_sizes(widths.number(), n, k) };
         Refusal::unless_done(sizes.number)?;
         Ok(Sizes {
+            widths,
             n,
             k,
             table_words: sizes.table,
@@ -70,74 +77,83 @@ impl Sizes {
 
 #[cfg(test)]
 mod tests {
-    use super::Sizes;
+    use super::{Sizes, Widths};
     use crate::raw;
 
     /// The archive asks for lengths (5) before it asks for the position (11) or the base domain (7), so these answers say that every
     /// length was the one that it wants. The buffers are never touched.
     #[test]
     fn the_archive_wants_these_sizes() {
-        for (n, k) in (1..=20).flat_map(|n| (0..=4).map(move |k| (n, k))) {
-            let sizes = Sizes::of(n, k).unwrap();
-            let mut levels = vec![0u64; 2 * sizes.levels_words];
-            let mut trees = vec![0u8; sizes.trees_bytes];
-            let mut out = vec![0u8; sizes.query_bytes];
-            let built = unsafe {
-                raw::dequmlo_build_query(
-                    out.as_mut_ptr(),
-                    out.len(),
-                    levels.as_ptr(),
-                    levels.len(),
-                    trees.as_ptr(),
-                    trees.len(),
-                    n,
-                    k,
-                    usize::MAX,
-                )
-            };
-            assert_eq!(built, 11, "n {n} k {k}");
-            let table = vec![0u64; 2 * sizes.table_words];
-            let mut gammas = vec![0u64; 2 * sizes.gamma_words];
-            let base = [0u8; 201];
-            let committed = unsafe {
-                raw::dequmlo_commit(
-                    n,
-                    k,
-                    base.as_ptr(),
-                    base.len(),
-                    table.as_ptr(),
-                    table.len(),
-                    gammas.as_mut_ptr(),
-                    gammas.len(),
-                    levels.as_mut_ptr(),
-                    2 * sizes.codeword_words,
-                    trees.as_mut_ptr(),
-                    sizes.tree_bytes,
-                )
-            };
-            assert_eq!(committed, 7, "n {n} k {k}");
-            let challenges = vec![0u64; 2 * n];
-            let mut half = vec![0u64; 2 * sizes.half_words];
-            let mut roots = vec![0u8; sizes.roots_bytes];
-            let folded = unsafe {
-                raw::dequmlo_fold_levels(
-                    n,
-                    k,
-                    base.as_ptr(),
-                    base.len(),
-                    challenges.as_ptr(),
-                    challenges.len(),
-                    levels.as_mut_ptr(),
-                    levels.len(),
-                    half.as_mut_ptr(),
-                    half.len(),
-                    trees.as_mut_ptr(),
-                    trees.len(),
-                    roots.as_mut_ptr(),
-                    roots.len(),
-                )
-            };
-            assert_eq!(folded, 7, "n {n} k {k}");
+        for widths in Widths::ALL {
+            for (n, k) in (1..=20).flat_map(|n| (0..=4).map(move |k| (n, k))) {
+                wants(Sizes::of(widths, n, k).unwrap());
+            }
         }
+    }
+
+    fn wants(sizes: Sizes) {
+        let Sizes { widths, n, k, .. } = sizes;
+        let mut levels = vec![0u64; 2 * sizes.levels_words];
+        let mut trees = vec![0u8; sizes.trees_bytes];
+        let mut out = vec![0u8; sizes.query_bytes];
+        let built = unsafe {
+            raw::dequmlo_build_query(
+                out.as_mut_ptr(),
+                out.len(),
+                levels.as_ptr(),
+                levels.len(),
+                trees.as_ptr(),
+                trees.len(),
+                widths.number(),
+                n,
+                k,
+                usize::MAX,
+            )
+        };
+        assert_eq!(built, 11, "{widths} n {n} k {k}");
+        let table = vec![0u64; 2 * sizes.table_words];
+        let mut gammas = vec![0u64; 2 * sizes.gamma_words];
+        let base = [0u8; 201];
+        let committed = unsafe {
+            raw::dequmlo_commit(
+                widths.number(),
+                n,
+                k,
+                base.as_ptr(),
+                base.len(),
+                table.as_ptr(),
+                table.len(),
+                gammas.as_mut_ptr(),
+                gammas.len(),
+                levels.as_mut_ptr(),
+                2 * sizes.codeword_words,
+                trees.as_mut_ptr(),
+                sizes.tree_bytes,
+            )
+        };
+        assert_eq!(committed, 7, "{widths} n {n} k {k}");
+        let challenges = vec![0u64; 2 * n];
+        let mut half = vec![0u64; 2 * sizes.half_words];
+        let mut roots = vec![0u8; sizes.roots_bytes];
+        let folded = unsafe {
+            raw::dequmlo_fold_levels(
+                widths.number(),
+                n,
+                k,
+                base.as_ptr(),
+                base.len(),
+                challenges.as_ptr(),
+                challenges.len(),
+                levels.as_mut_ptr(),
+                levels.len(),
+                half.as_mut_ptr(),
+                half.len(),
+                trees.as_mut_ptr(),
+                trees.len(),
+                roots.as_mut_ptr(),
+                roots.len(),
+            )
+        };
+        assert_eq!(folded, 7, "{widths} n {n} k {k}");
     }
 }

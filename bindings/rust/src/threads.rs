@@ -1,6 +1,6 @@
 //! The work divided over threads. Each part is one call of a proved entry into a slice of its own; that consecutive parts are the whole, whatever
 //! the division, is a proved law (crates/theory_laws/proofs/Parts.antt, and Joined.antt of code_parts and tree_parts). Nothing is done here but
-//! dividing: lengths are those of the slices, and what a level has is made by the entries from n, k, its number and the base domain.
+//! dividing: lengths are those of the slices, and what a level has is made by the entries from the set of widths, n, k, its number and the base domain.
 
 use crate::raw;
 use crate::refusal::Refusal;
@@ -16,10 +16,10 @@ use std::thread;
 /// How many threads do the work. One thread has the whole in a single call; every number gives the same bytes.
 ///
 /// ```
-/// use dequmlo::{Deposit, Threads, Word};
+/// use dequmlo::{Deposit, Threads, Widths, Word};
 /// let table: Vec<Word> = (0..1024u128).map(Word).collect();
-/// let one = Deposit::commit(b"example", 2, &table)?;
-/// let three = Deposit::commit_on(Threads::of(3), b"example", 2, &table)?;
+/// let one = Deposit::commit(b"example", Widths::Present, 2, &table)?;
+/// let three = Deposit::commit_on(Threads::of(3), b"example", Widths::Present, 2, &table)?;
 /// assert_eq!(one.root(), three.root());
 /// # Ok::<(), dequmlo::Refusal>(())
 /// ```
@@ -46,10 +46,10 @@ impl Threads {
     }
 }
 
-/// How many entries of a fold, or leaves with the parents above them, are a part: enough that handing one out costs nothing beside it, and few
-/// enough that a part stays in a core's cache and that no thread waits long for the last one.
+/// How many entries of a fold, or words under leaves with the parents above them, are a part: enough that handing one out costs nothing beside it, and
+/// few enough that a part stays in a core's cache and that no thread waits long for the last one. A part of a tree has 512 leaves of 8 words, or 128 of 32.
 const ENTRIES: usize = 1 << 13;
-const LEAVES: usize = 1 << 9;
+const WORDS: usize = 1 << 12;
 
 /// Digests of a tree, 32 bytes each, made already or not.
 type Digests = [u8];
@@ -183,7 +183,7 @@ impl Commitment<'_> {
     /// `leaves` are leaves, and each height stands behind the one below.
     fn tree(&self, level: usize, values: &[u64], tree: &mut Digests) -> Result<(), Refusal> {
         let leaves = (tree.len() + 32) / 64;
-        let parts = (leaves / LEAVES).max(1);
+        let parts = (values.len() / 2 / WORDS).max(1);
         let each = leaves / parts;
         let divided = heights(tree, parts).into_iter().enumerate();
         in_parts(self.threads, divided, |(i, mut part)| {
@@ -201,9 +201,10 @@ impl Commitment<'_> {
 
     /// Leaves of a level's tree, from this one on.
     fn leaves(&self, level: usize, first: usize, values: &[u64], out: &mut Digests) -> u32 {
-        let Sizes { n, k, .. } = self.sizes;
+        let Sizes { widths, n, k, .. } = self.sizes;
         unsafe {
             raw::dequmlo_level_leaves(
+                widths.number(),
                 n,
                 k,
                 level,
@@ -259,8 +260,8 @@ impl Commitment<'_> {
         for (level, r) in challenges.iter().enumerate() {
             let (next, behind) = rest.split_at_mut(values.len() / 2);
             self.next(level, *r, values, next)?;
-            let (tree, more) =
-                trees.split_at_mut(level_bytes(self.sizes.n, self.sizes.k, level + 1)?);
+            let Sizes { widths, n, k, .. } = self.sizes;
+            let (tree, more) = trees.split_at_mut(level_bytes(widths, n, k, level + 1)?);
             self.tree(level + 1, next, tree)?;
             roots.push(root_of(tree));
             (values, rest, trees) = (next, behind, more);

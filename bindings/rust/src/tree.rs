@@ -4,6 +4,7 @@ use crate::raw;
 use crate::refusal::Refusal;
 use crate::root::Root;
 use crate::sizes::Sizes;
+use crate::widths::Widths;
 use crate::word::{halves, Word};
 use std::ops::Range;
 
@@ -19,10 +20,17 @@ pub fn digest(input: &[u8]) -> Result<[u8; 32], Refusal> {
     Ok(answer.bytes)
 }
 
-/// The width of the groups of a level of this many values: 8 from 16 on, 2 from 2 on, else 1.
+/// The width of the groups of a level of this many values: in the present set 8 from 16 on, in the wide set 32 from 64 on; then 2 from 2 on, else 1.
+///
+/// ```
+/// use dequmlo::{tree::fold_tree_width, Widths};
+/// let widths = |set: Widths| [1, 2, 8, 16, 32, 64, 1 << 24].map(|length| fold_tree_width(set, length));
+/// assert_eq!(widths(Widths::Present), [1, 2, 2, 8, 8, 8, 8]);
+/// assert_eq!(widths(Widths::Wide), [1, 2, 2, 2, 2, 32, 32]);
+/// ```
 #[must_use]
-pub fn fold_tree_width(length: usize) -> usize {
-    unsafe { raw::dequmlo_fold_tree_width(length) }
+pub fn fold_tree_width(widths: Widths, length: usize) -> usize {
+    unsafe { raw::dequmlo_fold_tree_width(widths.number(), length) }
 }
 
 /// The domain of a level's tree, made from the base domain. Refused with 4 for a level above 20, with 7 for a base domain of more than 200
@@ -92,15 +100,17 @@ impl Tree {
     /// has another number of words, with 7 where the base domain has more than 200 bytes.
     pub fn of_level(
         base: &[u8],
+        widths: Widths,
         n: usize,
         k: usize,
         level: usize,
         words: &[Word],
     ) -> Result<Tree, Refusal> {
         let values = halves(words);
-        let mut digests = vec![0; level_bytes(n, k, level)?];
+        let mut digests = vec![0; level_bytes(widths, n, k, level)?];
         Refusal::unless_done(unsafe {
             raw::dequmlo_level_tree(
+                widths.number(),
                 n,
                 k,
                 level,
@@ -114,7 +124,7 @@ impl Tree {
         })?;
         Ok(Tree {
             count: words.len(),
-            width: fold_tree_width(words.len()),
+            width: fold_tree_width(widths, words.len()),
             digests,
         })
     }
@@ -250,11 +260,16 @@ fn bytes(count: usize, width: usize) -> usize {
 }
 
 /// The bytes of a level's tree. A level before the last is as long as the codeword of a deposit that has the rest of the variables.
-pub(crate) fn level_bytes(n: usize, k: usize, level: usize) -> Result<usize, Refusal> {
-    let sizes = Sizes::of(n, k)?;
+pub(crate) fn level_bytes(
+    widths: Widths,
+    n: usize,
+    k: usize,
+    level: usize,
+) -> Result<usize, Refusal> {
+    let sizes = Sizes::of(widths, n, k)?;
     match n.checked_sub(level) {
         None => Err(Refusal::of(4)),
         Some(0) => Ok(sizes.last_tree_bytes),
-        Some(rest) => Ok(Sizes::of(rest, k)?.tree_bytes),
+        Some(rest) => Ok(Sizes::of(widths, rest, k)?.tree_bytes),
     }
 }

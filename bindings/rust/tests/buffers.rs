@@ -1,6 +1,8 @@
-//! A deposit in the buffers of an earlier one is the deposit in new buffers, whatever n and k the earlier one had.
+//! A deposit in the buffers of an earlier one is the deposit in new buffers, whatever widths, n and k the earlier one had.
 
-use dequmlo::{Buffers, Deposit, Folded, QueryRecord, Root, Sizes, TailRecord, Threads, Word};
+use dequmlo::{
+    Buffers, Deposit, Folded, QueryRecord, Root, Sizes, TailRecord, Threads, Widths, Word,
+};
 
 const BASE: &[u8] = b"dequmlo/buffers";
 
@@ -67,11 +69,13 @@ const SHAPES: [(usize, usize); 9] = [
 fn nothing_of_the_earlier_deposit_shows() {
     for threads in [1, 2, 3].map(Threads::of) {
         let mut buffers = Buffers::default();
-        for (seed, (n, k)) in (1..).zip(SHAPES) {
-            let said = format!("n {n} k {k} {threads:?}, deposit {seed}");
+        // One set after the other, so that each deposit lies where one of the other set was.
+        let sets = Widths::ALL.into_iter().cycle();
+        for ((seed, (n, k)), widths) in (1..).zip(SHAPES).zip(sets) {
+            let said = format!("{widths} n {n} k {k} {threads:?}, deposit {seed}");
             let (table, challenges) = (words(1 << n, seed), words(n, 100 + seed));
-            let new = Deposit::commit(BASE, k, &table).unwrap();
-            let kept = Deposit::commit_in(buffers, threads, BASE, k, &table).unwrap();
+            let new = Deposit::commit(BASE, widths, k, &table).unwrap();
+            let kept = Deposit::commit_in(buffers, threads, BASE, widths, k, &table).unwrap();
             assert!(Committed::of(&kept) == Committed::of(&new), "{said}");
             let new = new.fold(&challenges).unwrap();
             let kept = kept.fold_on(threads, &challenges).unwrap();
@@ -82,7 +86,8 @@ fn nothing_of_the_earlier_deposit_shows() {
             );
             // Another deposit, which is not folded, leaves its buffers too.
             let table = words(1 << n, 200 + seed);
-            let other = Deposit::commit_in(kept.into_buffers(), threads, BASE, k, &table).unwrap();
+            buffers = kept.into_buffers();
+            let other = Deposit::commit_in(buffers, threads, BASE, widths, k, &table).unwrap();
             buffers = other.into_buffers();
         }
     }
@@ -91,17 +96,18 @@ fn nothing_of_the_earlier_deposit_shows() {
 /// What a smaller deposit has taken over it leaves as large as it was, folded or not.
 #[test]
 fn larger_buffers_stay() {
-    let sizes = Sizes::of(6, 2).unwrap();
+    let widths = Widths::Present;
+    let sizes = Sizes::of(widths, 6, 2).unwrap();
     let words_there = format!("levels_words: {}", sizes.levels_words);
     for threads in [1, 2, 3].map(Threads::of) {
-        let large = Deposit::commit_on(threads, BASE, 2, &words(64, 1)).unwrap();
+        let large = Deposit::commit_on(threads, BASE, widths, 2, &words(64, 1)).unwrap();
         let buffers = large.into_buffers();
         let there = format!("{buffers:?}");
         assert!(there.contains(&words_there), "{there}");
-        let small = Deposit::commit_in(buffers, threads, BASE, 1, &words(4, 2)).unwrap();
+        let small = Deposit::commit_in(buffers, threads, BASE, widths, 1, &words(4, 2)).unwrap();
         let buffers = small.into_buffers();
         assert_eq!(format!("{buffers:?}"), there);
-        let small = Deposit::commit_in(buffers, threads, BASE, 1, &words(4, 3)).unwrap();
+        let small = Deposit::commit_in(buffers, threads, BASE, widths, 1, &words(4, 3)).unwrap();
         let folded = small.fold_on(threads, &words(2, 4)).unwrap();
         assert_eq!(format!("{:?}", folded.into_buffers()), there);
     }
@@ -110,7 +116,7 @@ fn larger_buffers_stay() {
 /// In kept buffers the same is refused, with the same number.
 #[test]
 fn the_same_refusals() {
-    let long = [b'd'; 201];
+    let (long, widths) = ([b'd'; 201], Widths::Wide);
     for (base, k, count, number) in [
         (BASE, 5, 4, 4),
         (BASE, 1, 3, 5),
@@ -118,17 +124,17 @@ fn the_same_refusals() {
         (&long[..], 1, 4, 7),
     ] {
         for threads in [1, 2, 3].map(Threads::of) {
-            let earlier = Deposit::commit(BASE, 2, &words(64, 1)).unwrap();
+            let earlier = Deposit::commit(BASE, Widths::Present, 2, &words(64, 1)).unwrap();
             let buffers = earlier.into_buffers();
-            let refused = Deposit::commit_in(buffers, threads, base, k, &words(count, 2));
+            let refused = Deposit::commit_in(buffers, threads, base, widths, k, &words(count, 2));
             assert_eq!(refused.err().unwrap().number, number, "k {k} count {count}");
         }
     }
     for threads in [1, 2, 3].map(Threads::of) {
-        let buffers = Deposit::commit(BASE, 2, &words(64, 1))
+        let buffers = Deposit::commit(BASE, widths, 2, &words(64, 1))
             .unwrap()
             .into_buffers();
-        let deposit = Deposit::commit_in(buffers, threads, BASE, 1, &words(8, 2)).unwrap();
+        let deposit = Deposit::commit_in(buffers, threads, BASE, widths, 1, &words(8, 2)).unwrap();
         assert_eq!(
             deposit.fold_on(threads, &words(4, 3)).err().unwrap().number,
             5

@@ -1,5 +1,6 @@
 //! What engineers find beside the code: the licence in every manifest, one version everywhere, must_use and Debug on what is public.
 
+use dequmlo::{Sizes, Widths};
 use std::fs;
 use std::path::{Path, PathBuf};
 
@@ -119,6 +120,55 @@ fn the_page_says_null_and_overlap_as_the_header_does() {
     }
 }
 
+/// The cells of the rows of a page's tables that begin with a number.
+fn rows(text: &str) -> Vec<Vec<&str>> {
+    text.lines()
+        .filter(|line| line.starts_with("| ") && line.as_bytes()[2].is_ascii_digit())
+        .map(|line| line.split('|').map(str::trim).collect())
+        .collect()
+}
+
+/// The number of bytes in a cell.
+fn bytes(cell: &str) -> usize {
+    let digits = cell.trim_end_matches(" B").replace(',', "");
+    digits.parse().unwrap_or_else(|_| panic!("{cell:?}"))
+}
+
+/// The sizes of records on the pages are those that the library answers, under both sets of widths.
+#[test]
+fn the_pages_have_the_sizes_of_records() {
+    let page = read("docs/LINKING.md");
+    let (_, sizes) = page.split_once("In the present set:").unwrap();
+    let (present, rest) = sizes.split_once("In the wide set").unwrap();
+    let (wide, _) = rest.split_once("## ").unwrap();
+    for (set, text, least) in [(Widths::Present, present, 8), (Widths::Wide, wide, 6)] {
+        let rows = rows(text);
+        assert!(rows.len() >= least, "{set}: {rows:?}");
+        for row in rows {
+            let sizes = Sizes::of(set, bytes(row[1]), bytes(row[2])).unwrap();
+            let said = [row[row.len() - 3], row[row.len() - 2]].map(bytes);
+            assert_eq!(said, [sizes.query_bytes, sizes.tail_bytes], "{set} {row:?}");
+        }
+    }
+    let page = read("docs/SPECIFICATION.md");
+    let (_, text) = page.split_once("\nQuery records, in bytes:\n").unwrap();
+    let lines: Vec<Vec<&str>> = text
+        .lines()
+        .skip_while(|line| line.is_empty())
+        .take(4)
+        .map(|line| line.trim_matches('|').split('|').map(str::trim).collect())
+        .collect();
+    for (row, set) in [(2, Widths::Present), (3, Widths::Wide)] {
+        assert_eq!(lines[row][0], set.to_string());
+        assert_eq!(lines[row].len(), lines[0].len());
+        for (shape, said) in lines[0].iter().zip(&lines[row]).skip(1) {
+            let (n, k) = shape.split_once(", ").unwrap();
+            let sizes = Sizes::of(set, bytes(n), bytes(k)).unwrap();
+            assert_eq!(bytes(said), sizes.query_bytes, "{set} {shape}");
+        }
+    }
+}
+
 /// The lines of the public sources, each file's after its name; the raw declarations are not public.
 fn sources() -> Vec<(String, Vec<String>)> {
     let folder = root().join("bindings/rust/src");
@@ -157,14 +207,14 @@ fn what_is_answered_must_be_used() {
 #[test]
 fn what_is_public_can_be_printed() {
     let table: Vec<dequmlo::Word> = (0..4u128).map(dequmlo::Word).collect();
-    let deposit = dequmlo::Deposit::commit(b"d", 1, &table).unwrap();
+    let deposit = dequmlo::Deposit::commit(b"d", dequmlo::Widths::Present, 1, &table).unwrap();
     let shown = format!("{deposit:?}");
     assert!(
-        shown.starts_with("Deposit { n: 2, k: 1, root: ") && shown.len() < 120,
+        shown.starts_with("Deposit { widths: Present, n: 2, k: 1, root: ") && shown.len() < 120,
         "{shown}"
     );
     let folded = deposit.fold(&table[..2]).unwrap();
-    assert!(format!("{folded:?}").starts_with("Folded { n: 2, k: 1, root: "));
+    assert!(format!("{folded:?}").starts_with("Folded { widths: Present, n: 2, k: 1, root: "));
     assert_eq!(
         format!("{:?}", folded.into_buffers()),
         "Buffers { gamma_words: 2, levels_words: 14, trees_bytes: 352, .. }"

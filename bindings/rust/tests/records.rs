@@ -1,8 +1,8 @@
-//! Seals of every small shape: built records are accepted, and those of another position, challenge, root or claim are refused by the
-//! check that this breaks.
+//! Seals of every small shape, under both sets of widths: built records are accepted, and those of another position, challenge, root, claim or set
+//! are refused by the check that this breaks.
 
-use dequmlo::tree::{level_domain, root_of_path};
-use dequmlo::{Deposit, Folded, QueryRecord, Refusal, Root, Statement, TailRecord, Word};
+use dequmlo::tree::{fold_tree_width, level_domain, root_of_path};
+use dequmlo::{Deposit, Folded, QueryRecord, Refusal, Root, Statement, TailRecord, Widths, Word};
 
 const BASE: &[u8] = b"dequmlo/records";
 
@@ -24,10 +24,10 @@ struct Sealed {
     statement: Statement,
 }
 
-fn sealed(n: usize, k: usize) -> Result<Sealed, Refusal> {
+fn sealed(widths: Widths, n: usize, k: usize) -> Result<Sealed, Refusal> {
     let challenges = words(n, 7);
-    let folded = Deposit::commit(BASE, k, &words(1 << n, 3))?.fold(&challenges)?;
-    let statement = Statement::new(BASE, n, k, &challenges, &folded.roots())?;
+    let folded = Deposit::commit(BASE, widths, k, &words(1 << n, 3))?.fold(&challenges)?;
+    let statement = Statement::new(BASE, widths, n, k, &challenges, &folded.roots())?;
     Ok(Sealed {
         challenges,
         folded,
@@ -39,63 +39,146 @@ fn refused(number: u32, level: Option<u32>) -> Result<(), Refusal> {
     Err(Refusal { number, level })
 }
 
+/// Each set of widths with each n up to the most, and each k.
+fn shapes(most: usize) -> impl Iterator<Item = (Widths, usize, usize)> {
+    let under = move |set| (1..=most).flat_map(move |n| (0..=4).map(move |k| (set, n, k)));
+    Widths::ALL.into_iter().flat_map(under)
+}
+
 #[test]
 fn built_records_are_accepted_at_every_position() {
-    for (n, k) in (1..=4).flat_map(|n| (0..=4).map(move |k| (n, k))) {
-        let s = sealed(n, k).unwrap();
+    for (widths, n, k) in shapes(4) {
+        let s = sealed(widths, n, k).unwrap();
         for position in 0..1 << (n + k) {
             assert_eq!(
                 s.statement
                     .check_query(position, &s.folded.query(position).unwrap()),
                 Ok(()),
-                "n {n} k {k} at {position}"
+                "{widths} n {n} k {k} at {position}"
             );
         }
         assert_eq!(
             s.statement
                 .check_tail(s.folded.claim(), &s.folded.tail().unwrap()),
             Ok(()),
-            "n {n} k {k}"
+            "{widths} n {n} k {k}"
         );
     }
 }
 
 #[test]
-fn a_wide_seal_too() {
-    let s = sealed(12, 4).unwrap();
-    for position in [0, 1, 4095, 4096, 40_000, (1 << 16) - 1] {
-        assert_eq!(
-            s.statement
-                .check_query(position, &s.folded.query(position).unwrap()),
-            Ok(())
-        );
+fn a_large_seal_too() {
+    for widths in Widths::ALL {
+        let s = sealed(widths, 12, 4).unwrap();
+        for position in [0, 1, 4095, 4096, 40_000, (1 << 16) - 1] {
+            let record = s.folded.query(position).unwrap();
+            assert_eq!(record.bytes().len(), s.statement.sizes().query_bytes);
+            assert_eq!(s.statement.check_query(position, &record), Ok(()));
+        }
+        let tail = s.folded.tail().unwrap();
+        assert_eq!(tail.bytes().len(), s.statement.sizes().tail_bytes);
+        assert_eq!(s.statement.check_tail(s.folded.claim(), &tail), Ok(()));
     }
-    assert_eq!(
-        s.statement
-            .check_tail(s.folded.claim(), &s.folded.tail().unwrap()),
-        Ok(())
-    );
+}
+
+/// The first question that a record of the other set fails is 16, by the width of the first group, and 27 for a tail. Where no level has 16 words, the
+/// two sets are one.
+#[test]
+fn a_record_of_the_other_set_is_refused() {
+    let of_the_other = |widths, n, k, position| {
+        let (own, other) = match widths {
+            Widths::Present => (Widths::Present, Widths::Wide),
+            Widths::Wide => (Widths::Wide, Widths::Present),
+        };
+        let (s, other) = (sealed(own, n, k).unwrap(), sealed(other, n, k).unwrap());
+        let query = other.folded.query(position).unwrap();
+        let tail = other.folded.tail().unwrap();
+        assert_eq!(other.folded.claim(), s.folded.claim());
+        (
+            s.statement.check_query(position, &query),
+            s.statement.check_tail(s.folded.claim(), &tail),
+            s.folded.roots()[0] == other.folded.roots()[0],
+        )
+    };
+    for (widths, n, k) in shapes(6) {
+        let (query, tail, root) = of_the_other(widths, n, k, (1 << (n + k)) - 1);
+        let differs = n + k >= 4;
+        let expected = if differs {
+            refused(16, Some(0))
+        } else {
+            Ok(())
+        };
+        assert_eq!((query, root), (expected, !differs), "{widths} n {n} k {k}");
+        let expected = if k == 4 { refused(27, None) } else { Ok(()) };
+        assert_eq!(tail, expected, "{widths} n {n} k {k}");
+    }
+}
+
+/// SPECIFICATION 12.5 and 12.8 have what the library gives.
+#[test]
+fn the_deposit_of_the_specification() {
+    let page = concat!(env!("CARGO_MANIFEST_DIR"), "/../../docs/SPECIFICATION.md");
+    let page = std::fs::read_to_string(page).unwrap();
+    let table: Vec<Word> = (1..=32u128).map(Word).collect();
+    let challenges: Vec<Word> = (2..=6u128).map(Word).collect();
+    for (widths, heading) in [
+        (Widths::Present, "\n### 12.5 "),
+        (Widths::Wide, "\n### 12.8 "),
+    ] {
+        let (_, section) = page.split_once(heading).unwrap();
+        let (section, _) = section.split_once("\n#").unwrap();
+        let deposit = Deposit::commit(b"magnetar/pcs/balanced", widths, 2, &table).unwrap();
+        let folded = deposit.fold(&challenges).unwrap();
+        let said = |what: String| assert!(section.contains(&what), "{widths}: no {what}");
+        let roots = folded.roots().into_iter().enumerate();
+        // The two last levels are the same in both sets, and stand in the first section.
+        for (l, root) in roots.filter(|(l, _)| widths == Widths::Present || *l < 4) {
+            said(format!("| root of level {l} | {root} |"));
+        }
+        let record = folded.query(77).unwrap();
+        let digest = Root(dequmlo::digest(record.bytes()).unwrap());
+        said(format!(" bytes | {digest} |"));
+    }
+}
+
+/// What a long run on a disk is: a group of the wide set has 512 bytes, one of the present set 128.
+#[test]
+fn a_group_has_the_width_of_its_set() {
+    for (widths, n, k) in shapes(8) {
+        let s = sealed(widths, n, k).unwrap();
+        let levels = s.folded.query(0).unwrap().levels().unwrap();
+        for (l, shown) in levels.iter().enumerate() {
+            let width = |l: usize| fold_tree_width(widths, 1 << (n + k - l));
+            let groups = (shown.a_group.len(), shown.c_group.len());
+            assert_eq!(groups, (width(l), width(l + 1)), "{widths} n {n} k {k}");
+        }
+    }
 }
 
 #[test]
 fn what_belongs_elsewhere_is_refused_by_the_check_that_it_breaks() {
-    let (n, k) = (3, 1);
-    let s = sealed(n, k).unwrap();
+    for widths in Widths::ALL {
+        broken_by_what_belongs_elsewhere(widths, 6, 1);
+    }
+}
+
+fn broken_by_what_belongs_elsewhere(widths: Widths, n: usize, k: usize) {
+    let s = sealed(widths, n, k).unwrap();
     let roots = s.folded.roots();
     let record = s.folded.query(5).unwrap();
-    assert_eq!(s.statement.check_query(13, &record), refused(18, Some(0)));
-    assert_eq!(s.statement.check_query(16, &record), refused(11, None));
+    assert_eq!(s.statement.check_query(69, &record), refused(18, Some(0)));
+    assert_eq!(s.statement.check_query(128, &record), refused(11, None));
     for l in 0..n {
         let mut other = s.challenges.clone();
         other[l].0 ^= 1;
-        let statement = Statement::new(BASE, n, k, &other, &roots).unwrap();
+        let statement = Statement::new(BASE, widths, n, k, &other, &roots).unwrap();
         assert_eq!(
             statement.check_query(5, &record),
             refused(26, Some(l as u32))
         );
         let mut other = roots.clone();
         other[l + 1] = Root([0; 32]);
-        let statement = Statement::new(BASE, n, k, &s.challenges, &other).unwrap();
+        let statement = Statement::new(BASE, widths, n, k, &s.challenges, &other).unwrap();
         assert_eq!(
             statement.check_query(5, &record),
             refused(24, Some(l as u32))
@@ -115,8 +198,13 @@ fn what_belongs_elsewhere_is_refused_by_the_check_that_it_breaks() {
 
 #[test]
 fn what_a_record_shows() {
-    let (n, k, position) = (5, 2, 77);
-    let s = sealed(n, k).unwrap();
+    for widths in Widths::ALL {
+        shown_under(widths, 5, 2, 77);
+    }
+}
+
+fn shown_under(widths: Widths, n: usize, k: usize, position: usize) {
+    let s = sealed(widths, n, k).unwrap();
     let levels = s.folded.query(position).unwrap().levels().unwrap();
     assert_eq!(levels.len(), n);
     for (l, shown) in levels.iter().enumerate() {
@@ -145,7 +233,7 @@ fn what_a_record_shows() {
 
 #[test]
 fn a_record_that_does_not_read_whole_shows_nothing() {
-    let s = sealed(2, 3).unwrap();
+    let s = sealed(Widths::Present, 2, 3).unwrap();
     let (query, tail) = (s.folded.query(9).unwrap(), s.folded.tail().unwrap());
     assert_eq!(tail.words().map(|words| words.len()), Some(8));
     for length in 0..query.bytes().len() {
@@ -165,7 +253,7 @@ fn a_record_that_does_not_read_whole_shows_nothing() {
 
 #[test]
 fn comparing_equal_or_refused_records() {
-    let s = sealed(3, 1).unwrap();
+    let s = sealed(Widths::Wide, 6, 1).unwrap();
     let (five, four) = (s.folded.query(5).unwrap(), s.folded.query(9).unwrap());
     assert_eq!(s.statement.compare(5, &five, &five).unwrap_err().number, 33);
     assert_eq!(s.statement.compare(5, &five, &four).unwrap_err().number, 32);
@@ -176,7 +264,7 @@ fn comparing_equal_or_refused_records() {
 fn what_is_refused_before_a_record_is_read() {
     let roots = vec![Root([0; 32]); 4];
     let new = |n, k, base: &[u8], challenges: usize, roots: &[Root]| {
-        Statement::new(base, n, k, &words(challenges, 1), roots)
+        Statement::new(base, Widths::Wide, n, k, &words(challenges, 1), roots)
             .err()
             .map(|r| r.number)
     };
@@ -189,19 +277,19 @@ fn what_is_refused_before_a_record_is_read() {
     assert_eq!(new(3, 1, &[b'd'; 200], 3, &roots), None);
     assert_eq!(new(3, 1, &[b'd'; 201], 3, &roots), Some(7));
     assert_eq!(
-        Deposit::commit(&[b'd'; 201], 1, &words(8, 1))
+        Deposit::commit(&[b'd'; 201], Widths::Present, 1, &words(8, 1))
             .err()
             .map(|r| r.number),
         Some(7)
     );
     assert_eq!(
-        Deposit::commit(BASE, 1, &words(7, 1))
+        Deposit::commit(BASE, Widths::Present, 1, &words(7, 1))
             .err()
             .map(|r| r.number),
         Some(5)
     );
     assert_eq!(
-        Deposit::commit(BASE, 1, &words(1, 1))
+        Deposit::commit(BASE, Widths::Present, 1, &words(1, 1))
             .err()
             .map(|r| r.number),
         Some(4)
@@ -210,7 +298,7 @@ fn what_is_refused_before_a_record_is_read() {
 
 #[test]
 fn several_threads_at_once() {
-    let s = sealed(6, 2).unwrap();
+    let s = sealed(Widths::Wide, 6, 2).unwrap();
     std::thread::scope(|scope| {
         for thread in 0..4 {
             let s = &s;

@@ -11,13 +11,14 @@ use crate::seal::Seal;
 use crate::shape::Shape;
 use crate::table::{read_table, room_for};
 use crate::writing::{beside, Target};
-use dequmlo::{Deposit, Parameters, Root};
+use dequmlo::{Deposit, Parameters, Root, Widths};
 use std::path::Path;
 
-pub const TAKEN: [&str; 7] = [
+pub const TAKEN: [&str; 8] = [
     "--profile",
     "--k",
     "--domain",
+    "--widths",
     "--out",
     "--force",
     "--threads",
@@ -29,14 +30,14 @@ pub fn run(options: &Options) -> Result<Outcome, Failure> {
     let file = &options.operands[0];
     let threads = options.threads()?;
     if file.is_dir() {
-        let (k, domain) = parameters(options)?;
-        return commit_folder::run(options, threads, k, domain);
+        let ((k, domain), widths) = (parameters(options)?, widths(options)?);
+        return commit_folder::run(options, threads, domain, widths, k);
     }
     let folder = options
         .path("--out")
         .unwrap_or_else(|| beside(file, ".seal"));
     let (target, mut notes) = Target::new(&folder, Kind::Seal, options.has("--force"))?;
-    let (k, domain) = parameters(options)?;
+    let ((k, domain), widths) = (parameters(options)?, widths(options)?);
     let table = match read_table(file)? {
         Ok(table) => table,
         Err(sentence) => return Ok(Outcome::declined(sentence)),
@@ -45,11 +46,12 @@ pub fn run(options: &Options) -> Result<Outcome, Failure> {
         n: table.words.len().trailing_zeros() as usize,
         k,
         domain,
+        widths,
     };
     room_for(&shape)?;
     let progress = Progress::start();
     progress.say(&format!("committing {} words ..", table.words.len()));
-    let root = match Deposit::commit_on(threads, &shape.domain, k, &table.words) {
+    let root = match Deposit::commit_on(threads, &shape.domain, widths, k, &table.words) {
         Ok(deposit) => deposit.root(),
         Err(refusal) => return Ok(Outcome::refused(&refusal)),
     };
@@ -60,9 +62,9 @@ pub fn run(options: &Options) -> Result<Outcome, Failure> {
 }
 
 fn told(shape: &Shape, root: &Root, file: &Path, bytes: usize, folder: &Path) -> Outcome {
-    let Shape { n, k, .. } = shape;
+    let Shape { n, k, widths, .. } = shape;
     let sentence = format!(
-        "sealed {}: {bytes} bytes as {} words (n = {n}, k = {k})",
+        "sealed {}: {bytes} bytes as {} words (n = {n}, k = {k}, {widths} widths)",
         file.display(),
         1usize << n
     );
@@ -79,7 +81,25 @@ fn told(shape: &Shape, root: &Root, file: &Path, bytes: usize, folder: &Path) ->
         .found("root", Json::text(root))
         .found("n", Json::number(*n))
         .found("k", Json::number(*k))
+        .found("widths", Json::text(widths))
         .found("bytes", Json::number(bytes))
+}
+
+/// The set of widths that is named, if one is.
+pub fn named_widths(options: &Options) -> Result<Option<Widths>, Failure> {
+    let read = |name: String| {
+        name.parse().map_err(|_| {
+            Failure(format!(
+                "there is no set of widths `{name}`; there are present and wide, and `seal explain widths` says when to take which"
+            ))
+        })
+    };
+    options.text("--widths")?.map(read).transpose()
+}
+
+/// The set of widths that a seal is written under: the present one where none is named.
+fn widths(options: &Options) -> Result<Widths, Failure> {
+    named_widths(options).map(Option::unwrap_or_default)
 }
 
 /// k and the base domain: a profile's, or both given; the default where nothing is.

@@ -12,14 +12,15 @@ use crate::shape::Shape;
 use crate::shown::some_of;
 use crate::table::{variables, MOST_BYTES};
 use crate::writing::{beside, parent, Target};
-use dequmlo::{Root, Threads};
+use dequmlo::{Root, Threads, Widths};
 use std::path::{Path, PathBuf};
 
 pub fn run(
     options: &Options,
     threads: Threads,
-    k: usize,
     domain: Vec<u8>,
+    widths: Widths,
+    k: usize,
 ) -> Result<Outcome, Failure> {
     let project = &options.operands[0];
     let folder = match options.path("--out") {
@@ -37,7 +38,7 @@ pub fn run(
     if let Some(sentence) = not_a_project(project, &found) {
         return Ok(Outcome::declined(sentence));
     }
-    let manifest = match manifest_of(project, found.files, threads, k, &domain) {
+    let manifest = match manifest_of(project, found.files, threads, &domain, widths, k) {
         Ok(manifest) => manifest,
         Err(stop) => return stop.outcome(),
     };
@@ -48,15 +49,19 @@ pub fn run(
             text.len()
         )));
     }
-    let root = match root_of(text.as_bytes(), threads, k, &domain) {
+    let root = match root_of(text.as_bytes(), threads, &domain, widths, k) {
         Ok(root) => root,
         Err(refusal) => return Ok(Outcome::refused(&refusal)),
     };
-    let n = variables(text.len());
-    let shape = Shape { n, k, domain };
+    let shape = Shape {
+        n: variables(text.len()),
+        k,
+        domain,
+        widths,
+    };
     let files = Seal::project_files(&shape, &root, &shown_path(project), &manifest);
     notes.extend(target.write(&files)?);
-    Ok(told(&manifest, &root, project, target.folder()).notes(notes))
+    Ok(told(&manifest, widths, &root, project, target.folder()).notes(notes))
 }
 
 /// A folder's path with its own name at the end, as `.` has none.
@@ -89,11 +94,17 @@ fn not_a_project(project: &Path, found: &Walked) -> Option<String> {
     ))
 }
 
-fn told(manifest: &Manifest, root: &Root, project: &Path, folder: &Path) -> Outcome {
+fn told(
+    manifest: &Manifest,
+    widths: Widths,
+    root: &Root,
+    project: &Path,
+    folder: &Path,
+) -> Outcome {
     let (files, bytes, parts) = (manifest.0.len(), manifest.bytes(), manifest.parts());
     let noun = if files == 1 { "file" } else { "files" };
     let sentence = format!(
-        "sealed the project {}: {files} {noun}, {bytes} bytes in {parts} parts",
+        "sealed the project {}: {files} {noun}, {bytes} bytes in {parts} parts, {widths} widths",
         project.display()
     );
     Outcome::new(Verdict::Done, sentence)
@@ -107,6 +118,7 @@ fn told(manifest: &Manifest, root: &Root, project: &Path, folder: &Path) -> Outc
         ])
         .found("seal", Json::text(folder.display()))
         .found("root", Json::text(root))
+        .found("widths", Json::text(widths))
         .found("files", Json::number(files))
         .found("bytes", Json::number(bytes))
         .found("parts", Json::number(parts))

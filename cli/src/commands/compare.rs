@@ -10,10 +10,12 @@ use crate::outcome::{lines_of, Failure, Outcome, Verdict};
 use crate::part::asked_seal;
 use crate::questions::challenges;
 use crate::reading::named;
+use crate::shape::{Shape, PARAMETERS};
 use crate::shown::Shown;
 use crate::statement::{roots, statement};
 use crate::writing::{beside, Target};
-use dequmlo::{Collision, QueryRecord, Refusal, Statement};
+use dequmlo::{Collision, QueryRecord, Refusal, Statement, Widths};
+use std::path::{Path, PathBuf};
 
 pub const TAKEN: [&str; 11] = [
     "--seal",
@@ -55,6 +57,7 @@ pub fn run(options: &Options) -> Result<Outcome, Failure> {
         Ok(shown) => shown,
         Err(sentence) => return Ok(Outcome::declined(sentence)),
     };
+    of_one_set(seal.shape.widths, &options.operands, &opening)?;
     let words = match (challenges(options, seal.shape.n)?, &shown.challenges) {
         (Some((words, _)), _) => words,
         (None, Ok(words)) => words.clone(),
@@ -73,6 +76,22 @@ pub fn run(options: &Options) -> Result<Outcome, Failure> {
         },
     };
     Ok(outcome.notes(seal.notes))
+}
+
+/// Fails where the opening, or a folder that a record lies in, names another set of widths than the seal: two records are compared under one set. A
+/// folder that names none is of the present set, and one that is no opening says nothing.
+fn of_one_set(widths: Widths, records: &[PathBuf], opening: &Path) -> Result<(), Failure> {
+    let folders = records.iter().filter_map(|record| record.parent());
+    for folder in folders.chain([opening]) {
+        let named = Shape::read(folder).ok().map(|read| read.shape.widths);
+        if let Some(other) = named.filter(|other| *other != widths) {
+            return Err(Failure(format!(
+                "{} is of the {other} set of widths, and the seal is of the {widths} one: two records are compared under one set",
+                folder.join(PARAMETERS).display()
+            )));
+        }
+    }
+    Ok(())
 }
 
 fn same(position: usize) -> Outcome {

@@ -1,5 +1,6 @@
 //! `seal demo`: a sample deposit sealed, opened and checked; then a byte damaged, and the refusal that names the check.
 
+use crate::commands::commit::named_widths;
 use crate::json::Json;
 use crate::opening::record_name;
 use crate::options::Options;
@@ -13,10 +14,16 @@ const DAMAGED: usize = 60;
 /// The most bytes of a file that the demonstration reads back.
 const MOST_BYTES: usize = 1 << 16;
 
+pub const TAKEN: [&str; 2] = ["--widths", "--json"];
+
 pub fn run(options: &Options) -> Result<Outcome, Failure> {
-    options.expect(0, "no operand", &["--json"])?;
+    options.expect(0, "no operand", &TAKEN)?;
+    let commit = match named_widths(options)? {
+        Some(widths) => format!("commit deposit.txt --widths {widths}"),
+        None => "commit deposit.txt".into(),
+    };
     let scratch = Scratch::entered()?;
-    let (lines, as_expected) = steps()?;
+    let (lines, as_expected) = steps(&commit)?;
     // Nothing is printed before the folder is gone: a closed pipe ends the program.
     drop(scratch);
     let (verdict, sentence) = if as_expected {
@@ -34,8 +41,8 @@ pub fn run(options: &Options) -> Result<Outcome, Failure> {
     Ok(outcome.found("as_expected", Json::Bool(as_expected)))
 }
 
-/// The lines of all steps, and whether each ended as it should.
-fn steps() -> Result<(Vec<String>, bool), Failure> {
+/// The lines of all steps, of which the first is this, and whether each ended as it should.
+fn steps(commit: &str) -> Result<(Vec<String>, bool), Failure> {
     let mut lines = Vec::new();
     let mut as_expected = true;
     let mut step = |heading: &str, command: &str, expected: Verdict| -> Result<(), Failure> {
@@ -51,7 +58,7 @@ fn steps() -> Result<(Vec<String>, bool), Failure> {
     write(Path::new("deposit.txt"), sample().into_bytes())?;
     step(
         "An office seals a deposit and keeps the seal:",
-        "commit deposit.txt",
+        commit,
         Verdict::Done,
     )?;
     step(

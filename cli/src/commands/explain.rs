@@ -1,4 +1,4 @@
-//! `seal explain`: what a number means, and what to ask the holder for; and which seals `--older` is for.
+//! `seal explain`: what a number means, and what to ask the holder for; which seals `--older` is for; and what the sets of widths are.
 
 use crate::json::Json;
 use crate::options::Options;
@@ -17,6 +17,18 @@ const OLDER: [&str; 4] = [
      speaks against nobody: check it again with --older.",
 ];
 
+/// What the sets of widths are, and when to take which.
+const WIDTHS: [&str; 4] = [
+    "What is sealed lies in groups of neighbouring words of 16 bytes, and a record shows whole groups. A level's groups have the widths of one of two sets: in \
+     the present set 8 words where the level has 16 or more, in the wide set 32 words where it has 64 or more; in both else 2 words, or 1 where there is but one.",
+    "The wide set is for archives on slow disks that read long runs cheaply: a group is one run of 512 bytes in place of 128, and the trees are a quarter as \
+     large. Its records are longer, by some three fifths where the file is large, and show 32 words of the file at a place in place of 8.",
+    "`seal commit --widths wide` takes it; without --widths it is the present set. A seal says its set in parameters.txt, and all other commands go by that. A \
+     seal, an opening or a request that does not say is of the present set, as everything is that was made before version 0.6.0.",
+    "A record of one set is refused under a seal of the other, with 16 at level 0, or with 14 where it is longer than the seal's; but where the code has fewer \
+     than 16 words the two sets are the same. Two records are compared under one set.",
+];
+
 pub fn run(options: &Options) -> Result<Outcome, Failure> {
     if options.operands.is_empty() {
         options.expect(0, "", &["--json"])?;
@@ -24,13 +36,15 @@ pub fn run(options: &Options) -> Result<Outcome, Failure> {
     }
     options.expect(1, "one NUMBER, or none for all", &["--json"])?;
     let text = options.operands[0].to_string_lossy();
-    if text == "older" {
-        return Ok(older());
+    match &*text {
+        "older" => return Ok(older()),
+        "widths" => return Ok(widths()),
+        _ => (),
     }
     let found = text.parse().ok().and_then(Explanation::of);
     let explanation = found.ok_or_else(|| {
         Failure(format!(
-            "`{text}` is no refusal's number; they go from 1 to 33, and `seal explain older` says which seals --older is for"
+            "`{text}` is no refusal's number; they go from 1 to 33; `seal explain older` says which seals --older is for, and `seal explain widths` what the sets of widths are"
         ))
     })?;
     let outcome = Outcome::new(Verdict::Done, explanation.sentence).lines(lines(explanation));
@@ -45,6 +59,14 @@ fn older() -> Outcome {
         .found("older", texts(&OLDER))
 }
 
+fn widths() -> Outcome {
+    let sentence = "The sets of widths are present and wide: how many words of the deposit a record shows together.";
+    Outcome::new(Verdict::Done, sentence)
+        .say()
+        .lines(WIDTHS.map(String::from))
+        .found("widths", texts(&WIDTHS))
+}
+
 /// Every number: first those that a holder can cause, then those that only a program can.
 fn all() -> Outcome {
     let (programs, holders): (Vec<_>, Vec<_>) =
@@ -55,7 +77,10 @@ fn all() -> Outcome {
         .lines(holders.iter().copied().flat_map(lines))
         .lines(["Numbers that no holder can cause:".to_string()])
         .lines(programs.iter().copied().flat_map(lines))
-        .lines(["`seal explain older` says which seals --older is for.".to_string()])
+        .lines([
+            "`seal explain older` says which seals --older is for.".to_string(),
+            "`seal explain widths` says what the sets of widths are.".to_string(),
+        ])
         .found("explanations", json(&[holders, programs].concat()))
 }
 

@@ -165,7 +165,10 @@ fn opened(
 ) -> Result<Option<Opening>, Refusal> {
     let progress = Progress::start();
     progress.say(&format!("committing {} words ..", table.len()));
-    let deposit = Deposit::commit_on(threads, &seal.shape.domain, seal.shape.k, table)?;
+    let Shape {
+        k, domain, widths, ..
+    } = &seal.shape;
+    let deposit = Deposit::commit_on(threads, domain, *widths, *k, table)?;
     if deposit.root() != seal.root {
         return Ok(None);
     }
@@ -206,6 +209,7 @@ fn told(opening: &Opening, folder: &Path, is_answer: bool) -> Outcome {
     Outcome::new(Verdict::Done, sentence)
         .say()
         .found("opening", Json::text(folder.display()))
+        .found("widths", Json::text(opening.shape.widths))
         .found("positions", Json::List(positions.collect()))
         .found("roots", texts(&opening.roots))
         .found("claim", Json::text(opening.claim))

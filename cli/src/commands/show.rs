@@ -67,6 +67,7 @@ pub fn run(options: &Options) -> Result<Outcome, Failure> {
         .say()
         .lines(lines)
         .notes(in_a_part)
+        .found("widths", Json::text(parameters.shape.widths))
         .found("places", Json::List(places.collect())))
 }
 

@@ -9,6 +9,7 @@ use crate::options::Options;
 use crate::outcome::{Failure, Outcome, Verdict};
 use crate::progress::Progress;
 use crate::seal::{Seal, SEAL_FOLDER};
+use crate::shape::Shape;
 use crate::table::{read_table, room_for, Table};
 use dequmlo::{Deposit, Threads, Word};
 use std::collections::BTreeMap;
@@ -54,7 +55,10 @@ fn has_root(seal: &Seal, threads: Threads, table: &Table) -> Result<bool, Failur
     room_for(&seal.shape)?;
     let progress = Progress::start();
     progress.say(&format!("committing {} words ..", table.words.len()));
-    let deposit = Deposit::commit_on(threads, &seal.shape.domain, seal.shape.k, &table.words)
+    let Shape {
+        k, domain, widths, ..
+    } = &seal.shape;
+    let deposit = Deposit::commit_on(threads, domain, *widths, *k, &table.words)
         .map_err(|refusal| Failure(format!("the seal's parameters are no deposit's: {refusal}")))?;
     Ok(deposit.root() == seal.root)
 }

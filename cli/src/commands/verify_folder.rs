@@ -5,6 +5,7 @@ use crate::outcome::{texts, Failure, Outcome, Verdict};
 use crate::part::{damaged_manifest, manifest_in, Unfit};
 use crate::project::{manifest_of, root_of, walked, written_path};
 use crate::seal::Seal;
+use crate::shape::Shape;
 use crate::table::MOST_BYTES;
 use dequmlo::Threads;
 use std::path::Path;
@@ -15,15 +16,17 @@ pub fn run(
     folder: &Path,
     seal: Seal,
 ) -> Result<Outcome, Failure> {
-    let (k, domain) = (seal.shape.k, &seal.shape.domain);
+    let Shape {
+        k, domain, widths, ..
+    } = &seal.shape;
     let found = walked(project)?;
-    let now = match manifest_of(project, found.files, threads, k, domain) {
+    let now = match manifest_of(project, found.files, threads, domain, *widths, *k) {
         Ok(manifest) => manifest,
         Err(stop) => return stop.outcome(),
     };
     let text = now.text();
-    let same =
-        text.len() <= MOST_BYTES && root_of(text.as_bytes(), threads, k, domain) == Ok(seal.root);
+    let root = || root_of(text.as_bytes(), threads, domain, *widths, *k);
+    let same = text.len() <= MOST_BYTES && root() == Ok(seal.root);
     if same && found.others.is_empty() {
         let noun = if now.0.len() == 1 { "file" } else { "files" };
         let sentence = format!(

@@ -37,6 +37,16 @@ impl Desk {
         desk
     }
 
+    /// The same under the wide set of widths.
+    pub fn wide(name: &str) -> Desk {
+        let desk = Desk::new(name);
+        desk.write("plan.txt", &plan());
+        assert_eq!(desk.run("commit plan.txt --widths wide").status, 0);
+        let open = "open plan.txt --seal plan.txt.seal --seed dice --at 7,0,127";
+        assert_eq!(desk.run(open).status, 0);
+        desk
+    }
+
     /// A desk with a sealed file, a request that was answered and has three positions, and the opening of these.
     pub fn asked(name: &str) -> Desk {
         let desk = Desk::answered(name);
@@ -80,13 +90,13 @@ impl Desk {
         desk
     }
 
-    /// Takes k and the base domain out of a seal, as of one that names neither; check lines are written anew where it has any.
+    /// Takes k, the base domain and the widths out of a seal, as of one that names n alone; check lines are written anew where it has any.
     pub fn unname(&self, seal: &str) {
         let name = format!("{seal}/parameters.txt");
         let text = self.text(&name);
         let lines = text
             .lines()
-            .filter(|line| !line.starts_with('k') && !line.starts_with("domain"));
+            .filter(|line| line.starts_with("format ") || line.starts_with("n "));
         let left: String = lines.map(|line| format!("{line}\n")).collect();
         self.write(&name, left.as_bytes());
         if self.path(seal).join("check.txt").exists() {

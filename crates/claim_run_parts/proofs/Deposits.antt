@@ -11,11 +11,12 @@ use Rattle.theory_laws.proofs.Table.{length-tab}
 use Rattle.theory_field.specs.Words.{words}
 use Rattle.theory_field.proofs.Words.{words-append, drop-words, length-words-even}
 use Rattle.theory_multilinear.proofs.Codeword.{length-encode}
-use Rattle.theory_record.specs.Widths.{present, levelLength, treeLength, total}
+use Rattle.theory_record.specs.declared.WidthSet.{WidthSet}
+use Rattle.theory_record.specs.Widths.{Widths, widthsOf, levelLength, treeLength, total}
 use Rattle.theory_record.specs.Trees.{treeFor}
 use Rattle.theory_record.specs.Tail.{checkTail}
 use Rattle.theory_record.specs.Build.{levelStart, treeStart, levelValues, buildTail}
-use Rattle.theory_record.specs.Scheme.{scheme}
+use Rattle.theory_record.specs.Scheme.{Scheme, scheme}
 use Rattle.theory_record.proofs.Ranges.{sizes-small}
 use Rattle.theory_record.proofs.Offsets.{first-length, level-within, tree-within}
 use Rattle.theory_claim.specs.Commit.{commitNumber, committedCodeword, committedTree}
@@ -29,7 +30,7 @@ use Rattle.claim_run_parts.specs.helpers.Room.{CommitRoom}
 
 -- ---- level 0 and its tree, at the front
 
-module _ {n k base table gammas levels trees : ℕ} (r : CommitRoom n k base table gammas levels trees) where
+module _ {s : Widths} {n k base table gammas levels trees : ℕ} (r : CommitRoom s n k base table gammas levels trees) where
   pub small : n + k ≤ 24
   small = sizes-small n k (r .sizes)
 
@@ -37,13 +38,13 @@ module _ {n k base table gammas levels trees : ℕ} (r : CommitRoom n k base tab
   unfolding levelStart total
   front-fits size e = omega (arith, r .levels-long, level-within n k 0 (omega arith))
 
-  pub tree-fits : (bytes : ℕ) → bytes ≡ 32 * treeLength present n k 0 → bytes ≤ trees
+  pub tree-fits : (bytes : ℕ) → bytes ≡ 32 * treeLength s n k 0 → bytes ≤ trees
   unfolding treeStart total
-  tree-fits bytes e = omega (arith, r .trees-long, tree-within present n k 0 (omega arith))
+  tree-fits bytes e = omega (arith, r .trees-long, tree-within s n k 0 (omega arith))
 
 -- a table that is lent, with any challenges, is within the claim's ranges
-pub deposit-of : {n k gammas levels trees : ℕ} (base table challenges : List ℕ) → CommitRoom n k (length base) (length table) gammas levels trees
-    → length challenges ≡ 2 * n → Deposit n k base table challenges
+pub deposit-of : {s : Widths} {n k gammas levels trees : ℕ} (base table challenges : List ℕ)
+    → CommitRoom s n k (length base) (length table) gammas levels trees → length challenges ≡ 2 * n → Deposit n k base table challenges
 deposit-of base table challenges r long =
     record {
       n-least = r .sizes .n-least;
@@ -55,28 +56,29 @@ deposit-of base table challenges r long =
     }
 
 -- the claim of it
-pub claim-of : {n k gammas levels trees : ℕ} (base table challenges : List ℕ) → CommitRoom n k (length base) (length table) gammas levels trees
-    → length challenges ≡ 2 * n → Claim n k base table challenges
-claim-of {n} {k} base table challenges r long = claim n k base table challenges (deposit-of base table challenges r long)
+pub claim-of : (set : WidthSet) {n k gammas levels trees : ℕ} (base table challenges : List ℕ)
+    → CommitRoom (widthsOf set) n k (length base) (length table) gammas levels trees → length challenges ≡ 2 * n → Claim set n k base table challenges
+claim-of set {n} {k} base table challenges r long = claim set n k base table challenges (deposit-of base table challenges r long)
 
 codeword-long : (n k : ℕ) (base table : List ℕ) → length (committedCodeword base n k table) ≡ levelLength n k 0
 unfolding committedCodeword
 codeword-long n k base table = length-encode n k _ table ∙ sym (first-length n k)
 
-module _ {n k gammas levels trees : ℕ} (base table : List ℕ) (r : CommitRoom n k (length base) (length table) gammas levels trees) where
-  abbrev C : Claim n k base table (tab (2 * n) (λ v. 0))
-  C = claim-of base table (tab (2 * n) (λ v. 0)) r (length-tab (2 * n) (λ v. 0))
+module _ (set : WidthSet) {n k gammas levels trees : ℕ} (base table : List ℕ)
+    (r : CommitRoom (widthsOf set) n k (length base) (length table) gammas levels trees) where
+  abbrev C : Claim set n k base table (tab (2 * n) (λ v. 0))
+  C = claim-of set base table (tab (2 * n) (λ v. 0)) r (length-tab (2 * n) (λ v. 0))
 
   -- committing is not refused
-  pub commit-allowed : (size bytes : ℕ) → size ≡ 2 * levelLength n k 0 → bytes ≡ 32 * treeLength present n k 0
-      → commitNumber present n k (length base) (length table) gammas size bytes ≡ 0
+  pub commit-allowed : (size bytes : ℕ) → size ≡ 2 * levelLength n k 0 → bytes ≡ 32 * treeLength (widthsOf set) n k 0
+      → commitNumber (widthsOf set) n k (length base) (length table) gammas size bytes ≡ 0
   commit-allowed size bytes es eb =
       let s : size ≡ 2 * length (committedCodeword base n k (words table)) = es ∙ ap (λ (x : ℕ). 2 * x) (sym (codeword-long n k base (words table))) in
       rw (r .gammas-long, s, eb) (C .commit-done)
 
   -- and leaves level 0's tree
-  pub tree-left : {tree : List ℕ} → tree ≡ committedTree (scheme base n k) (words table)
-      → tree ≡ flat (treeFor (scheme base n k) 0 (committedCodeword base n k (words table)))
+  pub tree-left : {tree : List ℕ} → tree ≡ committedTree (scheme set base n k) (words table)
+      → tree ≡ flat (treeFor (scheme set base n k) 0 (committedCodeword base n k (words table)))
   tree-left e = e ∙ C .commit-leaves
 
 -- the next levels start behind level 0
@@ -120,10 +122,10 @@ unfolding afterFolds
 after-none c calls = refl
 
 -- the tree that committing left is that of level 0
-pub first-tree : (n k : ℕ) (base trees : List ℕ) {c values : List ℕ}
-    → take (32 * treeLength present n k 0) trees ≡ flat (treeFor (scheme base n k) 0 c) → values ≡ c
-    → take (32 * treeLength present n k 0) trees ≡ flat (treeFor (scheme base n k) 0 values)
-first-tree n k base trees e f = e ∙ ap (λ (x : List ℕ). flat (treeFor (scheme base n k) 0 x)) (sym f)
+pub first-tree : (set : WidthSet) (n k : ℕ) (base trees : List ℕ) {c values : List ℕ}
+    → take (32 * treeLength (widthsOf set) n k 0) trees ≡ flat (treeFor (scheme set base n k) 0 c) → values ≡ c
+    → take (32 * treeLength (widthsOf set) n k 0) trees ≡ flat (treeFor (scheme set base n k) 0 values)
+first-tree set n k base trees e f = e ∙ ap (λ (x : List ℕ). flat (treeFor (scheme set base n k) 0 x)) (sym f)
 
 -- ---- the last level, its tree and its root, from a place to the end
 
@@ -135,12 +137,12 @@ abbrev taken : ℕ → List ℕ → List ℕ
 taken i xs = take (length xs - (length xs - i)) (drop (length xs - i) xs)
 
 -- the sizes as code computes them
-pub tail-built : (n k size bytes : ℕ) (levels trees out out′ : List ℕ) → size ≡ levelLength n k n → bytes ≡ 32 * treeLength present n k n
-    → out′ ≡ buildTail present n k (taken (2 * size) levels) (taken bytes trees) out
-    → out′ ≡ buildTail present n k (lastLevel n k levels) (lastTree n k trees) out
-tail-built n k size bytes levels trees out out′ es eb e =
+pub tail-built : (s : Widths) (n k size bytes : ℕ) (levels trees out out′ : List ℕ) → size ≡ levelLength n k n → bytes ≡ 32 * treeLength s n k n
+    → out′ ≡ buildTail s n k (taken (2 * size) levels) (taken bytes trees) out
+    → out′ ≡ buildTail s n k (lastLevel n k levels) (lastTree s n k trees) out
+tail-built s n k size bytes levels trees out out′ es eb e =
     rw (to-end (length levels - 2 * size) levels, to-end (length trees - bytes) trees, es, eb) at e
 
-pub tail-checked : (base : List ℕ) (n k claim number : ℕ) (roots out : List ℕ) → number ≡ checkTail (scheme base n k) (taken 32 roots) claim out
-    → number ≡ checkTail (scheme base n k) (lastRoot roots) claim out
-tail-checked base n k claim number roots out e = rw (to-end (length roots - 32) roots) at e
+pub tail-checked : (S : Scheme) (claim number : ℕ) (roots out : List ℕ) → number ≡ checkTail S (taken 32 roots) claim out
+    → number ≡ checkTail S (lastRoot roots) claim out
+tail-checked S claim number roots out e = rw (to-end (length roots - 32) roots) at e

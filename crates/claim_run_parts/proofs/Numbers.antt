@@ -2,11 +2,11 @@
 use Prim.Native.Nat.{ℕ, suc, _+_, _*_, _^_, _<_, _≤_}
 use mathlib.Core.Path.{_≡_, sym, _∙_, ap}
 use mathlib.Core.List.{List, _++_}
-use borrow.Author.Tests.{eq-eqb, eqb-true, leb-true, ltb-true, le-ltb, lt-ltb, le-leb}
+use borrow.Author.Tests.{eqb-true, leb-true, ltb-true, le-ltb, lt-ltb, le-leb}
 use lib.Dec.{leb, eqb}
 use Rattle.theory_laws.specs.Questions.{pick, Question, firstNo}
-use Rattle.theory_laws.proofs.Questions.{yes-eq, no-eq, all-yes, yes-all, first-stops, first-passes}
-use Rattle.theory_record.specs.Widths.{present, levelLength}
+use Rattle.theory_laws.proofs.Questions.{yes-eq, no-eq, yes-eq-given, all-yes, first-stops, first-passes}
+use Rattle.theory_record.specs.Widths.{Widths, levelLength}
 use Rattle.theory_record.specs.Build.{levelsLength, treeStart}
 use Rattle.theory_record.specs.Query.{sizeQuestions}
 use Rattle.theory_record.proofs.Ranges.{sizes-fit}
@@ -25,15 +25,12 @@ module _ {A : Type 0} (r x y : A) where
 
 pub ruleset asks-twice = (yes-eq-twice, no-eq-twice)
 
--- 5, where every length is right
-pub room-asked : (n k gammas levels half kept trees roots : ℕ) {len size bytes : ℕ} → len ≡ levelsLength n k → size ≡ levelLength n k 0
-    → bytes ≡ 32 * treeStart present n k (suc n) → gammas ≡ 2 * (k * n) → levels ≡ 2 * len → half ≡ size → kept ≡ 2 * n → trees ≡ bytes → roots ≡ 32 * (n + 1)
-    → 0 ≡ firstNo (depositQuestions n k gammas levels half kept trees roots)
-room-asked n k gammas levels half kept trees roots el es eb a b c d e f =
-    sym (yes-all (depositQuestions n k gammas levels half kept trees roots) (
-      eq-eqb _ _ a,
-      (eq-eqb _ _ (b ∙ ap (λ (i : ℕ). 2 * i) el), (eq-eqb _ _ (c ∙ es), (eq-eqb _ _ d, (eq-eqb _ _ (e ∙ eb), (eq-eqb _ _ f, tt))))),
-    ))
+-- 5 of the roots, where every other length is right
+pub roots-asked : (s : Widths) (n k gammas levels half kept trees roots : ℕ) {len size bytes r : ℕ} → len ≡ levelsLength n k → size ≡ levelLength n k 0
+    → bytes ≡ 32 * treeStart s n k (suc n) → gammas ≡ 2 * (k * n) → levels ≡ 2 * len → half ≡ size → kept ≡ 2 * n → trees ≡ bytes
+    → r ≡ pick (eqb roots (32 * (n + 1))) 0 5 → r ≡ firstNo (depositQuestions s n k gammas levels half kept trees roots)
+roots-asked s n k gammas levels half kept trees roots {r = r} el es eb a b c d e f =
+    yes-eq r _ _ _ _ a (yes-eq-twice r _ _ _ _ _ el b (yes-eq-given r _ _ _ _ _ es c (yes-eq r _ _ _ _ d (yes-eq-given r _ _ _ _ _ eb e f))))
 
 -- 11, by the length of level 0 as code computes it
 module _ (n k base position : ℕ) {size : ℕ} (low : base ≤ 200) (e : size ≡ levelLength n k 0) where
@@ -46,15 +43,15 @@ module _ (n k base position : ℕ) {size : ℕ} (low : base ≤ 200) (e : size �
   pub in-reach : position < size → 0 ≡ firstNo (lastQuestions n k base position)
   in-reach h = rw (le-leb base 200 low, ← size-is, lt-ltb position size h)
 
-module _ (n k position base table calls challenges gammas levels half kept trees roots query tail one two : ℕ) where
+module _ (s : Widths) (n k position base table calls challenges gammas levels half kept trees roots query tail one two : ℕ) where
   abbrev N : ℕ
-  N = runNumber n k position base table calls challenges gammas levels half kept trees roots query tail one two
+  N = runNumber s n k position base table calls challenges gammas levels half kept trees roots query tail one two
 
   abbrev fourth : List Question
-  fourth = recordQuestions n k query tail one two ++ lastQuestions n k base position
+  fourth = recordQuestions s n k query tail one two ++ lastQuestions n k base position
 
   abbrev third : List Question
-  third = depositQuestions n k gammas levels half kept trees roots ++ fourth
+  third = depositQuestions s n k gammas levels half kept trees roots ++ fourth
 
   abbrev second : List Question
   second = inputQuestions n table calls challenges ++ third
@@ -73,29 +70,29 @@ module _ (n k position base table calls challenges gammas levels half kept trees
       pub no-input : (b ≡ 0 → ⊥) → b ≡ N
       no-input z = past-size b (first-stops (inputQuestions n table calls challenges) third b tt eb z)
 
-      module _ (zb : b ≡ 0) (c : ℕ) (ec : c ≡ firstNo (depositQuestions n k gammas levels half kept trees roots)) where
+      module _ (zb : b ≡ 0) (c : ℕ) (ec : c ≡ firstNo (depositQuestions s n k gammas levels half kept trees roots)) where
         past-input : (r : ℕ) → r ≡ firstNo third → r ≡ N
         past-input r f = past-size r (first-passes (inputQuestions n table calls challenges) third b tt eb r zb f)
 
         pub no-deposit : (c ≡ 0 → ⊥) → c ≡ N
-        no-deposit z = past-input c (first-stops (depositQuestions n k gammas levels half kept trees roots) fourth c tt ec z)
+        no-deposit z = past-input c (first-stops (depositQuestions s n k gammas levels half kept trees roots) fourth c tt ec z)
 
-        module _ (zc : c ≡ 0) (d : ℕ) (ed : d ≡ firstNo (recordQuestions n k query tail one two)) where
+        module _ (zc : c ≡ 0) (d : ℕ) (ed : d ≡ firstNo (recordQuestions s n k query tail one two)) where
           past-deposit : (r : ℕ) → r ≡ firstNo fourth → r ≡ N
-          past-deposit r f = past-input r (first-passes (depositQuestions n k gammas levels half kept trees roots) fourth c tt ec r zc f)
+          past-deposit r f = past-input r (first-passes (depositQuestions s n k gammas levels half kept trees roots) fourth c tt ec r zc f)
 
           pub no-record : (d ≡ 0 → ⊥) → d ≡ N
-          no-record z = past-deposit d (first-stops (recordQuestions n k query tail one two) (lastQuestions n k base position) d tt ed z)
+          no-record z = past-deposit d (first-stops (recordQuestions s n k query tail one two) (lastQuestions n k base position) d tt ed z)
 
           pub the-last : d ≡ 0 → (r : ℕ) → r ≡ firstNo (lastQuestions n k base position) → r ≡ N
-          the-last zd r f = past-deposit r (first-passes (recordQuestions n k query tail one two) (lastQuestions n k base position) d tt ed r zd f)
+          the-last zd r f = past-deposit r (first-passes (recordQuestions s n k query tail one two) (lastQuestions n k base position) d tt ed r zd f)
 
   -- where none says no
   module _ {q : ℕ} (e : q ≡ N) (z : q ≡ 0) where
-    pub rooms : Room n k base table calls challenges gammas levels half kept trees roots × RecordRoom n k position query tail one two
+    pub rooms : Room s n k base table calls challenges gammas levels half kept trees roots × RecordRoom s n k position query tail one two
     unfolding runNumber
     rooms =
-        let all = runQuestions n k position base table calls challenges gammas levels half kept trees roots query tail one two in
+        let all = runQuestions s n k position base table calls challenges gammas levels half kept trees roots query tail one two in
         let y = sizes-fit n k (all-yes all tt (sym e ∙ z)) in
         let i = y .1 in
         let d = i .1 .1 .1 in

@@ -6,7 +6,8 @@ use lib.ListN.{length, drop}
 use Rattle.theory_field.specs.Words.{words}
 use Rattle.theory_blake3.specs.Digest.{hash}
 use Rattle.theory_code.specs.Gammas.{gammas}
-use Rattle.theory_record.specs.Widths.{present, levelLength, treeLength}
+use Rattle.theory_record.specs.declared.WidthSet.{WidthSet}
+use Rattle.theory_record.specs.Widths.{Widths, levelLength, treeLength}
 use Rattle.theory_record.specs.Trees.{treesLent, rootsLent}
 use Rattle.theory_record.specs.Build.{levelValues}
 use Rattle.theory_record.specs.Scheme.{scheme}
@@ -16,19 +17,19 @@ use Rattle.claim_fold_calls.specs.Left.{Left}
 
 -- what committing, the calls and the trees leave, lent the halves `old` for the levels and `oldKept` for the challenges
 
-module _ (n k : ℕ) (base table calls challenges : List ℕ) where
+module _ (set : WidthSet) (n k : ℕ) (base table calls challenges : List ℕ) where
   pub record Deposited (old oldKept gammas′ levels kept trees roots : List ℕ) (done : ℕ) : Type 0 where
     pub gammas-are : words gammas′ ≡ gammas hash base n k
     pub left : Left n k (committedCodeword base n k (words table)) (words old) (words oldKept) (lentCalls calls (words challenges)) done levels kept
-    pub trees-are : trees ≡ treesLent (scheme base n k) (levelValues n k (words levels))
-    pub roots-are : roots ≡ rootsLent (scheme base n k) (levelValues n k (words levels))
+    pub trees-are : trees ≡ treesLent (scheme set base n k) (levelValues n k (words levels))
+    pub roots-are : roots ≡ rootsLent (scheme set base n k) (levelValues n k (words levels))
 
 -- the last level, its tree and its root: they stand at the end
 abbrev pub lastLevel : ℕ → ℕ → List ℕ → List ℕ
 lastLevel n k levels = drop (length levels - 2 * levelLength n k n) levels
 
-abbrev pub lastTree : ℕ → ℕ → List ℕ → List ℕ
-lastTree n k trees = drop (length trees - 32 * treeLength present n k n) trees
+abbrev pub lastTree : Widths → ℕ → ℕ → List ℕ → List ℕ
+lastTree s n k trees = drop (length trees - 32 * treeLength s n k n) trees
 
 abbrev pub lastRoot : List ℕ → List ℕ
 lastRoot roots = drop (length roots - 32) roots

@@ -4,7 +4,7 @@ use mathlib.Core.List.{List, [], _∷_, _++_}
 use lib.Dec.{eqb, leb, ltb}
 use Rattle.theory_laws.specs.Questions.{Question, _asks_, firstNo}
 use Rattle.theory_code.specs.Questions.{lent}
-use Rattle.theory_record.specs.Widths.{present, levelLength}
+use Rattle.theory_record.specs.Widths.{Widths, levelLength}
 use Rattle.theory_record.specs.Sizes.{querySize, tailSize}
 use Rattle.theory_record.specs.Query.{sizeQuestions}
 use Rattle.theory_record.specs.Build.{levelsLength, treeStart}
@@ -19,21 +19,21 @@ inputQuestions n table calls challenges =
     []
 
 -- 5: room for the gammas, all levels, a fold of level 0, n challenges, all trees and all roots
-abbrev pub depositQuestions : ℕ → ℕ → ℕ → ℕ → ℕ → ℕ → ℕ → ℕ → List Question
-depositQuestions n k gammas levels half kept trees roots =
+abbrev pub depositQuestions : Widths → ℕ → ℕ → ℕ → ℕ → ℕ → ℕ → ℕ → ℕ → List Question
+depositQuestions s n k gammas levels half kept trees roots =
     lent gammas (k * n) ∷
     lent levels (levelsLength n k) ∷
     (5 asks eqb half (levelLength n k 0)) ∷
     lent kept n ∷
-    (5 asks eqb trees (32 * treeStart present n k (suc n))) ∷
+    (5 asks eqb trees (32 * treeStart s n k (suc n))) ∷
     (5 asks eqb roots (32 * (n + 1))) ∷
     []
 
 -- 5: room for a query record, a tail record and two messages
-abbrev pub recordQuestions : ℕ → ℕ → ℕ → ℕ → ℕ → ℕ → List Question
-recordQuestions n k query tail one two =
-    (5 asks eqb query (querySize present n k)) ∷
-    (5 asks eqb tail (tailSize present n k)) ∷
+abbrev pub recordQuestions : Widths → ℕ → ℕ → ℕ → ℕ → ℕ → ℕ → List Question
+recordQuestions s n k query tail one two =
+    (5 asks eqb query (querySize s n k)) ∷
+    (5 asks eqb tail (tailSize s n k)) ∷
     (5 asks eqb one messageBuffer) ∷
     (5 asks eqb two messageBuffer) ∷
     []
@@ -46,13 +46,13 @@ lastQuestions n k base position =
     []
 
 -- all of them, after 4
-module _ (n k position base table calls challenges gammas levels half kept trees roots query tail one two : ℕ) where
+module _ (s : Widths) (n k position base table calls challenges gammas levels half kept trees roots query tail one two : ℕ) where
   abbrev pub runQuestions : List Question
   runQuestions =
       sizeQuestions n k
       ++ inputQuestions n table calls challenges
-      ++ depositQuestions n k gammas levels half kept trees roots
-      ++ recordQuestions n k query tail one two
+      ++ depositQuestions s n k gammas levels half kept trees roots
+      ++ recordQuestions s n k query tail one two
       ++ lastQuestions n k base position
 
   unfoldable pub runNumber : ℕ

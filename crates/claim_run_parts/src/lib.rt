@@ -1,5 +1,5 @@
 // The parts of a whole run (SPECIFICATION 10.1): its questions, committing with the calls and the trees, each record built and checked, two records
-// compared. These are helpers for the whole run: most require that what they are lent has its length.
+// compared, all under one set of widths. These are helpers for the whole run: most require that what they are lent has its length.
 pub mod questions;
 
 use claim_fold_calls::fold_calls;
@@ -15,12 +15,13 @@ use record_query_check::Checked;
 use record_query_check::check_query;
 use record_tail_build::build_tail;
 use record_tail_check::check_tail;
+use theory_record::WidthSet;
 use tree_place::Place;
 ghost use mathlib.Core.Path.{_≡_};
 ghost use lib.ListN.{length};
 ghost use Rattle.theory_laws.specs.Table.{tab};
 ghost use Rattle.field_gf128.specs.Word.{word};
-ghost use Rattle.theory_record.specs.Widths.{present};
+ghost use Rattle.theory_record.specs.Widths.{widthsOf};
 ghost use Rattle.theory_record.specs.Query.{checkQuery};
 ghost use Rattle.theory_record.specs.Tail.{checkTail};
 ghost use Rattle.theory_record.specs.Build.{buildQuery};
@@ -33,6 +34,7 @@ ghost use Rattle.claim_run_parts.specs.helpers.Room.{CommitLent, CommitL
 
 // A table committed: its gammas, level 0 at the front of the levels and level 0's tree at the front of the trees.
 fn commit_first(
+    set: WidthSet,
     n: usize,
     k: usize,
     base: &[u8],
@@ -41,12 +43,13 @@ fn commit_first(
     levels: &mut [u64],
     trees: &mut [u8],
 )
-    requires { ⌜ CommitLent n k base table gammas levels trees ⌝ }
-    ensures { λ _. ⌜ CommitLeft n k base table gammas levels trees ⌝ }
+    requires { ⌜ CommitLent set n k base table gammas levels trees ⌝ }
+    ensures { λ _. ⌜ CommitLeft set n k base table gammas levels trees ⌝ }
 {
     let size = 2 * level_length(n, k, 0);
-    let bytes = tree_bytes(n, k, 0);
+    let bytes = tree_bytes(set, n, k, 0);
     commit(
+        set,
         n,
         k,
         base,
@@ -60,6 +63,7 @@ fn commit_first(
 // A table committed, the calls of a lent list on its codeword, and the trees and roots of all levels: how many calls are done. The challenges of
 // the done ones are kept; `half` is room for a fold and is left with zeros.
 pub fn deposit(
+    set: WidthSet,
     n: usize,
     k: usize,
     base: &[u8],
@@ -73,18 +77,19 @@ pub fn deposit(
     trees: &mut [u8],
     roots: &mut [u8],
 ) -> usize
-    requires { ⌜ DepositLent n k base table calls challenges gammas levels half kept trees roots ⌝ }
-    ensures { λ done. ⌜ DepositLeft n k base table calls challenges gammas levels kept trees roots done ⌝ }
+    requires { ⌜ DepositLent set n k base table calls challenges gammas levels half kept trees roots ⌝ }
+    ensures { λ done. ⌜ DepositLeft set n k base table calls challenges gammas levels kept trees roots done ⌝ }
     ensures { λ _. ⌜ now (half .exit) ≡ tab (length (now (half .entry))) (λ v. 0) ⌝ }
 {
-    commit_first(n, k, base, table, gammas, levels, trees);
+    commit_first(set, n, k, base, table, gammas, levels, trees);
     let done = fold_calls(n, k, calls, challenges, levels, half, kept);
-    level_trees(n, k, base, levels, trees, roots);
+    level_trees(set, n, k, base, levels, trees, roots);
     done
 }
 
 // The query record at a position, built and checked.
 pub fn query_record(
+    set: WidthSet,
     n: usize,
     k: usize,
     base: &[u8],
@@ -95,16 +100,17 @@ pub fn query_record(
     roots: &[u8],
     out: &mut [u8],
 ) -> Checked
-    ensures { λ _. ⌜ now (out .exit) ≡ buildQuery present n k (now (levels .entry)) (now (trees .entry)) position (now (out .entry)) ⌝ }
-    ensures { λ r. ⌜ answer r ≡ checkQuery (schemeOf base n k) position (now (kept .entry)) (now (roots .entry)) (now (out .exit)) ⌝ }
+    ensures { λ _. ⌜ now (out .exit) ≡ buildQuery (widthsOf set) n k (now (levels .entry)) (now (trees .entry)) position (now (out .entry)) ⌝ }
+    ensures { λ r. ⌜ answer r ≡ checkQuery (schemeOf set base n k) position (now (kept .entry)) (now (roots .entry)) (now (out .exit)) ⌝ }
 {
     let place = Place::at(position);
-    build_query(out, levels, trees, n, k, place);
-    check_query(base, n, k, place, kept, roots, out)
+    build_query(out, levels, trees, set, n, k, place);
+    check_query(base, set, n, k, place, kept, roots, out)
 }
 
 // The tail record, built from the last level and its tree, and checked under the last root.
 pub fn tail_record(
+    set: WidthSet,
     n: usize,
     k: usize,
     base: &[u8],
@@ -114,19 +120,20 @@ pub fn tail_record(
     roots: &[u8],
     out: &mut [u8],
 ) -> u32
-    requires { ⌜ LastRoom n k (length (now levels)) (length (now trees)) (length (now roots)) ⌝ }
-    ensures { λ _. ⌜ now (out .exit) ≡ tailLent n k levels trees out ⌝ }
-    ensures { λ r. ⌜ r ≡ checkTail (schemeOf base n k) (lastRoot (now (roots .entry))) (word claim) (now (out .exit)) ⌝ }
+    requires { ⌜ LastRoom (widthsOf set) n k (length (now levels)) (length (now trees)) (length (now roots)) ⌝ }
+    ensures { λ _. ⌜ now (out .exit) ≡ tailLent set n k levels trees out ⌝ }
+    ensures { λ r. ⌜ r ≡ checkTail (schemeOf set base n k) (lastRoot (now (roots .entry))) (word claim) (now (out .exit)) ⌝ }
 {
     let from = levels.len() - 2 * level_length(n, k, n);
-    let at = trees.len() - tree_bytes(n, k, n);
+    let at = trees.len() - tree_bytes(set, n, k, n);
     let last = roots.len() - 32;
-    build_tail(out, &levels[from..], &trees[at..], n, k);
-    check_tail(base, n, k, &roots[last..], claim, out)
+    build_tail(out, &levels[from..], &trees[at..], set, n, k);
+    check_tail(base, set, n, k, &roots[last..], claim, out)
 }
 
 // Two records for a position compared, into two message buffers.
 pub fn two_records(
+    set: WidthSet,
     n: usize,
     k: usize,
     base: &[u8],
@@ -138,10 +145,10 @@ pub fn two_records(
     one: &mut [u8],
     two: &mut [u8],
 ) -> Compared
-    ensures { λ r. ⌜ comparison r ≡ comparedLent base n k position kept roots first second one two ⌝ }
-    ensures { λ _. ⌜ now (one .exit) ≡ firstLeft base n k position kept roots first second one two ⌝ }
-    ensures { λ _. ⌜ now (two .exit) ≡ secondLeft base n k position kept roots first second one two ⌝ }
+    ensures { λ r. ⌜ comparison r ≡ comparedLent base set n k position kept roots first second one two ⌝ }
+    ensures { λ _. ⌜ now (one .exit) ≡ firstLeft base set n k position kept roots first second one two ⌝ }
+    ensures { λ _. ⌜ now (two .exit) ≡ secondLeft base set n k position kept roots first second one two ⌝ }
 {
     let place = Place::at(position);
-    compare(base, n, k, place, kept, roots, first, second, one, two)
+    compare(base, set, n, k, place, kept, roots, first, second, one, two)
 }

@@ -7,9 +7,11 @@ use code_level::trees_size;
 use compare_records::MESSAGE_BUFFER;
 use record_query_build::query_size;
 use record_tail_build::tail_size;
+use theory_record::WidthSet;
 ghost use mathlib.Core.Path.{_≡_};
 ghost use Prim.Native.Nat.{_≤_};
 ghost use Rattle.theory_laws.specs.Questions.{firstNo};
+ghost use Rattle.theory_record.specs.Widths.{widthsOf};
 ghost use Rattle.theory_record.specs.Accepted.{SizesFit};
 ghost use Rattle.claim_run_parts.specs.Questions.{inputQuestions, depositQuestions, recordQuestions, lastQuestions, runNumber};
 
@@ -32,6 +34,7 @@ fn input_number(n: usize, table: usize, calls: usize, challenges: usize) -> u32
 
 // 5, of the room for the gammas, the levels, a fold, the challenges, the trees and the roots.
 fn deposit_number(
+    set: WidthSet,
     n: usize,
     k: usize,
     gammas: usize,
@@ -42,7 +45,7 @@ fn deposit_number(
     roots: usize,
 ) -> u32
     requires { ⌜ SizesFit n k ⌝ }
-    ensures { λ r. ⌜ r ≡ firstNo (depositQuestions n k gammas levels half kept trees roots) ⌝ }
+    ensures { λ r. ⌜ r ≡ firstNo (depositQuestions (widthsOf set) n k gammas levels half kept trees roots) ⌝ }
 {
     if gammas != 2 * (k * n) {
         return 5;
@@ -56,7 +59,7 @@ fn deposit_number(
     if kept != 2 * n {
         return 5;
     }
-    if trees != trees_size(n, k) {
+    if trees != trees_size(set, n, k) {
         return 5;
     }
     if roots != 32 * (n + 1) {
@@ -66,14 +69,22 @@ fn deposit_number(
 }
 
 // 5, of the room for the records and the messages.
-fn record_number(n: usize, k: usize, query: usize, tail: usize, one: usize, two: usize) -> u32
+fn record_number(
+    set: WidthSet,
+    n: usize,
+    k: usize,
+    query: usize,
+    tail: usize,
+    one: usize,
+    two: usize,
+) -> u32
     requires { ⌜ SizesFit n k ⌝ }
-    ensures { λ r. ⌜ r ≡ firstNo (recordQuestions n k query tail one two) ⌝ }
+    ensures { λ r. ⌜ r ≡ firstNo (recordQuestions (widthsOf set) n k query tail one two) ⌝ }
 {
-    if query != query_size(n, k) {
+    if query != query_size(set, n, k) {
         return 5;
     }
-    if tail != tail_size(n, k) {
+    if tail != tail_size(set, n, k) {
         return 5;
     }
     if one != MESSAGE_BUFFER {
@@ -101,6 +112,7 @@ fn last_number(n: usize, k: usize, base: usize, position: usize) -> u32
 
 // The number that a run answers.
 pub fn run_number(
+    set: WidthSet,
     n: usize,
     k: usize,
     position: usize,
@@ -119,7 +131,7 @@ pub fn run_number(
     one: usize,
     two: usize,
 ) -> u32
-    ensures { λ r. ⌜ r ≡ runNumber n k position base table calls challenges gammas levels half kept trees roots query tail one two ⌝ }
+    ensures { λ r. ⌜ r ≡ runNumber (widthsOf set) n k position base table calls challenges gammas levels half kept trees roots query tail one two ⌝ }
 {
     let a = size_number(n, k);
     if a != 0 {
@@ -129,11 +141,11 @@ pub fn run_number(
     if b != 0 {
         return b;
     }
-    let c = deposit_number(n, k, gammas, levels, half, kept, trees, roots);
+    let c = deposit_number(set, n, k, gammas, levels, half, kept, trees, roots);
     if c != 0 {
         return c;
     }
-    let d = record_number(n, k, query, tail, one, two);
+    let d = record_number(set, n, k, query, tail, one, two);
     if d != 0 {
         return d;
     }

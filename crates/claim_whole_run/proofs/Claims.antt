@@ -13,14 +13,14 @@ use Rattle.theory_field.proofs.Words.{length-words-even}
 use Rattle.theory_multilinear.specs.Folds.{Fold, atFirst}
 use Rattle.theory_code.specs.Questions.{foldNumber}
 use Rattle.theory_blake3.proofs.HashMode.{length-hash}
-use Rattle.theory_record.specs.Widths.{present, levelLength, treeLength}
+use Rattle.theory_record.specs.Widths.{Widths, widthsOf, levelLength, treeLength}
 use Rattle.theory_record.specs.Trees.{treeFor, rootFor, levelsLent, treesLent, rootsLent}
 use Rattle.theory_record.specs.Query.{Answer, accepted, rootAt, checkQuery}
 use Rattle.theory_record.specs.Tail.{checkTail}
 use Rattle.theory_record.specs.Build.{levelsLength, levelValues, buildQuery, buildTail}
 use Rattle.theory_record.specs.Scheme.{Scheme, scheme}
 use Rattle.theory_record.proofs.Ranges.{sizes-small}
-use Rattle.theory_record.proofs.Widths.{present-powers}
+use Rattle.theory_record.proofs.Widths.{powers}
 use Rattle.theory_record.proofs.Totals.{endToEnd-ext, part-endToEnd, total-same}
 use Rattle.theory_record.proofs.Offsets.{level-within, tree-within, length-levelValues}
 use Rattle.theory_record.proofs.Accepted.{length-rootFor}
@@ -37,20 +37,20 @@ use Rattle.claim_run_parts.specs.helpers.Room.{Room, RecordRoom, LastRoom}
 use Rattle.claim_run_parts.proofs.Deposits.{deposit-of, claim-of}
 
 -- room for the last level, its tree and its root
-pub last-room : {n k base table calls challenges gammas levels half kept trees roots : ℕ}
-    → Room n k base table calls challenges gammas levels half kept trees roots → LastRoom n k levels trees roots
-last-room {n} {k} r =
+pub last-room : {s : Widths} {n k base table calls challenges gammas levels half kept trees roots : ℕ}
+    → Room s n k base table calls challenges gammas levels half kept trees roots → LastRoom s n k levels trees roots
+last-room {s} {n} {k} r =
     record {
       small = sizes-small n k (r .commit .sizes);
       levels-least = omega (arith, r .commit .levels-long, level-within n k n (omega arith));
-      trees-least = omega (arith, r .commit .trees-long, tree-within present n k n (omega arith));
+      trees-least = omega (arith, r .commit .trees-long, tree-within s n k n (omega arith));
       roots-least = omega (arith, r .roots-long);
     }
 
 -- lengths that a step kept
-pub room-same : {n k base table calls challenges gammas levels half kept trees roots levels′ kept′ trees′ roots′ : ℕ}
-    → Room n k base table calls challenges gammas levels half kept trees roots → levels′ ≡ levels → kept′ ≡ kept → trees′ ≡ trees → roots′ ≡ roots
-    → Room n k base table calls challenges gammas levels′ half kept′ trees′ roots′
+pub room-same : {s : Widths} {n k base table calls challenges gammas levels half kept trees roots levels′ kept′ trees′ roots′ : ℕ}
+    → Room s n k base table calls challenges gammas levels half kept trees roots → levels′ ≡ levels → kept′ ≡ kept → trees′ ≡ trees → roots′ ≡ roots
+    → Room s n k base table calls challenges gammas levels′ half kept′ trees′ roots′
 room-same r el ek et er = rw (el, ek, et, er) r
 
 -- the challenges of folds at variable 0
@@ -59,15 +59,18 @@ challenges-first [] = refl
 challenges-first (x ∷ r) = ap (λ (rs : List ℕ). x ∷ rs) (challenges-first r)
 
 module _ (G : Given) (old new : Buffers) (h done : ℕ)
-    (room : Room (G .n) (G .k) (length (G .base)) (length (G .table)) (length (G .calls)) (length (G .challenges)) (length (old .gammas))
-    (length (new .levels)) h (length (new .kept)) (length (new .trees)) (length (new .roots)))
-    (d : Deposited (G .n) (G .k) (G .base) (G .table) (G .calls) (G .challenges) (old .levels) (old .kept) (new .gammas) (new .levels) (new .kept)
+    (room : Room (widthsOf (G .set)) (G .n) (G .k) (length (G .base)) (length (G .table)) (length (G .calls)) (length (G .challenges))
+    (length (old .gammas)) (length (new .levels)) h (length (new .kept)) (length (new .trees)) (length (new .roots)))
+    (d : Deposited (G .set) (G .n) (G .k) (G .base) (G .table) (G .calls) (G .challenges) (old .levels) (old .kept) (new .gammas) (new .levels) (new .kept)
     (new .trees) (new .roots) done) where
-  open Given G using (n, k, position, base, table)
+  open Given G using (set, n, k, position, base, table)
   open Buffers new using (levels, kept, trees, roots)
 
+  abbrev s : Widths
+  s = widthsOf set
+
   abbrev S : Scheme
-  S = scheme base n k
+  S = scheme set base n k
 
   abbrev c : List ℕ
   c = whole.codeword G
@@ -79,8 +82,8 @@ module _ (G : Given) (old new : Buffers) (h done : ℕ)
   values l = levelValues n k (words levels) l
 
   -- the claim, with what is kept for its challenges
-  pub theorem : Claim n k base table kept
-  theorem = claim-of base table kept (room .commit) (room .kept-long)
+  pub theorem : Claim set n k base table kept
+  theorem = claim-of set base table kept (room .commit) (room .kept-long)
 
   words-long : length (words levels) ≡ levelsLength n k
   words-long = length-words-even levels (levelsLength n k) (room .commit .levels-long)
@@ -100,9 +103,9 @@ module _ (G : Given) (old new : Buffers) (h done : ℕ)
   root-at l g =
       ap (part 32 (32 * l)) (d .roots-are)
       ∙ ap (λ (i : ℕ). part 32 i (rootsLent S values)) (sym (total-same 32 l))
-      ∙ part-endToEnd (suc n) l (λ i. rootFor S i (values i)) (λ i. 32) (λ i f. length-rootFor S length-hash i (values i) present-powers) (omega arith)
+      ∙ part-endToEnd (suc n) l (λ i. rootFor S i (values i)) (λ i. 32) (λ i f. length-rootFor S length-hash i (values i) (powers set)) (omega arith)
 
-  pub root-last : (l : ℕ) → l ≤ n → getD (treeFor S l (values l)) (treeLength present n k l - 1) [] ≡ rootAt roots l
+  pub root-last : (l : ℕ) → l ≤ n → getD (treeFor S l (values l)) (treeLength s n k l - 1) [] ≡ rootAt roots l
   root-last l g = theorem .root-last l g (values l) ∙ sym (root-at l g)
 
   -- the last level has its length
@@ -111,10 +114,10 @@ module _ (G : Given) (old new : Buffers) (h done : ℕ)
       length-drop (length levels - 2 * levelLength n k n) levels
       ∙ omega (arith, room .commit .levels-long, level-within n k n (omega arith))
 
-  last-tree-long : length (lastTree n k trees) ≡ 32 * treeLength present n k n
+  last-tree-long : length (lastTree s n k trees) ≡ 32 * treeLength s n k n
   last-tree-long =
-      length-drop (length trees - 32 * treeLength present n k n) trees
-      ∙ omega (arith, room .commit .trees-long, tree-within present n k n (omega arith))
+      length-drop (length trees - 32 * treeLength s n k n) trees
+      ∙ omega (arith, room .commit .trees-long, tree-within s n k n (omega arith))
 
   -- ---- where the done calls are n folds at variable 0 by what is kept
 
@@ -122,7 +125,7 @@ module _ (G : Given) (old new : Buffers) (h done : ℕ)
     abbrev level : ℕ → List ℕ
     level = afterFolds c xs
 
-    after : After n k base table kept xs
+    after : After set n k base table kept xs
     after = theorem .after-calls xs all-first
 
     first-long : length (doneFolds c xs) ≡ n
@@ -144,17 +147,17 @@ module _ (G : Given) (old new : Buffers) (h done : ℕ)
     roots-are : roots ≡ rootsLent S level
     roots-are = d .roots-are ∙ endToEnd-ext (suc n) _ _ (λ l g. ap (rootFor S l) (each l (omega arith)))
 
-    lent : Lent n k base table kept xs levels trees roots
+    lent : Lent set n k base table kept xs levels trees roots
     lent = record { levels-long = room .commit .levels-long; levels-are = words-are; trees-are = trees-are; roots-are = roots-are }
 
-    last-lent : LastLent n k base table kept xs (lastLevel n k levels) (lastTree n k trees) (lastRoot roots)
-    last-lent = L.last-lent n k base table kept (deposit-of base table kept (room .commit) (room .kept-long)) xs all-first levels trees roots lent
+    last-lent : LastLent set n k base table kept xs (lastLevel n k levels) (lastTree s n k trees) (lastRoot roots)
+    last-lent = L.last-lent set n k base table kept (deposit-of base table kept (room .commit) (room .kept-long)) xs all-first levels trees roots lent
 
   -- ---- with the records and their checks
 
-  module _ (q : RecordRoom n k position (length (old .query)) (length (old .tail)) (length (old .one)) (length (old .two))) {query : Answer} {tail : ℕ}
-      (query-is : new .query ≡ buildQuery present n k levels trees position (old .query))
-      (tail-is : new .tail ≡ buildTail present n k (lastLevel n k levels) (lastTree n k trees) (old .tail))
+  module _ (q : RecordRoom s n k position (length (old .query)) (length (old .tail)) (length (old .one)) (length (old .two))) {query : Answer} {tail : ℕ}
+      (query-is : new .query ≡ buildQuery s n k levels trees position (old .query))
+      (tail-is : new .tail ≡ buildTail s n k (lastLevel n k levels) (lastTree s n k trees) (old .tail))
       (answer-is : query ≡ checkQuery S position kept roots (new .query)) (number-is : tail ≡ checkTail S (lastRoot roots) (G .claim) (new .tail)) where
     -- by what is kept
     after-kept : doneFolds c xs ≡ atFirst (words kept) → AfterCalls G old new (words kept) query tail
@@ -193,7 +196,7 @@ module _ (G : Given) (old new : Buffers) (h done : ℕ)
       number-same : (m : ℕ) → compared S position kept roots (G .first) (G .second) (old .one) (old .two) .number ≡ m → found .number ≡ m
       number-same m e = ap (λ (x : Comparison). x .number) found-is ∙ e
 
-      settled : Outcome n k base table kept position kept roots (G .first) (G .second) (old .one) (old .two) → whole.Settled G old new found
+      settled : Outcome set n k base table kept position kept roots (G .first) (G .second) (old .one) (old .two) → whole.Settled G old new found
       settled =
           ⊎-elim (λ x. inl (number-same 33 (x .0), x .1))
           (λ x. inr (
@@ -217,7 +220,7 @@ module _ (G : Given) (old new : Buffers) (h done : ℕ)
             root-last = root-last;
             query-done =
                 theorem .query-done levels trees (old .query) position (room .commit .levels-long) (room .commit .trees-long) (q .query-long) (q .position-low);
-            tail-done = theorem .tail-done (lastLevel n k levels) (lastTree n k trees) (old .tail) last-long last-tree-long (q .tail-long);
+            tail-done = theorem .tail-done (lastLevel n k levels) (lastTree s n k trees) (old .tail) last-long last-tree-long (q .tail-long);
             calls-exist = theorem .calls-exist;
             refused-among = λ before after x e z. ap (doneFolds c) e ∙ theorem .refused-among before after x z;
             refused-exist = λ l. theorem .refused-exist (values l);

@@ -1,5 +1,5 @@
--- The whole run: a table committed, a list of fold calls on its codeword, the levels' trees and roots, both records and their checks, and two lent
--- records compared. What is lent to it, what it leaves, and what the claim (SPECIFICATION 10.2) says of that, clause by clause.
+-- The whole run under one set of widths: a table committed, a list of fold calls on its codeword, the levels' trees and roots, both records and their
+-- checks, and two lent records compared. What is lent to it, what it leaves, and what the claim (SPECIFICATION 10.2) says of that, clause by clause.
 use Prim.Native.Nat.{ℕ, suc, _+_, _-_, _*_, _^_, _<_, _≤_}
 use mathlib.Core.Path.{_≡_}
 use mathlib.Core.Logic.{_↔_, _⊎_}
@@ -16,7 +16,8 @@ use Rattle.theory_multilinear.specs.Points.{addPoint}
 use Rattle.theory_blake3.specs.Digest.{hash}
 use Rattle.theory_code.specs.Gammas.{gammas}
 use Rattle.theory_merkle.specs.Numbers.{buildNumber}
-use Rattle.theory_record.specs.Widths.{present, levelLength, levelWidth, treeLength}
+use Rattle.theory_record.specs.declared.WidthSet.{WidthSet}
+use Rattle.theory_record.specs.Widths.{widthsOf, levelLength, levelWidth, treeLength}
 use Rattle.theory_record.specs.Domain.{levelDomain}
 use Rattle.theory_record.specs.Trees.{treeFor}
 use Rattle.theory_record.specs.Query.{Answer, accepted, rootAt, checkQuery}
@@ -38,8 +39,9 @@ use Rattle.claim_whole_run.specs.declared.Answers.{Answers}
 
 -- ---- what is lent
 
--- the numbers, and what is lent for reading: base domain, table, fold calls and their challenges, two records to compare
+-- the set of widths, the numbers, and what is lent for reading: base domain, table, fold calls and their challenges, two records to compare
 pub record Given : Type 0 where
+  pub set : WidthSet
   pub n : ℕ
   pub k : ℕ
   pub position : ℕ
@@ -65,9 +67,10 @@ pub record Buffers : Type 0 where
   pub two : List ℕ
 
 -- these, of the slices that a contract names
-abbrev pub given : ℕ → ℕ → ℕ → ℕ → Slice → Slice → Slice → Slice → Slice → Slice → Given
-given n k position claim base table calls challenges first second =
+abbrev pub given : WidthSet → ℕ → ℕ → ℕ → ℕ → Slice → Slice → Slice → Slice → Slice → Slice → Given
+given set n k position claim base table calls challenges first second =
     record {
+      set = set;
       n = n;
       k = k;
       position = position;
@@ -112,18 +115,18 @@ buffers gammas levels half kept trees roots query tail one two =
 -- the number that a run answers
 abbrev pub numberFor : Given → Buffers → ℕ
 numberFor G B =
-    runNumber (G .n) (G .k) (G .position) (length (G .base)) (length (G .table)) (length (G .calls)) (length (G .challenges))
+    runNumber (widthsOf (G .set)) (G .n) (G .k) (G .position) (length (G .base)) (length (G .table)) (length (G .calls)) (length (G .challenges))
     (length (B .gammas)) (length (B .levels)) (length (B .half)) (length (B .kept)) (length (B .trees)) (length (B .roots))
     (length (B .query)) (length (B .tail)) (length (B .one)) (length (B .two))
 
 -- ---- what a run leaves
 
 module _ (G : Given) where
-  open Given G using (n, k, position, claim, base, table, calls, challenges, first, second)
+  open Given G using (set, n, k, position, claim, base, table, calls, challenges, first, second)
 
   -- what the deposit fixes, the codeword as `commit` leaves it, and the calls on it
   abbrev pub S : Scheme
-  S = scheme base n k
+  S = scheme set base n k
 
   abbrev pub codeword : List ℕ
   codeword = committedCodeword base n k (words table)
@@ -176,13 +179,14 @@ module _ (G : Given) where
     pub record Claimed (query : Answer) (tail : ℕ) (found : Comparison) : Type 0 where
       -- 0. committing, the fold of each level by its kept challenge, its tree and both records are done; the last digest of a tree is its root
       pub commit-done :
-          commitNumber present n k (length base) (length table) (length (old .gammas)) (2 * length codeword) (32 * treeLength present n k 0) ≡ 0
+          commitNumber (S .widths) n k (length base) (length table) (length (old .gammas)) (2 * length codeword) (32 * treeLength (S .widths) n k 0) ≡ 0
       pub fold-done : (l : ℕ) → l < n → callNumber (level l) (keptCall l) ≡ 0
       pub tree-done : (l : ℕ) → l ≤ n
-          → buildNumber (length (levelDomain base l)) (levelLength n k l) (levelWidth present n k l) (2 * levelLength n k l) (32 * treeLength present n k l) ≡ 0
-      pub root-last : (l : ℕ) → l ≤ n → getD (treeFor S l (level l)) (treeLength present n k l - 1) [] ≡ rootAt roots l
-      pub query-done : buildQueryNumber present n k levels trees position (old .query) ≡ 0
-      pub tail-done : buildTailNumber present n k (lastLevel n k levels) (lastTree n k trees) (old .tail) ≡ 0
+          → buildNumber (length (levelDomain base l)) (levelLength n k l) (levelWidth (S .widths) n k l) (2 * levelLength n k l)
+          (32 * treeLength (S .widths) n k l) ≡ 0
+      pub root-last : (l : ℕ) → l ≤ n → getD (treeFor S l (level l)) (treeLength (S .widths) n k l - 1) [] ≡ rootAt roots l
+      pub query-done : buildQueryNumber (S .widths) n k levels trees position (old .query) ≡ 0
+      pub tail-done : buildTailNumber (S .widths) n k (lastLevel n k levels) (lastTree (S .widths) n k trees) (old .tail) ≡ 0
       -- 1. there are calls that do n folds at variable 0 by what is kept; a refused call anywhere among the lent ones changes nothing, and there is
       -- one for every level
       pub calls-exist : (xs : List Call) × (doneFolds codeword xs ≡ atFirst (words kept))
@@ -201,10 +205,10 @@ module _ (G : Given) where
 
     -- the run: what is left, what the records are and what their checks answer, what comparing answers and leaves, and the claim of all that
     pub record Ran (r : Answers) : Type 0 where
-      pub deposited : Deposited n k base table calls challenges (old .levels) (old .kept) (new .gammas) levels kept trees roots (r .done)
+      pub deposited : Deposited set n k base table calls challenges (old .levels) (old .kept) (new .gammas) levels kept trees roots (r .done)
       pub half-cleared : new .half ≡ tab (length (old .half)) (λ v. 0)
-      pub query-is : new .query ≡ buildQuery present n k levels trees position (old .query)
-      pub tail-is : new .tail ≡ buildTail present n k (lastLevel n k levels) (lastTree n k trees) (old .tail)
+      pub query-is : new .query ≡ buildQuery (S .widths) n k levels trees position (old .query)
+      pub tail-is : new .tail ≡ buildTail (S .widths) n k (lastLevel n k levels) (lastTree (S .widths) n k trees) (old .tail)
       pub answer-is : answer (r .query) ≡ checkQuery S position kept roots (new .query)
       pub number-is : r .tail ≡ checkTail S (lastRoot roots) claim (new .tail)
       pub compared-is : comparison (r .compared) ≡ compared S position kept roots first second (old .one) (old .two)

@@ -8,6 +8,7 @@ use claim_run_parts::two_records;
 use compare_records::Compared;
 use field_gf128::Word;
 use record_query_check::Checked;
+use theory_record::WidthSet;
 ghost use Rattle.field_gf128.specs.Word.{word};
 ghost use Rattle.claim_run_parts.specs.helpers.Room.{DepositLent, RecordLent};
 ghost use Rattle.claim_whole_run.specs.Whole.{given, buffers, RunLeft};
@@ -25,6 +26,7 @@ pub struct Answers {
 
 // The run, once its questions are answered.
 fn made(
+    set: WidthSet,
     n: usize,
     k: usize,
     position: usize,
@@ -46,11 +48,12 @@ fn made(
     one: &mut [u8],
     two: &mut [u8],
 ) -> Answers
-    requires { ⌜ DepositLent n k base table calls challenges gammas levels half kept trees roots × RecordLent n k position query tail one two ⌝ }
-    ensures { λ r. ⌜ RunDone (given n k position (word claim) base table calls challenges first second)
+    requires { ⌜ DepositLent set n k base table calls challenges gammas levels half kept trees roots × RecordLent set n k position query tail one two ⌝ }
+    ensures { λ r. ⌜ RunDone (given set n k position (word claim) base table calls challenges first second)
         (buffers gammas levels half kept trees roots query tail one two) r ⌝ }
 {
     let done = deposit(
+        set,
         n,
         k,
         base,
@@ -64,9 +67,21 @@ fn made(
         trees,
         roots,
     );
-    let checked = query_record(n, k, base, position, levels, trees, kept, roots, query);
-    let number = tail_record(n, k, base, claim, levels, trees, roots, tail);
-    let compared = two_records(n, k, base, position, kept, roots, first, second, one, two);
+    let checked = query_record(set, n, k, base, position, levels, trees, kept, roots, query);
+    let number = tail_record(set, n, k, base, claim, levels, trees, roots, tail);
+    let compared = two_records(
+        set,
+        n,
+        k,
+        base,
+        position,
+        kept,
+        roots,
+        first,
+        second,
+        one,
+        two,
+    );
     Answers {
         number: 0,
         done,
@@ -76,11 +91,12 @@ fn made(
     }
 }
 
-// The whole run: a table committed, the calls of a lent list on its codeword, the levels' trees and roots, the query record at a position and the
-// tail record, built and checked, the tail's for a claim, and two lent records for that position compared under the kept challenges and the roots.
-// Where the done calls are n folds at variable 0 by r, the query record is accepted, and the tail record exactly for the claim P(r). It refuses
-// with 4, 5, 7 and 11, and then changes no lent byte.
+// The whole run under one set of widths: a table committed, the calls of a lent list on its codeword, the levels' trees and roots, the query record
+// at a position and the tail record, built and checked, the tail's for a claim, and two lent records for that position compared under the kept
+// challenges and the roots. Where the done calls are n folds at variable 0 by r, the query record is accepted, and the tail record exactly for the
+// claim P(r). It refuses with 4, 5, 7 and 11, and then changes no lent byte.
 pub fn run(
+    set: WidthSet,
     n: usize,
     k: usize,
     position: usize,
@@ -102,10 +118,11 @@ pub fn run(
     one: &mut [u8],
     two: &mut [u8],
 ) -> Answers
-    ensures { λ r. ⌜ RunLeft (given n k position (word claim) base table calls challenges first second)
+    ensures { λ r. ⌜ RunLeft (given set n k position (word claim) base table calls challenges first second)
         (buffers gammas levels half kept trees roots query tail one two) r ⌝ }
 {
     let number = run_number(
+        set,
         n,
         k,
         position,
@@ -141,6 +158,7 @@ pub fn run(
         };
     }
     made(
+        set,
         n,
         k,
         position,

@@ -11,10 +11,12 @@ use Rattle.theory_merkle.specs.Tree.{treeOf}
 use Rattle.theory_merkle.specs.Numbers.{buildNumber}
 use Rattle.bytes_numbers.specs.helpers.Put.{Put}
 use Rattle.tree_digest.proofs.Messages.{message-length, prefix-is}
-use Rattle.theory_record.specs.Widths.{present, levelLength, levelWidth}
+use Rattle.theory_record.specs.declared.WidthSet.{WidthSet}
+use Rattle.theory_record.specs.Widths.{widthsOf, levelLength, levelWidth}
 use Rattle.theory_record.specs.Domain.{levelDomain, domainRoom}
 use Rattle.theory_record.specs.Trees.{treeFor}
 use Rattle.theory_record.proofs.Domain.{levelDomain-fits}
+use Rattle.theory_record.proofs.Widths.{powers, narrow}
 use Rattle.theory_record.proofs.LevelTree.{build-allowed}
 use Rattle.code_commit.specs.helpers.LevelTree.{LevelTree}
 use Rattle.theory_record.specs.Scheme.{scheme}
@@ -32,13 +34,14 @@ module _ (base : List ℕ) (l : ℕ) (short : length base ≤ 200) (low : l < 10
   pub domain-is : take size o1 ≡ levelDomain base l
   domain-is = prefix-is o (length (levelDomain base l)) (levelDomain base l) o1 size p (omega (arith, levelDomain-fits base l short low))
 
-pub level-built : {n k l : ℕ} (base values : List ℕ) {domain : List ℕ} {halves room count width : ℕ} (tree : List ℕ) {t : List ℕ}
-    → LevelTree n k l (length base) halves room
-    → domain ≡ levelDomain base l → count ≡ levelLength n k l → width ≡ levelWidth present n k l
+pub level-built : (set : WidthSet) {n k l : ℕ} (base values : List ℕ) {domain : List ℕ} {halves room count width : ℕ} (tree : List ℕ) {t : List ℕ}
+    → LevelTree (widthsOf set) n k l (length base) halves room
+    → domain ≡ levelDomain base l → count ≡ levelLength n k l → width ≡ levelWidth (widthsOf set) n k l
     → t ≡ onDone (buildNumber (length domain) count width halves room) (flat (treeOf hash domain count width values)) tree
-    → t ≡ flat (treeFor (scheme base n k) l values)
+    → t ≡ flat (treeFor (scheme set base n k) l values)
 unfolding treeFor
-level-built {n} {k} {l} base values {halves = halves} {room = room} tree y ed ec ew e =
+level-built set {n} {k} {l} base values {halves = halves} {room = room} tree y ed ec ew e =
     let d : length (levelDomain base l) ≤ 255 = omega (arith, levelDomain-fits base l (y .base-le) (omega (arith, y .small, y .level-le))) in
-    let z = build-allowed n k l (length (levelDomain base l)) halves room (y .small) d (y .values-are) (y .tree-is) in
+    let w : widthsOf set .width ≤ 512 = omega (arith, narrow set) in
+    let z = build-allowed (widthsOf set) (powers set) n k l (length (levelDomain base l)) halves room w (y .small) d (y .values-are) (y .tree-is) in
     rw (ed, ec, ew, z) at e

@@ -13,7 +13,8 @@ use Rattle.theory_code.specs.Questions.{encodeNumber}
 use Rattle.code_codeword.proofs.Lengths.{encode-accepts}
 use Rattle.theory_code.specs.Gammas.{gammas}
 use Rattle.theory_code.specs.Questions.{deriveNumber}
-use Rattle.theory_record.specs.Widths.{present, levelLength, treeLength}
+use Rattle.theory_record.specs.declared.WidthSet.{WidthSet}
+use Rattle.theory_record.specs.Widths.{Widths, levelLength, treeLength}
 use Rattle.theory_record.specs.Trees.{treeFor}
 use Rattle.theory_record.specs.Query.{sizeQuestions}
 use Rattle.theory_record.proofs.Ranges.{sizes-fit, sizes-small}
@@ -22,21 +23,21 @@ use Rattle.code_commit.specs.Level.{levelQuestions, levelTreeNumber}
 use Rattle.code_commit.specs.helpers.LevelTree.{LevelTree}
 use Rattle.theory_record.specs.Scheme.{scheme}
 
-pub record CommitSizes (n k base table gammas codeword tree : ℕ) : Type 0 where
+pub record CommitSizes (s : Widths) (n k base table gammas codeword tree : ℕ) : Type 0 where
   pub n≤ : n ≤ 20
   pub k≤ : k ≤ 4
   pub table= : table ≡ 2 * 2 ^ n
   pub gammas= : gammas ≡ 2 * (k * n)
   pub codeword= : codeword ≡ 2 * 2 ^ (n + k)
-  pub tree= : tree ≡ 32 * treeLength present n k 0
+  pub tree= : tree ≡ 32 * treeLength s n k 0
   pub base≤ : base ≤ 200
 
-module _ {n k base table gammas codeword tree : ℕ} where
-  pub commit-sizes : {number : ℕ} → number ≡ commitNumber present n k base table gammas codeword tree → number ≡ 0
-      → CommitSizes n k base table gammas codeword tree
+module _ {s : Widths} {n k base table gammas codeword tree : ℕ} where
+  pub commit-sizes : {number : ℕ} → number ≡ commitNumber s n k base table gammas codeword tree → number ≡ 0
+      → CommitSizes s n k base table gammas codeword tree
   unfolding commitNumber
   commit-sizes e z =
-      let y = all-yes (commitQuestions present n k base table gammas codeword tree) tt (sym e ∙ z) in
+      let y = all-yes (commitQuestions s n k base table gammas codeword tree) tt (sym e ∙ z) in
       record {
         n≤ = leb-true n 20 (y .0);
         k≤ = leb-true k 4 (y .1 .0);
@@ -47,7 +48,7 @@ module _ {n k base table gammas codeword tree : ℕ} where
         base≤ = leb-true base 200 (y .1 .1 .1 .1 .1 .1 .0);
       }
 
-  module _ (h : CommitSizes n k base table gammas codeword tree) where
+  module _ (h : CommitSizes s n k base table gammas codeword tree) where
     pub derive-allowed : deriveNumber n k base gammas ≡ 0
     unfolding deriveNumber
     derive-allowed = rw (le-leb n 20 (h .n≤), le-leb k 4 (h .k≤), eq-eqb gammas (2 * (k * n)) (h .gammas=), le-leb base 200 (h .base≤))
@@ -58,7 +59,7 @@ module _ {n k base table gammas codeword tree : ℕ} where
         (h .codeword=)
 
     -- level 0 is the codeword
-    pub tree-allowed : {lent : ℕ} → lent ≡ codeword → LevelTree n k 0 base lent tree
+    pub tree-allowed : {lent : ℕ} → lent ≡ codeword → LevelTree s n k 0 base lent tree
     unfolding levelLength
     tree-allowed f =
         let e : n + k - 0 ≡ n + k = omega arith in
@@ -74,18 +75,18 @@ module _ (base table : List ℕ) (n k : ℕ) {g c : List ℕ} (eg : g ≡ gammas
   unfolding committedCodeword
   codeword-made = ec ∙ ap (λ (x : List ℕ). encode n k x table) eg
 
-  pub tree-made : (t : List ℕ) → t ≡ flat (treeFor (scheme base n k) 0 c) → t ≡ committedTree (scheme base n k) table
+  pub tree-made : (set : WidthSet) (t : List ℕ) → t ≡ flat (treeFor (scheme set base n k) 0 c) → t ≡ committedTree (scheme set base n k) table
   unfolding committedTree
-  tree-made t e = e ∙ ap (λ (x : List ℕ). flat (treeFor (scheme base n k) 0 x)) codeword-made
+  tree-made set t e = e ∙ ap (λ (x : List ℕ). flat (treeFor (scheme set base n k) 0 x)) codeword-made
 
 -- ---- the tree of a level
 
 -- where no question of its entry said no
-pub level-allowed : (n k l base values tree : ℕ) {number : ℕ} → number ≡ levelTreeNumber present n k l base values tree → number ≡ 0
-    → LevelTree n k l base values tree
+pub level-allowed : (s : Widths) (n k l base values tree : ℕ) {number : ℕ} → number ≡ levelTreeNumber s n k l base values tree → number ≡ 0
+    → LevelTree s n k l base values tree
 unfolding levelTreeNumber
-level-allowed n k l base values tree e z =
-    let y = sizes-fit n k (all-yes (sizeQuestions n k ++ levelQuestions present n k l base values tree) tt (sym e ∙ z)) in
+level-allowed s n k l base values tree e z =
+    let y = sizes-fit n k (all-yes (sizeQuestions n k ++ levelQuestions s n k l base values tree) tt (sym e ∙ z)) in
     record {
       small = sizes-small n k (y .0);
       level-le = leb-true l n (y .1 .0);

@@ -4,6 +4,7 @@ pub mod level;
 pub mod trees;
 
 use code_codeword::sizes::holds;
+use theory_record::WidthSet;
 use trees::build_level;
 use trees::tree_bytes;
 ghost use mathlib.Core.Path.{_≡_};
@@ -11,13 +12,14 @@ ghost use Rattle.theory_laws.specs.Questions.{onDone};
 ghost use Rattle.theory_field.specs.Words.{words};
 ghost use Rattle.theory_blake3.specs.Digest.{hash};
 ghost use Rattle.theory_code.specs.Gammas as G;
-ghost use Rattle.theory_record.specs.Widths.{present};
-ghost use Rattle.theory_claim.specs.Commit.{commitNumber, commitAnswer, committedTree};
-ghost use Rattle.code_commit.specs.Lent.{codewordLent};
+ghost use Rattle.theory_record.specs.Widths.{widthsOf};
+ghost use Rattle.theory_claim.specs.Commit.{commitNumber, committedTree};
+ghost use Rattle.code_commit.specs.Lent.{commitLent, codewordLent};
 ghost use Rattle.theory_record.specs.Lent.{schemeOf};
 
 // The number that `commit` answers.
 fn number(
+    set: WidthSet,
     n: usize,
     k: usize,
     base: usize,
@@ -26,7 +28,7 @@ fn number(
     codeword: usize,
     tree: usize,
 ) -> u32
-    ensures { λ r. ⌜ r ≡ commitNumber present n k base table gammas codeword tree ⌝ }
+    ensures { λ r. ⌜ r ≡ commitNumber (widthsOf set) n k base table gammas codeword tree ⌝ }
 {
     if n > 20 {
         return 4;
@@ -43,7 +45,7 @@ fn number(
     if !holds(codeword, n + k) {
         return 5;
     }
-    if tree != tree_bytes(n, k, 0) {
+    if tree != tree_bytes(set, n, k, 0) {
         return 5;
     }
     if base > 200 {
@@ -52,9 +54,10 @@ fn number(
     0
 }
 
-// The gammas of a base domain, the codeword of a table of 2^n words, and level 0's tree. It refuses n past 20 or k past 4 with 4,
-// lengths that are not theirs with 5, and a base domain of more than 200 bytes with 7.
+// The gammas of a base domain, the codeword of a table of 2^n words, and level 0's tree by a set of widths. It refuses n past 20 or k past 4
+// with 4, lengths that are not theirs with 5, and a base domain of more than 200 bytes with 7.
 pub fn commit(
+    set: WidthSet,
     n: usize,
     k: usize,
     base: &[u8],
@@ -63,12 +66,13 @@ pub fn commit(
     codeword: &mut [u64],
     tree: &mut [u8],
 ) -> u32
-    ensures { λ r. ⌜ r ≡ commitAnswer n k (now (base .entry)) (now (table .entry)) (now (gammas .entry)) (now (codeword .entry)) (now (tree .entry)) ⌝ }
+    ensures { λ r. ⌜ r ≡ commitLent set n k base table gammas codeword tree ⌝ }
     ensures { λ r. ⌜ words (now (gammas .exit)) ≡ onDone r (G.gammas hash (now (base .entry)) n k) (words (now (gammas .entry))) ⌝ }
     ensures { λ r. ⌜ words (now (codeword .exit)) ≡ onDone r (codewordLent n k base table) (words (now (codeword .entry))) ⌝ }
-    ensures { λ r. ⌜ now (tree .exit) ≡ onDone r (committedTree (schemeOf base n k) (words (now (table .entry)))) (now (tree .entry)) ⌝ }
+    ensures { λ r. ⌜ now (tree .exit) ≡ onDone r (committedTree (schemeOf set base n k) (words (now (table .entry)))) (now (tree .entry)) ⌝ }
 {
     let refusal = number(
+        set,
         n,
         k,
         base.len(),
@@ -82,6 +86,6 @@ pub fn commit(
     }
     code_gamma::derive(n, k, base, gammas);
     code_codeword::encode(n, k, table, gammas, codeword);
-    build_level(n, k, 0, base, codeword, tree);
+    build_level(set, n, k, 0, base, codeword, tree);
     0
 }

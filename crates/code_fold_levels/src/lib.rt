@@ -10,6 +10,7 @@ use code_levels::lay;
 use field_gf128::Word;
 use field_words::clear;
 use field_words::get;
+use theory_record::WidthSet;
 ghost use mathlib.Core.Path.{_≡_};
 ghost use Prim.Native.Nat.{suc, _*_, _<_};
 ghost use lib.ListN.{length, take};
@@ -17,7 +18,7 @@ ghost use Rattle.theory_laws.specs.Questions.{onDone};
 ghost use Rattle.theory_laws.specs.Table.{tab};
 ghost use Rattle.theory_field.specs.Words.{words};
 ghost use Rattle.field_gf128.specs.Word.{word};
-ghost use Rattle.theory_record.specs.Widths.{present, levelLength};
+ghost use Rattle.theory_record.specs.Widths.{widthsOf, levelLength};
 ghost use Rattle.theory_record.specs.Trees.{levelsLent, treesLent, rootsLent};
 ghost use Rattle.theory_record.specs.Build.{levelStart};
 ghost use Rattle.theory_record.specs.Lent.{schemeOf};
@@ -26,6 +27,7 @@ ghost use Rattle.code_fold_levels.specs.Levels.{foldLevelsNumber, foldLe
 
 // 4, 5 and 7.
 fn number(
+    set: WidthSet,
     n: usize,
     k: usize,
     base: usize,
@@ -35,7 +37,7 @@ fn number(
     trees: usize,
     roots: usize,
 ) -> u32
-    ensures { λ r. ⌜ r ≡ foldLevelsNumber present n k base challenges levels half trees roots ⌝ }
+    ensures { λ r. ⌜ r ≡ foldLevelsNumber (widthsOf set) n k base challenges levels half trees roots ⌝ }
 {
     let x = size_number(n, k);
     if x != 0 {
@@ -50,7 +52,7 @@ fn number(
     if half != 2 * level_length(n, k, 1) {
         return 5;
     }
-    if trees != trees_size(n, k) {
+    if trees != trees_size(set, n, k) {
         return 5;
     }
     if roots != 32 * (n + 1) {
@@ -108,10 +110,11 @@ fn fold_all(n: usize, k: usize, challenges: &[u64], levels: &mut [u64], half: &m
     clear(half);
 }
 
-// All levels of the codeword that stands as level 0 at the front of `levels`, by n challenges, their trees and their roots. `half`, room for
-// half of the codeword, is left with zeros. It refuses n that is not from 1 to 20 or k past 4 with 4, lengths that are not theirs with 5, and
+// All levels of the codeword that stands as level 0 at the front of `levels`, by n challenges, their trees by a set of widths and their roots.
+// `half`, room for half of the codeword, is left with zeros. It refuses n that is not from 1 to 20 or k past 4 with 4, lengths that are not theirs with 5, and
 // a base domain of more than 200 bytes with 7. What it leaves is what the claim builds its records from (proofs/Claim).
 pub fn fold_levels(
+    set: WidthSet,
     n: usize,
     k: usize,
     base: &[u8],
@@ -121,13 +124,14 @@ pub fn fold_levels(
     trees: &mut [u8],
     roots: &mut [u8],
 ) -> u32
-    ensures { λ r. ⌜ r ≡ foldLevelsLent n k base challenges levels half trees roots ⌝ }
+    ensures { λ r. ⌜ r ≡ foldLevelsLent set n k base challenges levels half trees roots ⌝ }
     ensures { λ r. ⌜ words (now (levels .exit)) ≡ onDone r (levelsLent n (foldedLent n k challenges levels)) (words (now (levels .entry))) ⌝ }
     ensures { λ r. ⌜ now (half .exit) ≡ onDone r (tab (length (now (half .entry))) (λ v. 0)) (now (half .entry)) ⌝ }
-    ensures { λ r. ⌜ now (trees .exit) ≡ onDone r (treesLent (schemeOf base n k) (foldedLent n k challenges levels)) (now (trees .entry)) ⌝ }
-    ensures { λ r. ⌜ now (roots .exit) ≡ onDone r (rootsLent (schemeOf base n k) (foldedLent n k challenges levels)) (now (roots .entry)) ⌝ }
+    ensures { λ r. ⌜ now (trees .exit) ≡ onDone r (treesLent (schemeOf set base n k) (foldedLent n k challenges levels)) (now (trees .entry)) ⌝ }
+    ensures { λ r. ⌜ now (roots .exit) ≡ onDone r (rootsLent (schemeOf set base n k) (foldedLent n k challenges levels)) (now (roots .entry)) ⌝ }
 {
     let refusal = number(
+        set,
         n,
         k,
         base.len(),
@@ -141,6 +145,6 @@ pub fn fold_levels(
         return refusal;
     }
     fold_all(n, k, challenges, levels, half);
-    all_trees(n, k, base, levels, trees, roots);
+    all_trees(set, n, k, base, levels, trees, roots);
     0
 }

@@ -4,17 +4,18 @@ use mathlib.Core.Path.{_≡_, refl, sym, _∙_, ap, ap₂}
 use mathlib.Core.Bool.{Bool, true, false}
 use native.Mathlib.Nat.{mod-eq-of-lt}
 use native.Mathlib.Omega.{arith}
-use borrow.Author.Tests.{le-leb, eq-eqb, ne-eqb}
+use borrow.Author.Tests.{le-leb, lt-leb, eq-eqb, ne-eqb}
 use lib.Dec.{leb, eqb}
 use lib.Pow.{pow-mono}
 use Rattle.theory_laws.specs.Questions.{pick}
 use Rattle.theory_merkle.specs.Tree.{depthOf}
-use Rattle.theory_record.specs.Widths.{present, widthFor, levelLength, levelWidth, levelGroups, levelDepth}
+use Rattle.theory_record.specs.declared.WidthSet.{WidthSet}
+use Rattle.theory_record.specs.Widths.{widthsOf, widthFor, levelLength, levelWidth, levelGroups, levelDepth}
 use Rattle.theory_laws.proofs.Questions.{all-yes}
 use Rattle.theory_record.specs.Query.{sizeQuestions}
 use Rattle.theory_record.proofs.Ranges.{SizesFit, sizes-fit}
 use Rattle.code_level.specs.Sizes.{sizeNumber}
-use Rattle.theory_record.proofs.Widths.{present-powers, level-shape, width-pos}
+use Rattle.theory_record.proofs.Widths.{powers, level-shape, width-pos}
 
 -- the code's shift, which keeps 64 bits
 pub shifted : (n k l m : ℕ) → n + k ≤ 24 → m ≡ n + k - l → 1 * 2 ^ m % 2 ^ 64 ≡ levelLength n k l
@@ -24,19 +25,29 @@ shifted n k l m h e =
     let z : 1 * 2 ^ m ≡ 2 ^ m = omega arith in
     rw (z, mod-eq-of-lt {n = 2 ^ m} {m = 2 ^ 64} (omega arith)) (ap (λ (i : ℕ). 2 ^ i) e)
 
-module _ (n k l x w : ℕ) where
-  pub level-width : (r : ℕ) → x ≡ levelLength n k l → r ≡ widthFor present x → r ≡ levelWidth present n k l
+-- the width of a length, by the threshold t that a function gave
+module _ (set : WidthSet) (t len r : ℕ) (e : t ≡ widthsOf set .threshold) where
+  pub from-threshold : t ≤ len → r ≡ widthsOf set .width → r ≡ widthFor (widthsOf set) len
+  unfolding widthFor
+  from-threshold h f = rw (← e, le-leb t len h) f
+
+  pub below-threshold : len < t → r ≡ pick (leb 2 len) 2 1 → r ≡ widthFor (widthsOf set) len
+  unfolding widthFor
+  below-threshold h f = rw (← e, lt-leb t len h) f
+
+module _ (set : WidthSet) (n k l x w : ℕ) where
+  pub level-width : (r : ℕ) → x ≡ levelLength n k l → r ≡ widthFor (widthsOf set) x → r ≡ levelWidth (widthsOf set) n k l
   unfolding levelWidth
-  level-width r e f = f ∙ ap (widthFor present) e
+  level-width r e f = f ∙ ap (widthFor (widthsOf set)) e
 
-  pub width-positive : w ≡ levelWidth present n k l → 0 < w
-  width-positive e = rw e (width-pos present n k l (level-shape present n k l present-powers))
+  pub width-positive : w ≡ levelWidth (widthsOf set) n k l → 0 < w
+  width-positive e = rw e (width-pos (widthsOf set) n k l (level-shape (widthsOf set) n k l (powers set)))
 
-  pub level-groups : x ≡ levelLength n k l → w ≡ levelWidth present n k l → x / w ≡ levelGroups present n k l
+  pub level-groups : x ≡ levelLength n k l → w ≡ levelWidth (widthsOf set) n k l → x / w ≡ levelGroups (widthsOf set) n k l
   unfolding levelGroups
   level-groups e f = ap₂ (λ (a b : ℕ). a / b) e f
 
-  pub level-depth : (r : ℕ) → x ≡ levelLength n k l → w ≡ levelWidth present n k l → r ≡ depthOf x w → r ≡ levelDepth present n k l
+  pub level-depth : (r : ℕ) → x ≡ levelLength n k l → w ≡ levelWidth (widthsOf set) n k l → r ≡ depthOf x w → r ≡ levelDepth (widthsOf set) n k l
   unfolding levelDepth
   level-depth r e f g = g ∙ ap₂ (λ (a b : ℕ). depthOf a b) e f
 

@@ -3,12 +3,13 @@
 pub mod domain;
 
 use bytes_numbers::put;
+use theory_record::WidthSet;
 use tree_place::depth_of;
 ghost use mathlib.Core.Path.{_≡_};
 ghost use Prim.Native.Nat.{suc, _+_, _*_, _≤_, _<_};
 ghost use lib.ListN.{length};
 ghost use Rattle.bytes_numbers.specs.helpers.Put.{Put};
-ghost use Rattle.theory_record.specs.Widths.{present, widthFor, levelLength, levelWidth, levelGroups, levelDepth};
+ghost use Rattle.theory_record.specs.Widths.{widthsOf, widthFor, levelLength, levelWidth, levelGroups, levelDepth};
 ghost use Rattle.theory_record.specs.Domain.{digit, decimal, levelDomain};
 ghost use Rattle.theory_record.specs.Build.{levelsLength, treeStart};
 ghost use Rattle.theory_record.proofs.Ranges.{SizesFit};
@@ -17,12 +18,35 @@ ghost use Rattle.code_level.specs.Sizes.{sizeNumber};
 // How many bytes the longest level domain has, `domainRoom` of the definitions: a base domain of 200, "/level/" and two digits.
 pub const DOMAIN: usize = 209;
 
-// The width of the groups of a tree over this many values: 8 from length 16, 2 from length 2, else 1.
-pub fn fold_tree_width(len: usize) -> usize
-    ensures { λ r. ⌜ r ≡ widthFor present len ⌝ }
+// How many values the widest group of either set has: `widest` of the definitions.
+pub const WIDEST: usize = 32;
+
+// From which length on a set's groups have its width.
+fn threshold_of(set: WidthSet) -> usize
+    ensures { λ r. ⌜ r ≡ widthsOf set .threshold ⌝ }
 {
-    if len >= 16 {
-        return 8;
+    match set {
+        WidthSet::Present => 16,
+        WidthSet::Wide => 64,
+    }
+}
+
+// A set's width.
+fn width_of(set: WidthSet) -> usize
+    ensures { λ r. ⌜ r ≡ widthsOf set .width ⌝ }
+{
+    match set {
+        WidthSet::Present => 8,
+        WidthSet::Wide => 32,
+    }
+}
+
+// The width of the groups of a tree over this many values: the set's from its threshold on, 2 from length 2, else 1.
+pub fn fold_tree_width(set: WidthSet, len: usize) -> usize
+    ensures { λ r. ⌜ r ≡ widthFor (widthsOf set) len ⌝ }
+{
+    if len >= threshold_of(set) {
+        return width_of(set);
     }
     if len >= 2 {
         return 2;
@@ -55,27 +79,27 @@ pub fn level_length(n: usize, k: usize, l: usize) -> usize
 }
 
 // The width of its groups.
-pub fn level_width(n: usize, k: usize, l: usize) -> usize
+pub fn level_width(set: WidthSet, n: usize, k: usize, l: usize) -> usize
     requires { ⌜ (n + k ≤ 24) × (l ≤ n) ⌝ }
-    ensures { λ r. ⌜ r ≡ levelWidth present n k l ⌝ }
+    ensures { λ r. ⌜ r ≡ levelWidth (widthsOf set) n k l ⌝ }
 {
-    fold_tree_width(level_length(n, k, l))
+    fold_tree_width(set, level_length(n, k, l))
 }
 
 // How many groups it has.
-pub fn level_groups(n: usize, k: usize, l: usize) -> usize
+pub fn level_groups(set: WidthSet, n: usize, k: usize, l: usize) -> usize
     requires { ⌜ (n + k ≤ 24) × (l ≤ n) ⌝ }
-    ensures { λ r. ⌜ r ≡ levelGroups present n k l ⌝ }
+    ensures { λ r. ⌜ r ≡ levelGroups (widthsOf set) n k l ⌝ }
 {
-    level_length(n, k, l) / level_width(n, k, l)
+    level_length(n, k, l) / level_width(set, n, k, l)
 }
 
 // How many digests a path of its tree has.
-pub fn level_depth(n: usize, k: usize, l: usize) -> usize
+pub fn level_depth(set: WidthSet, n: usize, k: usize, l: usize) -> usize
     requires { ⌜ (n + k ≤ 24) × (l ≤ n) ⌝ }
-    ensures { λ r. ⌜ r ≡ levelDepth present n k l ⌝ }
+    ensures { λ r. ⌜ r ≡ levelDepth (widthsOf set) n k l ⌝ }
 {
-    depth_of(level_length(n, k, l), level_width(n, k, l))
+    depth_of(level_length(n, k, l), level_width(set, n, k, l))
 }
 
 // How many words the levels have: twice as many as the first, less the last.
@@ -87,14 +111,14 @@ pub fn levels_length(n: usize, k: usize) -> usize
 }
 
 // How many bytes their trees have.
-pub fn trees_size(n: usize, k: usize) -> usize
+pub fn trees_size(set: WidthSet, n: usize, k: usize) -> usize
     requires { ⌜ SizesFit n k ⌝ }
-    ensures { λ r. ⌜ r ≡ 32 * treeStart present n k (suc n) ⌝ }
+    ensures { λ r. ⌜ r ≡ 32 * treeStart (widthsOf set) n k (suc n) ⌝ }
 {
     let mut digests: usize = 0;
     let mut l: usize = 0;
     while l <= n {
-        digests += 2 * level_groups(n, k, l) - 1;
+        digests += 2 * level_groups(set, n, k, l) - 1;
         l += 1;
     }
     32 * digests

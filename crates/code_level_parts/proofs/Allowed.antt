@@ -16,12 +16,14 @@ use Rattle.theory_merkle.specs.Numbers.{buildNumber}
 use Rattle.theory_merkle.specs.PartQuestions.{leavesQuestions, parentsQuestions, leavesNumber, parentsNumber}
 use Rattle.theory_code.specs.Questions.{sized, lent}
 use Rattle.theory_code.specs.PartQuestions.{foldPartNumber}
-use Rattle.theory_record.specs.Widths.{present, levelLength, levelWidth, levelGroups, treeLength}
+use Rattle.theory_record.specs.declared.WidthSet.{WidthSet}
+use Rattle.theory_record.specs.Widths.{Widths, widthsOf, levelLength, levelWidth, levelGroups, treeLength}
 use Rattle.theory_record.specs.Domain.{levelDomain}
 use Rattle.theory_record.specs.Query.{sizeQuestions}
 use Rattle.theory_record.specs.Scheme.{scheme}
 use Rattle.theory_record.specs.Trees.{treeFor}
 use Rattle.theory_record.proofs.Domain.{levelDomain-fits}
+use Rattle.theory_record.proofs.Widths.{PowersOfTwo, powers, narrow}
 use Rattle.theory_record.proofs.LevelTree.{build-allowed}
 use Rattle.theory_record.proofs.Ranges.{SizesFit, sizes-fit, fit-sizes, sizes-small}
 use Rattle.tree_parts.specs.Parts.{parentsOf}
@@ -77,13 +79,13 @@ done q v x y z e f h = rw (e, f) at h
 
 -- ---- the leaves of a level's tree
 
-pub leaves-fit : (n k l base first values out : ℕ) {number : ℕ} → number ≡ levelLeavesNumber present n k l base first values out → number ≡ 0
-    → LeavesFit n k l base first values out
+pub leaves-fit : (s : Widths) (n k l base first values out : ℕ) {number : ℕ} → number ≡ levelLeavesNumber s n k l base first values out → number ≡ 0
+    → LeavesFit s n k l base first values out
 unfolding levelLeavesNumber
-leaves-fit n k l base first values out e z =
+leaves-fit s n k l base first values out e z =
     let y = sizes-fit n k (all-yes (sizeQuestions n k
     ++ ((4 asks leb l n) ∷ (5 asks eqb values (2 * levelLength n k l)) ∷ (5 asks eqb (out % 32) 0) ∷ (7 asks leb base 200)
-    ∷ (11 asks leb (first + out / 32) (levelGroups present n k l)) ∷ [])) tt (sym e ∙ z)) in
+    ∷ (11 asks leb (first + out / 32) (levelGroups s n k l)) ∷ [])) tt (sym e ∙ z)) in
     record {
       small = sizes-small n k (y .0);
       level-le = leb-true l n (y .1 .0);
@@ -93,13 +95,13 @@ leaves-fit n k l base first values out e z =
       within = leb-true _ _ (y .1 .1 .1 .1 .1 .0);
     }
 
-pub leaves-yes : (n k l base first values out : ℕ) → SizesFit n k → LeavesFit n k l base first values out
-    → 0 ≡ levelLeavesNumber present n k l base first values out
+pub leaves-yes : (s : Widths) (n k l base first values out : ℕ) → SizesFit n k → LeavesFit s n k l base first values out
+    → 0 ≡ levelLeavesNumber s n k l base first values out
 unfolding levelLeavesNumber
-leaves-yes n k l base first values out z h =
+leaves-yes s n k l base first values out z h =
     sym (yes-all (sizeQuestions n k
     ++ ((4 asks leb l n) ∷ (5 asks eqb values (2 * levelLength n k l)) ∷ (5 asks eqb (out % 32) 0) ∷ (7 asks leb base 200)
-    ∷ (11 asks leb (first + out / 32) (levelGroups present n k l)) ∷ []))
+    ∷ (11 asks leb (first + out / 32) (levelGroups s n k l)) ∷ []))
     (fit-sizes n k z (
       le-leb l n (h .level-le),
       (
@@ -114,27 +116,29 @@ leaves-yes n k l base first values out z h =
       ),
     )))
 
-leaves-allowed : (n k l domain first values out : ℕ) → n + k ≤ 24 → domain ≤ 255 → values ≡ 2 * levelLength n k l → out % 32 ≡ 0
-    → first + out / 32 ≤ levelGroups present n k l → leavesNumber domain (levelLength n k l) (levelWidth present n k l) first values out ≡ 0
+leaves-allowed : (s : Widths) (p : PowersOfTwo s) (n k l domain first values out : ℕ) → s .width ≤ 512 → n + k ≤ 24 → domain ≤ 255
+    → values ≡ 2 * levelLength n k l → out % 32 ≡ 0 → first + out / 32 ≤ levelGroups s n k l
+    → leavesNumber domain (levelLength n k l) (levelWidth s n k l) first values out ≡ 0
 unfolding leavesNumber buildNumber levelGroups
-leaves-allowed n k l domain first values out small d v whole within =
+leaves-allowed s p n k l domain first values out w small d v whole within =
     let count : ℕ = levelLength n k l in
-    let width : ℕ = levelWidth present n k l in
-    let tree : ℕ = 32 * treeLength present n k l in
-    let y = all-yes (buildQuestions domain count width values tree) tt (build-allowed n k l domain values tree small d v refl) in
+    let width : ℕ = levelWidth s n k l in
+    let tree : ℕ = 32 * treeLength s n k l in
+    let y = all-yes (buildQuestions domain count width values tree) tt (build-allowed s p n k l domain values tree w small d v refl) in
     yes-all (leavesQuestions domain count width first values out)
     (y .0, (y .1 .0, (y .1 .1 .0, (y .1 .1 .1 .0, (le-leb _ _ within, (y .1 .1 .1 .1 .0, (eq-eqb _ _ whole, tt)))))))
 
-pub leaves-built : {n k l first : ℕ} (base values : List ℕ) {domain : List ℕ} {halves count width : ℕ} (out : List ℕ) {t : List ℕ}
-    → LeavesFit n k l (length base) first halves (length out)
-    → domain ≡ levelDomain base l → count ≡ levelLength n k l → width ≡ levelWidth present n k l
+pub leaves-built : (set : WidthSet) {n k l first : ℕ} (base values : List ℕ) {domain : List ℕ} {halves count width : ℕ} (out : List ℕ) {t : List ℕ}
+    → LeavesFit (widthsOf set) n k l (length base) first halves (length out)
+    → domain ≡ levelDomain base l → count ≡ levelLength n k l → width ≡ levelWidth (widthsOf set) n k l
     → t ≡ onDone (leavesNumber (length domain) count width first halves (length out))
     (part (length out) (32 * first) (flat (treeOf hash domain count width values))) out
-    → t ≡ part (length out) (32 * first) (flat (treeFor (scheme base n k) l values))
+    → t ≡ part (length out) (32 * first) (flat (treeFor (scheme set base n k) l values))
 unfolding treeFor
-leaves-built {n} {k} {l} {first} base values {halves = halves} out y ed ec ew e =
+leaves-built set {n} {k} {l} {first} base values {halves = halves} out y ed ec ew e =
     let d : length (levelDomain base l) ≤ 255 = omega (arith, levelDomain-fits base l (y .base-le) (omega (arith, y .small, y .level-le))) in
-    let z = leaves-allowed n k l (length (levelDomain base l)) first halves (length out) (y .small) d (y .values-are) (y .whole) (y .within) in
+    let w : widthsOf set .width ≤ 512 = omega (arith, narrow set) in
+    let z = leaves-allowed (widthsOf set) (powers set) n k l _ first halves (length out) w (y .small) d (y .values-are) (y .whole) (y .within) in
     rw (ed, ec, ew, z) at e
 
 -- ---- the parents in a level's tree

@@ -8,6 +8,7 @@ use code_level::level_length;
 use code_level::level_width;
 use code_level::size_number;
 use field_gf128::Word;
+use theory_record::WidthSet;
 use tree_place::ends_within;
 ghost use mathlib.Core.Path.{_≡_};
 ghost use Prim.Native.Nat.{suc, _+_, _*_, _/_, _≤_, _<_};
@@ -16,7 +17,7 @@ ghost use lib.ListN.{length};
 ghost use Rattle.theory_laws.specs.Questions.{onDone};
 ghost use Rattle.theory_field.specs.Words.{words};
 ghost use Rattle.field_gf128.specs.Word.{word};
-ghost use Rattle.theory_record.specs.Widths.{present, levelLength, levelGroups};
+ghost use Rattle.theory_record.specs.Widths.{widthsOf, levelLength, levelGroups};
 ghost use Rattle.theory_record.specs.Domain.{levelDomain};
 ghost use Rattle.code_parts.specs.Parts.{partOfFold, foldPartInto};
 ghost use Rattle.tree_parts.specs.Parts.{parentsOf};
@@ -91,15 +92,16 @@ pub fn next_part(
 // ---- the tree of a level
 
 // Are m groups from group `first` on all groups of level l?
-fn in_groups(first: usize, m: usize, n: usize, k: usize, l: usize) -> bool
+fn in_groups(first: usize, m: usize, set: WidthSet, n: usize, k: usize, l: usize) -> bool
     requires { ⌜ (n + k ≤ 24) × (l ≤ n) ⌝ }
-    ensures { λ r. ⌜ r ≡ leb (first + m) (levelGroups present n k l) ⌝ }
+    ensures { λ r. ⌜ r ≡ leb (first + m) (levelGroups (widthsOf set) n k l) ⌝ }
 {
-    ends_within(first, m, level_groups(n, k, l))
+    ends_within(first, m, level_groups(set, n, k, l))
 }
 
 // 4, 5, 7 and 11.
 fn leaves_number(
+    set: WidthSet,
     n: usize,
     k: usize,
     l: usize,
@@ -108,7 +110,7 @@ fn leaves_number(
     values: usize,
     out: usize,
 ) -> u32
-    ensures { λ r. ⌜ r ≡ levelLeavesNumber present n k l base first values out ⌝ }
+    ensures { λ r. ⌜ r ≡ levelLeavesNumber (widthsOf set) n k l base first values out ⌝ }
 {
     let x = size_number(n, k);
     if x != 0 {
@@ -126,7 +128,7 @@ fn leaves_number(
     if base > 200 {
         return 7;
     }
-    if !in_groups(first, out / 32, n, k, l) {
+    if !in_groups(first, out / 32, set, n, k, l) {
         return 11;
     }
     0
@@ -134,6 +136,7 @@ fn leaves_number(
 
 // The leaves, once the questions are answered.
 fn put_leaves(
+    set: WidthSet,
     n: usize,
     k: usize,
     l: usize,
@@ -142,20 +145,21 @@ fn put_leaves(
     values: &[u64],
     out: &mut [u8],
 )
-    requires { ⌜ LeavesFit n k l (length (now base)) first (length (now values)) (length (now out)) ⌝ }
-    ensures { λ _. ⌜ now (out .exit) ≡ levelLeavesOf base n k l first values out ⌝ }
+    requires { ⌜ LeavesFit (widthsOf set) n k l (length (now base)) first (length (now values)) (length (now out)) ⌝ }
+    ensures { λ _. ⌜ now (out .exit) ≡ levelLeavesOf set n k l base first values out ⌝ }
 {
     let mut domain = [0u8; DOMAIN];
     let size = level_domain(&mut domain, base, l);
     let count = level_length(n, k, l);
-    let width = level_width(n, k, l);
+    let width = level_width(set, n, k, l);
     tree_parts::leaves(&domain[..size], count, width, first, values, out);
 }
 
-// Leaves of level l's tree, from group `first` on, as many as the buffer has room for. Lent is the whole level. It refuses n that is not from
-// 1 to 20, k past 4 or l past n with 4, lengths that are not theirs with 5, a base domain of more than 200 bytes with 7, and groups that
-// are not all the level's with 11.
+// Leaves of level l's tree by a set of widths, from group `first` on, as many as the buffer has room for. Lent is the whole level. It refuses n
+// that is not from 1 to 20, k past 4 or l past n with 4, lengths that are not theirs with 5, a base domain of more than 200 bytes with 7, and
+// groups that are not all the level's with 11.
 pub fn level_leaves(
+    set: WidthSet,
     n: usize,
     k: usize,
     l: usize,
@@ -164,14 +168,14 @@ pub fn level_leaves(
     values: &[u64],
     out: &mut [u8],
 ) -> u32
-    ensures { λ r. ⌜ r ≡ levelLeavesLent base n k l first values out ⌝ }
-    ensures { λ r. ⌜ now (out .exit) ≡ onDone r (levelLeavesOf base n k l first values out) (now (out .entry)) ⌝ }
+    ensures { λ r. ⌜ r ≡ levelLeavesLent set n k l base first values out ⌝ }
+    ensures { λ r. ⌜ now (out .exit) ≡ onDone r (levelLeavesOf set n k l base first values out) (now (out .entry)) ⌝ }
 {
-    let refusal = leaves_number(n, k, l, base.len(), first, values.len(), out.len());
+    let refusal = leaves_number(set, n, k, l, base.len(), first, values.len(), out.len());
     if refusal != 0 {
         return refusal;
     }
-    put_leaves(n, k, l, base, first, values, out);
+    put_leaves(set, n, k, l, base, first, values, out);
     0
 }
 

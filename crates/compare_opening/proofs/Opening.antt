@@ -12,14 +12,15 @@ use Rattle.theory_blake3.specs.Digest.{hash}
 use Rattle.theory_merkle.specs.Binding.{messagesOf, lastDiffering, collision}
 use Rattle.bytes_numbers.specs.helpers.Put.{Put}
 use Rattle.tree_digest.proofs.Messages.{prefix-is}
-use Rattle.theory_record.specs.Widths.{present}
+use Rattle.theory_record.specs.declared.WidthSet.{WidthSet}
+use Rattle.theory_record.specs.Widths.{widthsOf, widest}
 use Rattle.theory_record.specs.Domain.{domainRoom}
 use Rattle.theory_record.specs.Format.{runItems}
-use Rattle.theory_record.proofs.Widths.{present-powers, level-shape, depth-le}
+use Rattle.theory_record.proofs.Widths.{powers, level-shape, depth-le}
 use Rattle.theory_record.proofs.Runs.{items-long}
 use Rattle.record_opening.specs.helpers.Opening.{valuesFrom, valuesAt, digestsAt, Sized}
 use Rattle.record_opening.proofs.Numbers.{length-values, length-digests}
-use Rattle.record_opening.proofs.Levels.{Room, width-most, sized-room}
+use Rattle.record_opening.proofs.Levels.{Room, sized-room}
 use Rattle.theory_compare.specs.Compare.{openingFound}
 use Rattle.compare_pick.specs.helpers.Chains.{chainOf, Chains, Picked}
 use Rattle.compare_opening.specs.helpers.Messages.{levelMessages, chainAt, foundAt, BothSized, chainBuffer}
@@ -30,10 +31,10 @@ use Rattle.theory_record.specs.Scheme.{Scheme, scheme, lengthAt, widthAt, depth
 pub domain-there : (o : List ℕ) (n : ℕ) (a o1 : List ℕ) (i : ℕ) → Put o 0 n a o1 i → n ≤ length o → length (take i o1) ≡ length a
 domain-there o n a o1 i p h = ap length (prefix-is o n a o1 i p h)
 
--- a leaf message of at most 434 bytes and at most 24 node messages of at most 345
-room-for : (d w depth : ℕ) → d ≤ domainRoom → w ≤ 8 → depth ≤ 24 → 97 + d + 16 * w + (136 + d) * depth ≤ chainBuffer
+-- a leaf message of at most 818 bytes and at most 24 node messages of at most 345
+room-for : (d w depth : ℕ) → d ≤ domainRoom → w ≤ widest → depth ≤ 24 → 97 + d + 16 * w + (136 + d) * depth ≤ chainBuffer
 room-for d w depth hd hw h =
-    let m : (136 + d) * depth ≤ 345 * 24 = mul-le-mul {n₁ = 136 + d} {m₁ = depth} {n₂ = 345} {m₂ = 24} (omega arith) h in
+    let m : (136 + d) * depth ≤ (136 + domainRoom) * 24 = mul-le-mul {n₁ = 136 + d} {m₁ = depth} {n₂ = 136 + domainRoom} {m₂ = 24} (omega arith) h in
     omega arith
 
 -- the sizes of level l as code computes them: of its domain, its groups and its paths
@@ -47,20 +48,20 @@ pub record ChainPut (S : Scheme) (l place : ℕ) (s : List ℕ) (group path : �
   pub chain-is : a ≡ stored o 0 (chainAt S l place s group path)
   pub buffer-long : length o ≡ chainBuffer
 
-module _ {base : List ℕ} {n k l : ℕ} {s : List ℕ} {group path : ℕ} (z : Sized (scheme base n k) l s group path) where
+module _ (set : WidthSet) {base : List ℕ} {n k l : ℕ} {s : List ℕ} {group path : ℕ} (z : Sized (scheme set base n k) l s group path) where
   abbrev S : Scheme
-  S = scheme base n k
+  S = scheme set base n k
 
-  pub room : Room (scheme base n k) l s group path
-  room = sized-room (scheme base n k) present-powers (width-most n k) l s group path z
+  pub room : Room (scheme set base n k) l s group path
+  room = sized-room set z
 
   pub chain-room : 97 + length (domainAt S l) + 16 * widthAt S l + (136 + length (domainAt S l)) * depthAt S l ≤ chainBuffer
   chain-room =
-      let h = depth-le present n k l (level-shape present n k l present-powers) in
+      let h = depth-le (widthsOf set) n k l (level-shape (widthsOf set) n k l (powers set)) in
       let r = z .readable in
       room-for _ _ _ (room .domain-short) (room .width-le) (omega arith)
 
-  pub chain-fits : (d w depth len : ℕ) → Measured (scheme base n k) l d w depth → len ≡ chainBuffer → 97 + d + 16 * w + (136 + d) * depth ≤ len
+  pub chain-fits : (d w depth len : ℕ) → Measured (scheme set base n k) l d w depth → len ≡ chainBuffer → 97 + d + 16 * w + (136 + d) * depth ≤ len
   chain-fits d w depth len m e = rw (m .domain-is, m .width-is, m .depth-is, e) chain-room
 
   -- the chain that code writes
@@ -76,7 +77,7 @@ module _ {base : List ℕ} {n k l : ℕ} {s : List ℕ} {group path : ℕ} (z : 
   digests-long = items-long 32 (drop path s) (z .readable .path-fits)
 
   -- and reads
-  pub level-read : {place : ℕ} {o a : List ℕ} → ChainPut (scheme base n k) l place s group path o a
+  pub level-read : {place : ℕ} {o a : List ℕ} → ChainPut (scheme set base n k) l place s group path o a
       → chainOf (97 + length (domainAt S l) + 16 * widthAt S l) (136 + length (domainAt S l)) (depthAt S l) a
       ≡ levelMessages S l place (valuesAt s group) (digestsAt s path)
   unfolding levelMessages
@@ -86,13 +87,13 @@ module _ {base : List ℕ} {n k l : ℕ} {s : List ℕ} {group path : ℕ} (z : 
       (length-values s group ∙ z .width-is) (length-digests s path ∙ z .depth-is) digests-long (omega (arith, chain-room, p .buffer-long)))
 
 -- two chains, as their last messages are looked for
-module _ {base : List ℕ} {n k l place : ℕ} {s : List ℕ} {sgroup spath : ℕ} {t : List ℕ} {tgroup tpath : ℕ} {first second : List ℕ}
-    (z : BothSized (scheme base n k) l s sgroup spath t tgroup tpath first second) {d width depth : ℕ} (m : Measured (scheme base n k) l d width depth)
-    {o a o′ b : List ℕ} (p : ChainPut (scheme base n k) l place s sgroup spath o a) (q : ChainPut (scheme base n k) l place t tgroup tpath o′ b) where
+module _ (set : WidthSet) {base : List ℕ} {n k l place : ℕ} {s : List ℕ} {sgroup spath : ℕ} {t : List ℕ} {tgroup tpath : ℕ} {first second : List ℕ}
+    (z : BothSized (scheme set base n k) l s sgroup spath t tgroup tpath first second) {d width depth : ℕ} (m : Measured (scheme set base n k) l d width depth)
+    {o a o′ b : List ℕ} (p : ChainPut (scheme set base n k) l place s sgroup spath o a) (q : ChainPut (scheme set base n k) l place t tgroup tpath o′ b) where
   pub chains-there : Chains (97 + d + 16 * width) (136 + d) depth a b first second
   chains-there =
-      let h = room (z .first-sized) in
-      let fits : 97 + d + 16 * width + (136 + d) * depth ≤ chainBuffer = chain-fits (z .first-sized) d width depth chainBuffer m refl in
+      let h = room set (z .first-sized) in
+      let fits : 97 + d + 16 * width + (136 + d) * depth ≤ chainBuffer = chain-fits set (z .first-sized) d width depth chainBuffer m refl in
       let na : length a ≡ chainBuffer = ap length (p .chain-is) ∙ length-stored o 0 _ ∙ p .buffer-long in
       let nb : length b ≡ chainBuffer = ap length (q .chain-is) ∙ length-stored o′ 0 _ ∙ q .buffer-long in
       record {
@@ -108,7 +109,7 @@ module _ {base : List ℕ} {n k l place : ℕ} {s : List ℕ} {sgroup spath : �
 
   pub picked-opening : {old old′ new new′ : List ℕ} {r : ℕ}
       → Picked (lastDiffering (chainOf (97 + d + 16 * width) (136 + d) depth a) (chainOf (97 + d + 16 * width) (136 + d) depth b)) old old′ new new′ r
-      → Picked (foundAt (scheme base n k) l place s sgroup spath t tgroup tpath) old old′ new new′ r
+      → Picked (foundAt (scheme set base n k) l place s sgroup spath t tgroup tpath) old old′ new new′ r
   unfolding openingFound collision levelMessages
   picked-opening w =
-      rw (← (level-read (z .first-sized) p), ← (level-read (z .second-sized) q), ← (m .domain-is), ← (m .width-is), ← (m .depth-is)) w
+      rw (← (level-read set (z .first-sized) p), ← (level-read set (z .second-sized) q), ← (m .domain-is), ← (m .width-is), ← (m .depth-is)) w

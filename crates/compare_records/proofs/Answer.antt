@@ -13,16 +13,20 @@ use Rattle.theory_compare.specs.Compare.{recordsFound, accepts, Comparison, com
 use Rattle.compare_pick.specs.helpers.Chains.{Picked}
 use Rattle.compare_levels.specs.helpers.Levels.{Comparable}
 use Rattle.compare_records.specs.helpers.Numbers.{lengthQuestions, lentNumber, recordQuestions, recordsNumber}
-use Rattle.theory_record.specs.Scheme.{scheme}
+use Rattle.theory_record.specs.declared.WidthSet.{WidthSet}
+use Rattle.theory_record.specs.Scheme.{Scheme, scheme}
 
-module _ (base : List ℕ) (n k position : ℕ) (challenges roots first second old old′ : List ℕ) where
+module _ (base : List ℕ) (set : WidthSet) (n k position : ℕ) (challenges roots first second old old′ : List ℕ) where
+  abbrev S : Scheme
+  S = scheme set base n k
+
   -- the three equations of the contract, as one fact
   pub record Answered (r : Comparison) (new new′ : List ℕ) : Type 0 where
-    pub answer-is : r ≡ compared (scheme base n k) position challenges roots first second old old′
-    pub first-is : new ≡ firstMessage (scheme base n k) position challenges roots first second old old′
-    pub second-is : new′ ≡ secondMessage (scheme base n k) position challenges roots first second old old′
+    pub answer-is : r ≡ compared S position challenges roots first second old old′
+    pub first-is : new ≡ firstMessage S position challenges roots first second old old′
+    pub second-is : new′ ≡ secondMessage S position challenges roots first second old old′
 
-  refused-by : (q : ℕ) → q ≡ compareNumber (scheme base n k) position challenges roots first second old old′ → (q ≡ 0 → ⊥)
+  refused-by : (q : ℕ) → q ≡ compareNumber S position challenges roots first second old old′ → (q ≡ 0 → ⊥)
       → Answered (record { number = q; first = 0; second = 0 }) old old′
   unfolding compared firstMessage secondMessage
   refused-by q e z =
@@ -35,30 +39,30 @@ module _ (base : List ℕ) (n k position : ℕ) (challenges roots first second o
     lent-refused z =
         refused-by x
         (first-stops (sizeQuestions n k ++ lengthQuestions (length base) n k position (length challenges) (length roots) (length old) (length old′))
-        (recordQuestions base n k position challenges roots first second) x tt ex z) z
+        (recordQuestions base set n k position challenges roots first second) x tt ex z) z
 
-    module _ (zx : x ≡ 0) {y : ℕ} (ey : y ≡ recordsNumber base n k position challenges roots first second) where
-      number-is : y ≡ compareNumber (scheme base n k) position challenges roots first second old old′
+    module _ (zx : x ≡ 0) {y : ℕ} (ey : y ≡ recordsNumber base set n k position challenges roots first second) where
+      number-is : y ≡ compareNumber S position challenges roots first second old old′
       unfolding lentNumber recordsNumber compareNumber
       number-is =
           first-passes (sizeQuestions n k ++ lengthQuestions (length base) n k position (length challenges) (length roots) (length old) (length old′))
-          (recordQuestions base n k position challenges roots first second) x tt ex y zx ey
+          (recordQuestions base set n k position challenges roots first second) x tt ex y zx ey
 
       pub records-refused : (y ≡ 0 → ⊥) → Answered (record { number = y; first = 0; second = 0 }) old old′
       records-refused z = refused-by y number-is z
 
       module _ (zy : y ≡ 0) where
-        accepted-by : (s : List ℕ) → accepts (scheme base n k) position challenges roots s ≡ true → QueryAccepted (scheme base n k) position challenges roots s
+        accepted-by : (s : List ℕ) → accepts S position challenges roots s ≡ true → QueryAccepted S position challenges roots s
         unfolding accepts
         accepted-by s e =
-            query-accepted (scheme base n k) position challenges roots s (query-zero (scheme base n k) position challenges roots s (eqb-true _ 0 e))
+            query-accepted S position challenges roots s (query-zero S position challenges roots s (eqb-true _ 0 e))
 
-        pub comparable : Comparable (scheme base n k) position first second old old′
+        pub comparable : Comparable S position first second old old′
         unfolding lentNumber recordsNumber
         comparable =
             let lent = lengthQuestions (length base) n k position (length challenges) (length roots) (length old) (length old′) in
             let a = sizes-fit n k (all-yes (sizeQuestions n k ++ lent) tt (sym ex ∙ zx)) .1 in
-            let b = all-yes (recordQuestions base n k position challenges roots first second) tt (sym ey ∙ zy) in
+            let b = all-yes (recordQuestions base set n k position challenges roots first second) tt (sym ey ∙ zy) in
             record {
               challenges = challenges;
               roots = roots;
@@ -68,7 +72,7 @@ module _ (base : List ℕ) (n k position : ℕ) (challenges roots first second o
               second-room = eqb-true _ _ (a .1 .1 .1 .0);
             }
 
-        pub picked-answer : {new new′ : List ℕ} {m : ℕ} → Picked (recordsFound (scheme base n k) position first second) old old′ new new′ m
+        pub picked-answer : {new new′ : List ℕ} {m : ℕ} → Picked (recordsFound S position first second) old old′ new new′ m
             → Answered (record { number = 0; first = m; second = m }) new new′
         unfolding compared firstMessage secondMessage
         picked-answer p =

@@ -10,6 +10,7 @@ use Rattle.code_level.specs.Sizes.{sizeNumber}
 use Rattle.theory_record.specs.Widths.{levelLength}
 use Rattle.theory_record.specs.Query.{sizeQuestions}
 use Rattle.theory_record.proofs.Offsets.{first-length}
+use Rattle.theory_compare.specs.Compare.{messageBuffer}
 use Rattle.compare_records.specs.helpers.Numbers.{lengthQuestions, lentNumber}
 
 module _ (base n k position challenges roots first second x : ℕ) (ex : x ≡ sizeNumber n k) where
@@ -31,22 +32,25 @@ module _ (base n k position challenges roots first second x : ℕ) (ex : x ≡ s
       wrong-roots e = passes 5 (rw (eq-eqb challenges (2 * n) a, ne-eqb roots (32 * (n + 1)) e))
 
       module _ (b : roots ≡ 32 * (n + 1)) where
-        pub wrong-first : (first ≡ 512 → ⊥) → 5 ≡ lentNumber base n k position challenges roots first second
-        wrong-first e = passes 5 (rw (eq-eqb challenges (2 * n) a, eq-eqb roots (32 * (n + 1)) b, ne-eqb first 512 e))
+        pub wrong-first : (first ≡ messageBuffer → ⊥) → 5 ≡ lentNumber base n k position challenges roots first second
+        wrong-first e = passes 5 (rw (eq-eqb challenges (2 * n) a, eq-eqb roots (32 * (n + 1)) b, ne-eqb first messageBuffer e))
 
-        module _ (c : first ≡ 512) where
-          pub wrong-second : (second ≡ 512 → ⊥) → 5 ≡ lentNumber base n k position challenges roots first second
-          wrong-second e = passes 5 (rw (eq-eqb challenges (2 * n) a, eq-eqb roots (32 * (n + 1)) b, eq-eqb first 512 c, ne-eqb second 512 e))
+        module _ (c : first ≡ messageBuffer) where
+          pub wrong-second : (second ≡ messageBuffer → ⊥) → 5 ≡ lentNumber base n k position challenges roots first second
+          wrong-second e =
+              passes 5 (rw (eq-eqb challenges (2 * n) a, eq-eqb roots (32 * (n + 1)) b, eq-eqb first messageBuffer c, ne-eqb second messageBuffer e))
 
-          module _ (d : second ≡ 512) where
+          module _ (d : second ≡ messageBuffer) where
             pub long-base : 200 < base → 7 ≡ lentNumber base n k position challenges roots first second
-            long-base e = passes 7 (rw (eq-eqb challenges (2 * n) a, eq-eqb roots (32 * (n + 1)) b, eq-eqb first 512 c, eq-eqb second 512 d, lt-leb base 200 e))
+            long-base e =
+                passes 7
+                (rw (eq-eqb challenges (2 * n) a, eq-eqb roots (32 * (n + 1)) b, eq-eqb first _ c, eq-eqb second _ d, lt-leb base 200 e))
 
             module _ (f : base ≤ 200) (p : ℕ) (ep : p ≡ position) (len : ℕ) (el : len ≡ levelLength n k 0) where
               passes-7 : (r : ℕ) → r ≡ firstNo ((11 asks ltb position (2 ^ (n + k))) ∷ []) → r ≡ lentNumber base n k position challenges roots first second
               passes-7 r g =
                   passes r
-                  (rw (eq-eqb challenges (2 * n) a, eq-eqb roots (32 * (n + 1)) b, eq-eqb first 512 c, eq-eqb second 512 d, le-leb base 200 f) g)
+                  (rw (eq-eqb challenges (2 * n) a, eq-eqb roots (32 * (n + 1)) b, eq-eqb first _ c, eq-eqb second _ d, le-leb base 200 f) g)
 
               pub high-position : len ≤ p → 11 ≡ lentNumber base n k position challenges roots first second
               high-position e = passes-7 11 (rw (← (el ∙ first-length n k), ← ep, le-ltb p len e))

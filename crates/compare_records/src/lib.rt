@@ -4,6 +4,7 @@ use code_level::level_length;
 use code_level::size_number;
 use compare_levels::pick_levels;
 use record_query_check::check_query;
+use theory_record::WidthSet;
 use tree_place::Place;
 ghost use mathlib.Core.Path.{_≡_};
 ghost use Rattle.theory_compare.specs.Compare.{accepts};
@@ -11,10 +12,11 @@ ghost use Rattle.theory_compare.specs.Lent.{comparedLent, firstLeft, secondLeft
 ghost use Rattle.tree_place.specs.Place.{index};
 ghost use Rattle.compare_records.specs.Answers.{comparison};
 ghost use Rattle.compare_records.specs.helpers.Numbers.{lentNumber, recordsLent};
-ghost use Rattle.theory_record.specs.Scheme.{scheme};
+ghost use Rattle.theory_record.specs.Lent.{schemeOf};
 
-// How many bytes a buffer for a message has: `messageBuffer` of the definitions. The longest, a leaf message of 8 values, has 434.
-pub const MESSAGE_BUFFER: usize = 512;
+// How many bytes a buffer for a message has, under either set of widths: `messageBuffer` of the definitions. The longest, a leaf message of
+// 32 values, has 818.
+pub const MESSAGE_BUFFER: usize = 1024;
 
 // The number of the refusal, or 0 and the lengths of the two messages.
 pub struct Compared {
@@ -64,6 +66,7 @@ fn lent_number(
 // Is a record accepted?
 fn accepted(
     base: &[u8],
+    set: WidthSet,
     n: usize,
     k: usize,
     position: Place,
@@ -71,15 +74,16 @@ fn accepted(
     roots: &[u8],
     s: &[u8],
 ) -> bool
-    ensures { λ r. ⌜ r ≡ accepts (scheme (now (base .entry)) n k) (index position) (now (challenges .entry)) (now (roots .entry)) (now (s .entry)) ⌝ }
+    ensures { λ r. ⌜ r ≡ accepts (schemeOf set base n k) (index position) (now (challenges .entry)) (now (roots .entry)) (now (s .entry)) ⌝ }
 {
-    let c = check_query(base, n, k, position, challenges, roots, s);
+    let c = check_query(base, set, n, k, position, challenges, roots, s);
     c.number == 0
 }
 
 // 32 and 33.
 fn records_number(
     base: &[u8],
+    set: WidthSet,
     n: usize,
     k: usize,
     position: Place,
@@ -88,12 +92,12 @@ fn records_number(
     s: &[u8],
     t: &[u8],
 ) -> u32
-    ensures { λ r. ⌜ r ≡ recordsLent base n k (index position) challenges roots s t ⌝ }
+    ensures { λ r. ⌜ r ≡ recordsLent base set n k (index position) challenges roots s t ⌝ }
 {
-    if !accepted(base, n, k, position, challenges, roots, s) {
+    if !accepted(base, set, n, k, position, challenges, roots, s) {
         return 32;
     }
-    if !accepted(base, n, k, position, challenges, roots, t) {
+    if !accepted(base, set, n, k, position, challenges, roots, t) {
         return 32;
     }
     if same_bytes(s, t) {
@@ -106,6 +110,7 @@ fn records_number(
 // nearest the root that differ go into the buffers, of MESSAGE_BUFFER bytes each.
 pub fn compare(
     base: &[u8],
+    set: WidthSet,
     n: usize,
     k: usize,
     position: Place,
@@ -116,9 +121,9 @@ pub fn compare(
     one: &mut [u8],
     two: &mut [u8],
 ) -> Compared
-    ensures { λ r. ⌜ comparison r ≡ comparedLent base n k (index position) challenges roots first second one two ⌝ }
-    ensures { λ _. ⌜ now (one .exit) ≡ firstLeft base n k (index position) challenges roots first second one two ⌝ }
-    ensures { λ _. ⌜ now (two .exit) ≡ secondLeft base n k (index position) challenges roots first second one two ⌝ }
+    ensures { λ r. ⌜ comparison r ≡ comparedLent base set n k (index position) challenges roots first second one two ⌝ }
+    ensures { λ _. ⌜ now (one .exit) ≡ firstLeft base set n k (index position) challenges roots first second one two ⌝ }
+    ensures { λ _. ⌜ now (two .exit) ≡ secondLeft base set n k (index position) challenges roots first second one two ⌝ }
 {
     let x = lent_number(
         base.len(),
@@ -137,7 +142,7 @@ pub fn compare(
             second: 0,
         };
     }
-    let y = records_number(base, n, k, position, challenges, roots, first, second);
+    let y = records_number(base, set, n, k, position, challenges, roots, first, second);
     if y != 0 {
         return Compared {
             number: y,
@@ -145,7 +150,7 @@ pub fn compare(
             second: 0,
         };
     }
-    let m = pick_levels(base, n, k, position, first, second, one, two);
+    let m = pick_levels(base, set, n, k, position, first, second, one, two);
     Compared {
         number: 0,
         first: m,

@@ -1,11 +1,13 @@
--- The sizes that n and k fix (SPECIFICATION 7.6): words of the table, the gammas, the codeword, all levels, room for a fold and the last level;
--- bytes of level 0's tree, of all trees, of the last level's tree, of the roots, and of a query and a tail record. Question 4, as for records.
+-- The sizes that the number of a set of widths, n and k fix (SPECIFICATION 7.6): words of the table, the gammas, the codeword, all levels, room for a
+-- fold and the last level; bytes of level 0's tree, of all trees, of the last level's tree, of the roots, and of a query and a tail record. Question 4,
+-- as for records.
 use Prim.Native.Nat.{ℕ, suc, _+_, _*_, _^_}
 use Rattle.theory_laws.specs.Questions.{onDone}
 use Rattle.code_level.specs.Sizes.{sizeNumber}
-use Rattle.theory_record.specs.Widths.{present, levelLength, treeLength}
+use Rattle.theory_record.specs.Widths.{widthsOf, levelLength, treeLength}
 use Rattle.theory_record.specs.Sizes.{querySize, tailSize}
 use Rattle.theory_record.specs.Build.{levelsLength, treeStart}
+use Rattle.export_dequmlo.specs.Sets.{setOf, withSet}
 use Rattle.export_dequmlo.specs.declared.sizes.Sizes.{Sizes}
 
 -- none, and why
@@ -27,22 +29,27 @@ noSizes number =
       tail = 0;
     }
 
-abbrev pub sizesOf : ℕ → ℕ → Sizes
-sizesOf n k =
-    onDone (sizeNumber n k)
+-- 4: the number names a set, n is from 1 to 20 and k at most 4
+unfoldable pub sizesNumber : ℕ → ℕ → ℕ → ℕ
+sizesNumber widths n k = withSet widths (λ _. sizeNumber n k) 4
+
+abbrev pub sizesOf : ℕ → ℕ → ℕ → Sizes
+sizesOf widths n k =
+    let s = widthsOf (setOf widths) in
+    onDone (sizesNumber widths n k)
     (record {
       number = 0;
       table = 2 ^ n;
       gammas = k * n;
       codeword = levelLength n k 0;
-      tree = 32 * treeLength present n k 0;
+      tree = 32 * treeLength s n k 0;
       levels = levelsLength n k;
-      trees = 32 * treeStart present n k (suc n);
+      trees = 32 * treeStart s n k (suc n);
       half = levelLength n k 1;
       roots = 32 * (n + 1);
       «last_level» = levelLength n k n;
-      «last_tree» = 32 * treeLength present n k n;
-      query = querySize present n k;
-      tail = tailSize present n k;
+      «last_tree» = 32 * treeLength s n k n;
+      query = querySize s n k;
+      tail = tailSize s n k;
     })
-    (noSizes (sizeNumber n k))
+    (noSizes (sizesNumber widths n k))

@@ -1,4 +1,5 @@
 // Committing a table, folding a codeword, and all levels of a commitment by its challenges.
+use crate::sets::set_of;
 use field_gf128::Word;
 ghost use mathlib.Core.Path.{_≡_};
 ghost use lib.ListN.{length};
@@ -11,16 +12,17 @@ ghost use Rattle.theory_multilinear.specs.Fold.{foldList};
 ghost use Rattle.theory_code.specs.Questions.{foldNumber};
 ghost use Rattle.code_codeword.specs.Answers.{foldedOf};
 ghost use Rattle.theory_code.specs.Gammas as G;
-ghost use Rattle.theory_claim.specs.Commit.{commitAnswer, committedTree};
-ghost use Rattle.code_commit.specs.Lent.{codewordLent};
+ghost use Rattle.theory_claim.specs.Commit.{committedTree};
+ghost use Rattle.code_commit.specs.Lent.{commitLent, codewordLent};
 ghost use Rattle.theory_record.specs.Trees.{levelsLent, treesLent, rootsLent};
 ghost use Rattle.code_fold_levels.specs.Levels.{foldLevelsLent, foldedLent};
 ghost use Rattle.export_dequmlo.specs.Answers.{folded};
-ghost use Rattle.theory_record.specs.Lent.{schemeOf};
+ghost use Rattle.export_dequmlo.specs.Sets.{schemeBy, withSet};
 
 // The gammas of a base domain, the codeword of a table of 2^n words, and level 0's tree: 4, 5, 7.
 #[no_mangle]
 pub extern "C" fn dequmlo_commit(
+    widths: u32,
     n: usize,
     k: usize,
     base: &[u8],
@@ -29,12 +31,15 @@ pub extern "C" fn dequmlo_commit(
     codeword: &mut [u64],
     tree: &mut [u8],
 ) -> u32
-    ensures { λ r. ⌜ r ≡ commitAnswer n k (now (base .entry)) (now (table .entry)) (now (gammas .entry)) (now (codeword .entry)) (now (tree .entry)) ⌝ }
+    ensures { λ r. ⌜ r ≡ withSet widths (λ set. commitLent set n k base table gammas codeword tree) 4 ⌝ }
     ensures { λ r. ⌜ words (now (gammas .exit)) ≡ onDone r (G.gammas hash (now (base .entry)) n k) (words (now (gammas .entry))) ⌝ }
     ensures { λ r. ⌜ words (now (codeword .exit)) ≡ onDone r (codewordLent n k base table) (words (now (codeword .entry))) ⌝ }
-    ensures { λ r. ⌜ now (tree .exit) ≡ onDone r (committedTree (schemeOf base n k) (words (now (table .entry)))) (now (tree .entry)) ⌝ }
+    ensures { λ r. ⌜ now (tree .exit) ≡ onDone r (committedTree (schemeBy widths base n k) (words (now (table .entry)))) (now (tree .entry)) ⌝ }
 {
-    code_commit::commit(n, k, base, table, gammas, codeword, tree)
+    if widths > 1 {
+        return 4;
+    }
+    code_commit::commit(set_of(widths), n, k, base, table, gammas, codeword, tree)
 }
 
 // The number, and the n of the folded codeword, 0 where it is refused.
@@ -67,6 +72,7 @@ pub extern "C" fn dequmlo_fold(
 // All levels of the codeword that stands as level 0 at the front of `levels`, by n challenges, their trees and their roots: 4, 5, 7.
 #[no_mangle]
 pub extern "C" fn dequmlo_fold_levels(
+    widths: u32,
     n: usize,
     k: usize,
     base: &[u8],
@@ -76,11 +82,24 @@ pub extern "C" fn dequmlo_fold_levels(
     trees: &mut [u8],
     roots: &mut [u8],
 ) -> u32
-    ensures { λ r. ⌜ r ≡ foldLevelsLent n k base challenges levels half trees roots ⌝ }
+    ensures { λ r. ⌜ r ≡ withSet widths (λ set. foldLevelsLent set n k base challenges levels half trees roots) 4 ⌝ }
     ensures { λ r. ⌜ words (now (levels .exit)) ≡ onDone r (levelsLent n (foldedLent n k challenges levels)) (words (now (levels .entry))) ⌝ }
     ensures { λ r. ⌜ now (half .exit) ≡ onDone r (tab (length (now (half .entry))) (λ v. 0)) (now (half .entry)) ⌝ }
-    ensures { λ r. ⌜ now (trees .exit) ≡ onDone r (treesLent (schemeOf base n k) (foldedLent n k challenges levels)) (now (trees .entry)) ⌝ }
-    ensures { λ r. ⌜ now (roots .exit) ≡ onDone r (rootsLent (schemeOf base n k) (foldedLent n k challenges levels)) (now (roots .entry)) ⌝ }
+    ensures { λ r. ⌜ now (trees .exit) ≡ onDone r (treesLent (schemeBy widths base n k) (foldedLent n k challenges levels)) (now (trees .entry)) ⌝ }
+    ensures { λ r. ⌜ now (roots .exit) ≡ onDone r (rootsLent (schemeBy widths base n k) (foldedLent n k challenges levels)) (now (roots .entry)) ⌝ }
 {
-    code_fold_levels::fold_levels(n, k, base, challenges, levels, half, trees, roots)
+    if widths > 1 {
+        return 4;
+    }
+    code_fold_levels::fold_levels(
+        set_of(widths),
+        n,
+        k,
+        base,
+        challenges,
+        levels,
+        half,
+        trees,
+        roots,
+    )
 }

@@ -1,6 +1,7 @@
 // Parts of the work, each into a buffer of its own, for callers that divide it over threads: a block of the codeword or half of one, entries of a
 // fold, leaves and parents of a tree; the same of a level of a commitment; and the gammas, which come before the blocks. Consecutive parts end to
 // end are what the whole leaves (theory_laws/proofs/Parts).
+use crate::sets::set_of;
 use field_gf128::Word;
 ghost use mathlib.Core.Path.{_≡_};
 ghost use Prim.Native.Nat.{_*_, _/_};
@@ -18,6 +19,7 @@ ghost use Rattle.code_parts.specs.Parts.{blockInto, halfInto, foldPartInto};
 ghost use Rattle.tree_parts.specs.Parts.{leavesInto, parentsOf, parentsInto};
 ghost use Rattle.code_level_parts.specs.Numbers.{nextPartNumber, levelParentsNumber};
 ghost use Rattle.code_level_parts.specs.Parts.{levelLeavesOf, levelLeavesLent};
+ghost use Rattle.export_dequmlo.specs.Sets.{setOf, withSet};
 
 // The gammas of a base domain: 4, 5, 7.
 #[no_mangle]
@@ -127,6 +129,7 @@ pub extern "C" fn dequmlo_next_part(
 // The leaves of a level's tree from group `first` on: 4, 5, 7, 11.
 #[no_mangle]
 pub extern "C" fn dequmlo_level_leaves(
+    widths: u32,
     n: usize,
     k: usize,
     level: usize,
@@ -135,10 +138,13 @@ pub extern "C" fn dequmlo_level_leaves(
     values: &[u64],
     out: &mut [u8],
 ) -> u32
-    ensures { λ r. ⌜ r ≡ levelLeavesLent base n k level first values out ⌝ }
-    ensures { λ r. ⌜ now (out .exit) ≡ onDone r (levelLeavesOf base n k level first values out) (now (out .entry)) ⌝ }
+    ensures { λ r. ⌜ r ≡ withSet widths (λ set. levelLeavesLent set n k level base first values out) 4 ⌝ }
+    ensures { λ r. ⌜ now (out .exit) ≡ onDone r (levelLeavesOf (setOf widths) n k level base first values out) (now (out .entry)) ⌝ }
 {
-    code_level_parts::level_leaves(n, k, level, base, first, values, out)
+    if widths > 1 {
+        return 4;
+    }
+    code_level_parts::level_leaves(set_of(widths), n, k, level, base, first, values, out)
 }
 
 // The parents of digests of a level's tree, two by two: 4, 5, 7.

@@ -1,15 +1,12 @@
 // Query and tail records built and checked, and two query records compared.
+use crate::sets::set_of;
 use field_gf128::Word;
 use tree_place::Place;
 ghost use mathlib.Core.Path.{_≡_};
 ghost use Rattle.field_gf128.specs.Word.{word};
-ghost use Rattle.theory_record.specs.Widths.{present};
-ghost use Rattle.theory_record.specs.Query.{checkQuery};
-ghost use Rattle.theory_record.specs.Tail.{checkTail};
-ghost use Rattle.theory_record.specs.Build.{buildQueryNumber, buildQuery, buildTailNumber, buildTail};
-ghost use Rattle.theory_compare.specs.Lent.{comparedLent, firstLeft, secondLeft};
 ghost use Rattle.export_dequmlo.specs.Answers.{checked, compared};
-ghost use Rattle.theory_record.specs.Lent.{schemeOf};
+ghost use Rattle.export_dequmlo.specs.Records.{queryNumber, queryLeft, queryAnswer, tailNumber, tailLeft, tailAnswer};
+ghost use Rattle.export_dequmlo.specs.Records.{comparedAnswer, firstAfter, secondAfter};
 
 // The query record at a position, from all levels and their trees end to end: 4, 5, 11.
 #[no_mangle]
@@ -17,14 +14,19 @@ pub extern "C" fn dequmlo_build_query(
     out: &mut [u8],
     levels: &[u64],
     trees: &[u8],
+    widths: u32,
     n: usize,
     k: usize,
     position: usize,
 ) -> u32
-    ensures { λ r. ⌜ r ≡ buildQueryNumber present n k (now (levels .entry)) (now (trees .entry)) position (now (out .entry)) ⌝ }
-    ensures { λ _. ⌜ now (out .exit) ≡ buildQuery present n k (now (levels .entry)) (now (trees .entry)) position (now (out .entry)) ⌝ }
+    ensures { λ r. ⌜ r ≡ queryNumber out levels trees widths n k position ⌝ }
+    ensures { λ _. ⌜ now (out .exit) ≡ queryLeft out levels trees widths n k position ⌝ }
 {
-    record_query_build::build_query(out, levels, trees, n, k, Place::at(position))
+    if widths > 1 {
+        return 4;
+    }
+    let place = Place::at(position);
+    record_query_build::build_query(out, levels, trees, set_of(widths), n, k, place)
 }
 
 // The number, and the level for 16 to 26.
@@ -38,6 +40,7 @@ pub struct Checked {
 #[no_mangle]
 pub extern "C" fn dequmlo_check_query(
     base: &[u8],
+    widths: u32,
     n: usize,
     k: usize,
     position: usize,
@@ -45,10 +48,17 @@ pub extern "C" fn dequmlo_check_query(
     roots: &[u8],
     bytes: &[u8],
 ) -> Checked
-    ensures { λ r. ⌜ checked r ≡ checkQuery (schemeOf base n k) position (now (challenges .entry)) (now (roots .entry)) (now (bytes .entry)) ⌝ }
+    ensures { λ r. ⌜ checked r ≡ queryAnswer base widths n k position challenges roots bytes ⌝ }
 {
+    if widths > 1 {
+        return Checked {
+            number: 4,
+            level: 0,
+        };
+    }
     let place = Place::at(position);
-    let a = record_query_check::check_query(base, n, k, place, challenges, roots, bytes);
+    let set = set_of(widths);
+    let a = record_query_check::check_query(base, set, n, k, place, challenges, roots, bytes);
     Checked {
         number: a.number,
         level: a.level,
@@ -61,28 +71,36 @@ pub extern "C" fn dequmlo_build_tail(
     out: &mut [u8],
     level: &[u64],
     tree: &[u8],
+    widths: u32,
     n: usize,
     k: usize,
 ) -> u32
-    ensures { λ r. ⌜ r ≡ buildTailNumber present n k (now (level .entry)) (now (tree .entry)) (now (out .entry)) ⌝ }
-    ensures { λ _. ⌜ now (out .exit) ≡ buildTail present n k (now (level .entry)) (now (tree .entry)) (now (out .entry)) ⌝ }
+    ensures { λ r. ⌜ r ≡ tailNumber out level tree widths n k ⌝ }
+    ensures { λ _. ⌜ now (out .exit) ≡ tailLeft out level tree widths n k ⌝ }
 {
-    record_tail_build::build_tail(out, level, tree, n, k)
+    if widths > 1 {
+        return 4;
+    }
+    record_tail_build::build_tail(out, level, tree, set_of(widths), n, k)
 }
 
 // A tail record checked against the last level's root and the terminal claim: 4, 5, 7, 14, 27 to 31.
 #[no_mangle]
 pub extern "C" fn dequmlo_check_tail(
     base: &[u8],
+    widths: u32,
     n: usize,
     k: usize,
     root: &[u8],
     claim: Word,
     bytes: &[u8],
 ) -> u32
-    ensures { λ r. ⌜ r ≡ checkTail (schemeOf base n k) (now (root .entry)) (word claim) (now (bytes .entry)) ⌝ }
+    ensures { λ r. ⌜ r ≡ tailAnswer base widths n k root (word claim) bytes ⌝ }
 {
-    record_tail_check::check_tail(base, n, k, root, claim, bytes)
+    if widths > 1 {
+        return 4;
+    }
+    record_tail_check::check_tail(base, set_of(widths), n, k, root, claim, bytes)
 }
 
 // The number, and the lengths of the two messages, 0 where it is refused.
@@ -94,10 +112,11 @@ pub struct Compared {
 }
 
 // Two query records of one position compared: 4, 5, 7, 11, 32, 33. Where they differ, the two messages nearest the root that differ go into
-// the buffers, of 512 bytes each.
+// the buffers, of 1,024 bytes each.
 #[no_mangle]
 pub extern "C" fn dequmlo_compare(
     base: &[u8],
+    widths: u32,
     n: usize,
     k: usize,
     position: usize,
@@ -105,15 +124,23 @@ pub extern "C" fn dequmlo_compare(
     roots: &[u8],
     first: &[u8],
     second: &[u8],
-    first_message: &mut [u8],
-    second_message: &mut [u8],
+    one: &mut [u8],
+    two: &mut [u8],
 ) -> Compared
-    ensures { λ r. ⌜ compared r ≡ comparedLent base n k position challenges roots first second «first_message» «second_message» ⌝ }
-    ensures { λ _. ⌜ now («first_message» .exit) ≡ firstLeft base n k position challenges roots first second «first_message» «second_message» ⌝ }
-    ensures { λ _. ⌜ now («second_message» .exit) ≡ secondLeft base n k position challenges roots first second «first_message» «second_message» ⌝ }
+    ensures { λ r. ⌜ compared r ≡ comparedAnswer base widths n k position challenges roots first second one two ⌝ }
+    ensures { λ _. ⌜ now (one .exit) ≡ firstAfter base widths n k position challenges roots first second one two ⌝ }
+    ensures { λ _. ⌜ now (two .exit) ≡ secondAfter base widths n k position challenges roots first second one two ⌝ }
 {
+    if widths > 1 {
+        return Compared {
+            number: 4,
+            first: 0,
+            second: 0,
+        };
+    }
     let a = compare_records::compare(
         base,
+        set_of(widths),
         n,
         k,
         Place::at(position),
@@ -121,8 +148,8 @@ pub extern "C" fn dequmlo_compare(
         roots,
         first,
         second,
-        first_message,
-        second_message,
+        one,
+        two,
     );
     Compared {
         number: a.number,

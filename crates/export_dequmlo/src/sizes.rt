@@ -1,6 +1,7 @@
-// The sizes of every buffer that n and k fix, so that a caller can lend what question 5 asks for.
+// The sizes of every buffer that a set of widths, n and k fix, so that a caller can lend what question 5 asks for.
+use crate::sets::set_of;
 ghost use mathlib.Core.Path.{_≡_};
-ghost use Rattle.export_dequmlo.specs.Sizes.{sizesOf};
+ghost use Rattle.export_dequmlo.specs.Sizes.{sizesNumber, sizesOf};
 
 // Words of the table, the gammas, the codeword, all levels, room for a fold and the last level; bytes of level 0's tree, of all trees, of the
 // last level's tree, of the roots, and of a query and a tail record.
@@ -21,12 +22,22 @@ pub struct Sizes {
     pub tail: usize,
 }
 
-// The sizes of a seal: 4 where n is not from 1 to 20 or k is above 4.
-#[no_mangle]
-pub extern "C" fn dequmlo_sizes(n: usize, k: usize) -> Sizes
-    ensures { λ r. ⌜ r ≡ sizesOf n k ⌝ }
+// Question 4: does the number name a set, is n from 1 to 20 and k at most 4?
+fn sizes_number(widths: u32, n: usize, k: usize) -> u32
+    ensures { λ r. ⌜ r ≡ sizesNumber widths n k ⌝ }
 {
-    let number = code_level::size_number(n, k);
+    if widths > 1 {
+        return 4;
+    }
+    code_level::size_number(n, k)
+}
+
+// The sizes of a seal: 4 where the number names no set, n is not from 1 to 20 or k is above 4.
+#[no_mangle]
+pub extern "C" fn dequmlo_sizes(widths: u32, n: usize, k: usize) -> Sizes
+    ensures { λ r. ⌜ r ≡ sizesOf widths n k ⌝ }
+{
+    let number = sizes_number(widths, n, k);
     if number != 0 {
         return Sizes {
             number,
@@ -44,19 +55,20 @@ pub extern "C" fn dequmlo_sizes(n: usize, k: usize) -> Sizes
             tail: 0,
         };
     }
+    let set = set_of(widths);
     Sizes {
         number: 0,
         table: code_codeword::sizes::power(n),
         gammas: k * n,
         codeword: code_level::level_length(n, k, 0),
-        tree: code_commit::trees::tree_bytes(n, k, 0),
+        tree: code_commit::trees::tree_bytes(set, n, k, 0),
         levels: code_level::levels_length(n, k),
-        trees: code_level::trees_size(n, k),
+        trees: code_level::trees_size(set, n, k),
         half: code_level::level_length(n, k, 1),
         roots: 32 * (n + 1),
         last_level: code_level::level_length(n, k, n),
-        last_tree: code_commit::trees::tree_bytes(n, k, n),
-        query: record_query_build::query_size(n, k),
-        tail: record_tail_build::tail_size(n, k),
+        last_tree: code_commit::trees::tree_bytes(set, n, k, n),
+        query: record_query_build::query_size(set, n, k),
+        tail: record_tail_build::tail_size(set, n, k),
     }
 }

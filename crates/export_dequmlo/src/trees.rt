@@ -1,4 +1,5 @@
 // Trees over groups of words: built, opened at a place, and the root that a group and a path lead to; the domain and the tree of a level.
+use crate::sets::set_of;
 use hash_hasher::whole::Digested;
 use tree_place::Place;
 ghost use mathlib.Core.Path.{_≡_};
@@ -9,20 +10,23 @@ ghost use Rattle.tree_path.specs.Answers.{openedInto, rootAnswer};
 ghost use Rattle.theory_laws.specs.Lists.{flat};
 ghost use Rattle.theory_laws.specs.Questions.{onDone};
 ghost use Rattle.theory_field.specs.Words.{words};
-ghost use Rattle.theory_record.specs.Widths.{present, widthFor};
+ghost use Rattle.theory_record.specs.Widths.{widthsOf, widthFor};
 ghost use Rattle.theory_record.specs.Domain.{levelDomain};
 ghost use Rattle.theory_record.specs.Trees.{treeFor};
-ghost use Rattle.theory_record.specs.Lent.{schemeOf};
 ghost use Rattle.code_level.specs.Domain.{domainNumber, domainLengthOf};
-ghost use Rattle.code_commit.specs.Level.{levelTreeNumber};
+ghost use Rattle.code_commit.specs.Lent.{levelTreeLent};
 ghost use Rattle.export_dequmlo.specs.Answers.{domainLength};
+ghost use Rattle.export_dequmlo.specs.Sets.{schemeBy, withSet};
 
-// The width of the groups of a level of this many values: 8 from length 16, 2 from length 2, else 1.
+// The width of the groups of a level of this many values: the set's from its threshold on, 2 from length 2, else 1; 0 where the number names no set.
 #[no_mangle]
-pub extern "C" fn dequmlo_fold_tree_width(length: usize) -> usize
-    ensures { λ r. ⌜ r ≡ widthFor present length ⌝ }
+pub extern "C" fn dequmlo_fold_tree_width(widths: u32, length: usize) -> usize
+    ensures { λ r. ⌜ r ≡ withSet widths (λ set. widthFor (widthsOf set) length) 0 ⌝ }
 {
-    code_level::fold_tree_width(length)
+    if widths > 1 {
+        return 0;
+    }
+    code_level::fold_tree_width(set_of(widths), length)
 }
 
 // The tree over groups of words, leaves first, 2 × groups - 1 digests: 7, 8, 9, 10, 5.
@@ -101,6 +105,7 @@ pub extern "C" fn dequmlo_level_domain(base: &[u8], level: usize, out: &mut [u8]
 // The tree of a level over its values, into a buffer of its size: 4, 5, 7.
 #[no_mangle]
 pub extern "C" fn dequmlo_level_tree(
+    widths: u32,
     n: usize,
     k: usize,
     level: usize,
@@ -108,8 +113,11 @@ pub extern "C" fn dequmlo_level_tree(
     values: &[u64],
     tree: &mut [u8],
 ) -> u32
-    ensures { λ r. ⌜ r ≡ levelTreeNumber present n k level (length (now (base .entry))) (length (now (values .entry))) (length (now (tree .entry))) ⌝ }
-    ensures { λ r. ⌜ now (tree .exit) ≡ onDone r (flat (treeFor (schemeOf base n k) level (words (now (values .entry))))) (now (tree .entry)) ⌝ }
+    ensures { λ r. ⌜ r ≡ withSet widths (λ set. levelTreeLent set n k level base values tree) 4 ⌝ }
+    ensures { λ r. ⌜ now (tree .exit) ≡ onDone r (flat (treeFor (schemeBy widths base n k) level (words (now (values .entry))))) (now (tree .entry)) ⌝ }
 {
-    code_commit::level::level_tree(n, k, level, base, values, tree)
+    if widths > 1 {
+        return 4;
+    }
+    code_commit::level::level_tree(set_of(widths), n, k, level, base, values, tree)
 }

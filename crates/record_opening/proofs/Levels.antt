@@ -1,14 +1,13 @@
 -- A group and a path of level l in a record: what is read of them is in the record, and they lead to the level's root.
 use Prim.Native.Nat.{ℕ, _+_, _-_, _*_, _<_, _≤_}
 use mathlib.Core.Path.{_≡_}
-use mathlib.Core.Bool.{Bool, true, false}
+use mathlib.Core.Bool.{true}
 use mathlib.Core.List.{List}
 use native.Mathlib.Omega.{arith}
 use borrow.Author.Tests.{leb-true}
 use lib.Dec.{leb}
 use lib.ListN.{length, take, drop, length-drop}
 use lib.Seq.{drop-drop}
-use Rattle.theory_laws.specs.Questions.{pick}
 use Rattle.theory_laws.specs.Lists.{runs}
 use Rattle.theory_laws.proofs.Lists.{both-true}
 use Rattle.theory_merkle.specs.Tree.{rootOfPath}
@@ -16,11 +15,12 @@ use Rattle.bytes_numbers.specs.helpers.Put.{Put}
 use Rattle.tree_digest.proofs.Messages.{message-length}
 use Rattle.theory_record.specs.Trees.{leadsTo}
 use Rattle.theory_record.specs.Format.{runCount, runSize, runFits, runItems}
-use Rattle.theory_record.specs.Widths.{present, widthFor, levelLength, levelWidth}
+use Rattle.theory_record.specs.declared.WidthSet.{WidthSet}
+use Rattle.theory_record.specs.Widths.{widthsOf, widest}
 use Rattle.theory_record.proofs.Domain.{levelDomain-fits}
-use Rattle.theory_record.proofs.Widths.{PowersOfTwo, level-shape, width-pos}
+use Rattle.theory_record.proofs.Widths.{powers, width-most, level-shape, width-pos}
 use Rattle.record_opening.specs.helpers.Opening.{valuesFrom, valuesAt, digestsAt, Sized}
-use Rattle.theory_record.specs.Scheme.{Scheme, widthAt, depthAt, lengthAt, domainAt}
+use Rattle.theory_record.specs.Scheme.{Scheme, scheme, widthAt, depthAt, lengthAt, domainAt}
 use Rattle.theory_record.specs.Domain.{domainRoom}
 
 -- a run that is all there ends within the record
@@ -33,31 +33,22 @@ run-room size s i e =
     let n = length-drop i s in
     omega arith
 
-pub width-most : (n k l : ℕ) → levelWidth present n k l ≤ 8
-unfolding levelWidth widthFor
-width-most n k l = go (leb 16 (levelLength n k l)) (leb 2 (levelLength n k l))
-  where
-    go : (a b : Bool) → pick a 8 (pick b 2 1) ≤ 8
-    go true b = omega arith
-    go false true = omega arith
-    go false false = omega arith
-
 -- what a function needs that reads them
 pub record Room (S : Scheme) (l : ℕ) (s : List ℕ) (group path : ℕ) : Type 0 where
   pub domain-short : length (domainAt S l) ≤ domainRoom
   pub width-pos : 0 < widthAt S l
-  pub width-le : widthAt S l ≤ 8
+  pub width-le : widthAt S l ≤ widest
   pub group-room : group + 4 + 16 * widthAt S l ≤ length s
   pub path-room : path + 4 + 32 * depthAt S l ≤ length s
 
-pub sized-room : (S : Scheme) (p : PowersOfTwo (S .widths)) (narrow : (l : ℕ) → widthAt S l ≤ 8) (l : ℕ) (s : List ℕ) (group path : ℕ) → Sized S l s group path
-    → Room S l s group path
-sized-room S p narrow l s group path z =
+pub sized-room : (set : WidthSet) {base : List ℕ} {n k l : ℕ} {s : List ℕ} {group path : ℕ} → Sized (scheme set base n k) l s group path
+    → Room (scheme set base n k) l s group path
+sized-room set {base} {n} {k} {l} {s} {group} {path} z =
     let r = z .readable in
     record {
-      domain-short = levelDomain-fits (S .base) l (r .base-short) (omega arith);
-      width-pos = width-pos (S .widths) (S .n) (S .k) l (level-shape (S .widths) (S .n) (S .k) l p);
-      width-le = narrow l;
+      domain-short = levelDomain-fits base l (r .base-short) (omega arith);
+      width-pos = width-pos (widthsOf set) n k l (level-shape (widthsOf set) n k l (powers set));
+      width-le = width-most set n k l;
       group-room = rw (z .width-is) at (run-room 16 s group (r .group-fits));
       path-room = rw (z .depth-is) at (run-room 32 s path (r .path-fits));
     }

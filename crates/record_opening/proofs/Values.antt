@@ -12,6 +12,7 @@ use Rattle.theory_field.specs.Words.{words, joined}
 use Rattle.theory_field.proofs.Words.{Filled, at-words, length-words-even}
 use Rattle.theory_blake3.specs.Digest.{hash}
 use Rattle.theory_merkle.specs.Tree.{leafDigest}
+use Rattle.theory_record.specs.Widths.{widest}
 use Rattle.record_opening.specs.helpers.Opening.{valuesFrom}
 
 pub value-from : (s : List ℕ) (from c j : ℕ) → j < c → at (valuesFrom s from c) j ≡ leValue (part 16 (from + 16 * j) s)
@@ -24,8 +25,8 @@ unfolding valuesFrom
 length-valuesFrom s from c = length-map (runs 16 c (drop from s)) leValue ∙ length-runs 16 c (drop from s)
 
 -- a slice whose first words are filled with them
-pub values-filled : (s : List ℕ) (from c i : ℕ) (v : List ℕ) → Filled (λ j. leValue (part 16 (from + 16 * j) s)) i v → length v ≡ 16 → c ≤ 8 → c ≤ i
-    → words (take (2 * c) v) ≡ valuesFrom s from c
+pub values-filled : (s : List ℕ) (from c i : ℕ) (v : List ℕ) → Filled (λ j. leValue (part 16 (from + 16 * j) s)) i v → length v ≡ 2 * widest
+    → c ≤ widest → c ≤ i → words (take (2 * c) v) ≡ valuesFrom s from c
 values-filled s from c i v f n h g =
     let len : length (take (2 * c) v) ≡ 2 * c = length-take-le (2 * c) v (omega arith) in
     let k : length (words (take (2 * c) v)) ≡ c = length-words-even (take (2 * c) v) c len in
@@ -36,12 +37,12 @@ values-filled s from c i v f n h g =
     ∙ sym (at-words v j) ∙ f j (omega arith) ∙ sym (value-from s from c j q))
 
 -- the halves of the group's words
-pub halves-long : (c : ℕ) (l : List ℕ) → length l ≡ 16 → c ≤ 8 → 2 * c ≡ length (take (2 * c) l)
+pub halves-long : (c : ℕ) (l : List ℕ) → length l ≡ 2 * widest → c ≤ widest → 2 * c ≡ length (take (2 * c) l)
 halves-long c l n h = sym (length-take-le (2 * c) l (omega arith))
 
 pub leaf-of-values : (domain : List ℕ) (count width g : ℕ) (ws vs d : List ℕ) → d ≡ leafDigest hash domain count width g ws → ws ≡ vs
     → d ≡ leafDigest hash domain count width g vs
 leaf-of-values domain count width g ws vs d e f = e ∙ ap (leafDigest hash domain count width g) f
 
-pub halves-back : (c : ℕ) (l : List ℕ) → length l ≡ 16 → c ≤ 8 → length (take (2 * c) l) ≡ 2 * c
+pub halves-back : (c : ℕ) (l : List ℕ) → length l ≡ 2 * widest → c ≤ widest → length (take (2 * c) l) ≡ 2 * c
 halves-back c l n h = sym (halves-long c l n h)

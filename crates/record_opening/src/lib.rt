@@ -3,6 +3,7 @@
 use bytes_numbers::same_bytes;
 use bytes_reader::digest_at;
 use code_level::DOMAIN;
+use code_level::WIDEST;
 use code_level::level_depth;
 use code_level::level_domain;
 use code_level::level_length;
@@ -10,6 +11,7 @@ use code_level::level_width;
 use field_gf128::Word;
 use record_reader::count_at;
 use record_reader::word_at;
+use theory_record::WidthSet;
 use tree_digest::hash_group;
 use tree_message::leaf_prefix;
 use tree_place::Group;
@@ -30,16 +32,17 @@ ghost use Rattle.tree_place.specs.Place.{index, number};
 ghost use Rattle.record_opening.specs.helpers.Opening.{valuesFrom, leadsAt, rootFrom, WayThere, Readable, Sized, numberAt, AgainThere};
 ghost use Rattle.record_opening.specs.helpers.Again.{OldThere, Same};
 ghost use Rattle.theory_record.specs.Scheme.{scheme};
+ghost use Rattle.theory_record.specs.Widths.{widest};
 
-// How many bytes the longest leaf message of a level has: a domain of 255 bytes, 8 values of 16 bytes, and 97 beside.
-const LEVEL_LEAF: usize = 480;
+// How many bytes the longest leaf message of a level has: a domain of 255 bytes, WIDEST values of 16 bytes, and 97 beside.
+const LEVEL_LEAF: usize = 97 + 255 + 16 * WIDEST;
 
 // The values that stand from a byte of a record on, two halves each.
-pub fn group_values(s: &[u8], from: usize, width: usize) -> [u64; 16]
-    requires { ⌜ (width ≤ 8) × (from + 16 * width ≤ length (now s)) ⌝ }
+pub fn group_values(s: &[u8], from: usize, width: usize) -> [u64; 2 * WIDEST]
+    requires { ⌜ (width ≤ widest) × (from + 16 * width ≤ length (now s)) ⌝ }
     ensures { λ r. ⌜ words (take (2 * width) r) ≡ valuesFrom (now (s .entry)) from width ⌝ }
 {
-    let mut values = [0u64; 16];
+    let mut values = [0u64; 2 * WIDEST];
     let mut i: usize = 0;
     while i < width {
         let w = word_at(s, from + 16 * i);
@@ -58,7 +61,7 @@ fn leaf_at(
     s: &[u8],
     from: usize,
 ) -> [u8; 32]
-    requires { ⌜ (length (now domain) ≤ 255) × (width ≤ 8) × (from + 16 * width ≤ length (now s)) ⌝ }
+    requires { ⌜ (length (now domain) ≤ 255) × (width ≤ widest) × (from + 16 * width ≤ length (now s)) ⌝ }
     ensures { λ r. ⌜ r ≡ leafDigest hash (now (domain .entry)) count width (number group) (valuesFrom (now (s .entry)) from width) ⌝ }
 {
     let values = group_values(s, from, width);
@@ -89,6 +92,7 @@ fn root_from(
 // The root that a place of level l, and the group and the path that stand at these bytes of a record lead to.
 pub fn leads_to(
     base: &[u8],
+    set: WidthSet,
     n: usize,
     k: usize,
     l: usize,
@@ -97,14 +101,14 @@ pub fn leads_to(
     group_at: usize,
     path_at: usize,
 ) -> [u8; 32]
-    requires { ⌜ Sized (scheme (now base) n k) l (now s) «group_at» «path_at» ⌝ }
-    ensures { λ r. ⌜ r ≡ leadsAt (scheme (now (base .entry)) n k) l (index place) (now (s .entry)) «group_at» «path_at» ⌝ }
+    requires { ⌜ Sized (scheme set (now base) n k) l (now s) «group_at» «path_at» ⌝ }
+    ensures { λ r. ⌜ r ≡ leadsAt (scheme set (now (base .entry)) n k) l (index place) (now (s .entry)) «group_at» «path_at» ⌝ }
 {
     let mut domain = [0u8; DOMAIN];
     let d = level_domain(&mut domain, base, l);
     let count = level_length(n, k, l);
-    let width = level_width(n, k, l);
-    let depth = level_depth(n, k, l);
+    let width = level_width(set, n, k, l);
+    let depth = level_depth(set, n, k, l);
     root_from(
         &domain[..d],
         count,
@@ -141,6 +145,7 @@ fn same_digest(a: [u8; 32], b: [u8; 32]) -> bool
 // length, the root.
 pub fn opening_number(
     base: &[u8],
+    set: WidthSet,
     n: usize,
     k: usize,
     l: usize,
@@ -151,16 +156,16 @@ pub fn opening_number(
     root: [u8; 32],
     first: u32,
 ) -> u32
-    requires { ⌜ (Readable (scheme (now base) n k) l (now s) «group_at» «path_at») × (first < 100) ⌝ }
-    ensures { λ r. ⌜ r ≡ numberAt (scheme (now (base .entry)) n k) l (index place) (now (s .entry)) «group_at» «path_at» root first ⌝ }
+    requires { ⌜ (Readable (scheme set (now base) n k) l (now s) «group_at» «path_at») × (first < 100) ⌝ }
+    ensures { λ r. ⌜ r ≡ numberAt (scheme set (now (base .entry)) n k) l (index place) (now (s .entry)) «group_at» «path_at» root first ⌝ }
 {
-    if count_at(s, group_at) != level_width(n, k, l) {
+    if count_at(s, group_at) != level_width(set, n, k, l) {
         return first;
     }
-    if count_at(s, path_at) != level_depth(n, k, l) {
+    if count_at(s, path_at) != level_depth(set, n, k, l) {
         return first + 1;
     }
-    let d = leads_to(base, n, k, l, place, s, group_at, path_at);
+    let d = leads_to(base, set, n, k, l, place, s, group_at, path_at);
     if !same_digest(d, root) {
         return first + 2;
     }
@@ -222,6 +227,7 @@ fn same_opening(
 // the next level's a: what is known to lead to this root is not hashed again.
 pub fn opening_again(
     base: &[u8],
+    set: WidthSet,
     n: usize,
     k: usize,
     l: usize,
@@ -233,13 +239,13 @@ pub fn opening_again(
     first: u32,
     old: Opened,
 ) -> u32
-    requires { ⌜ AgainThere (scheme (now base) n k) n l (index place) (now s) «group_at» «path_at» old root first ⌝ }
-    ensures { λ r. ⌜ r ≡ numberAt (scheme (now (base .entry)) n k) l (index place) (now (s .entry)) «group_at» «path_at» root first ⌝ }
+    requires { ⌜ AgainThere (scheme set (now base) n k) n l (index place) (now s) «group_at» «path_at» old root first ⌝ }
+    ensures { λ r. ⌜ r ≡ numberAt (scheme set (now (base .entry)) n k) l (index place) (now (s .entry)) «group_at» «path_at» root first ⌝ }
 {
-    let w = level_width(n, k, l);
-    let d = level_depth(n, k, l);
+    let w = level_width(set, n, k, l);
+    let d = level_depth(set, n, k, l);
     if same_opening(s, group_at, path_at, old, w, d) {
         return 0;
     }
-    opening_number(base, n, k, l, place, s, group_at, path_at, root, first)
+    opening_number(base, set, n, k, l, place, s, group_at, path_at, root, first)
 }

@@ -13,7 +13,8 @@ use Rattle.theory_field.proofs.Words.{Halves}
 use Rattle.theory_merkle.specs.Tree.{groupOf}
 use Rattle.bytes_numbers.specs.helpers.Put.{Put}
 use Rattle.bytes_numbers.proofs.Stores.{then-put, same-put}
-use Rattle.theory_record.specs.Widths.{present, total}
+use Rattle.theory_record.specs.declared.WidthSet.{WidthSet}
+use Rattle.theory_record.specs.Widths.{Widths, widthsOf, total}
 use Rattle.theory_record.specs.Format.{wordBytes, runBytes, levelBytes, levelForm, itemsBytes, recordBytes}
 use Rattle.theory_record.specs.Sizes.{groupSize, levelSize, querySize}
 use Rattle.theory_record.specs.Query.{pairOf}
@@ -21,7 +22,7 @@ use Rattle.theory_record.specs.Build.{levelStart, treeStart, builtLevel, builtL
 use Rattle.theory_record.proofs.Ranges.{SizesFit, sizes-small}
 use Rattle.theory_record.proofs.Build.{length-builtLevels, built-query-fills}
 use Rattle.theory_record.proofs.BuildAllowed.{QueryBuild, query-lent}
-use Rattle.theory_record.proofs.Widths.{present-powers}
+use Rattle.theory_record.proofs.Widths.{powers}
 use Rattle.tree_walk.specs.helpers.Paths.{pathFrom}
 use Rattle.field_bytes.proofs.Puts.{words-there}
 use Rattle.record_writer.specs.helpers.Groups.{ValuesPut}
@@ -84,40 +85,44 @@ level-put {o} {from} ws ts x y q {o1} {j1} {o2} {j2} {o3} {r} p g h =
 -- ---- the levels
 
 -- what is left to store, from level l on
-unfoldable pub levelsLeft : List ℕ → ℕ → ℕ → ℕ → List ℕ → List ℕ → ℕ → ℕ → List ℕ
-levelsLeft out from n k ws ts position l = stored out from (itemsBytes levelForm (builtLevels present n k ws ts position (n - l) l))
+unfoldable pub levelsLeft : Widths → List ℕ → ℕ → ℕ → ℕ → List ℕ → List ℕ → ℕ → ℕ → List ℕ
+levelsLeft s out from n k ws ts position l = stored out from (itemsBytes levelForm (builtLevels s n k ws ts position (n - l) l))
 
-pub first-level : (n k : ℕ) → SizesFit n k → (n + k ≤ 24) × (0 ≤ n) × (0 ≡ levelStart n k 0) × (0 ≡ 32 * treeStart present n k 0)
+pub first-level : (s : Widths) (n k : ℕ) → SizesFit n k → (n + k ≤ 24) × (0 ≤ n) × (0 ≡ levelStart n k 0) × (0 ≡ 32 * treeStart s n k 0)
 unfolding levelStart treeStart total
-first-level n k z = (sizes-small n k z, omega arith, refl, refl)
+first-level s n k z = (sizes-small n k z, omega arith, refl, refl)
 
 -- the place to which level l's pair folds
 pub pair-is : (position l q : ℕ) → q ≡ position / 2 ^ (l + 1) → q ≡ pairOf position l
 unfolding pairOf
 pair-is position l q e = e ∙ rw add-one
 
-pub next-from : (n k l from from′ : ℕ) (x y : Level) → x ≡ lentLevel n k l → y ≡ lentLevel n k (l + 1) → from ≡ 4 + total l (levelSize present n k)
-    → from′ ≡ from + openSize x y → from′ ≡ 4 + total (l + 1) (levelSize present n k)
+pub next-from : (s : Widths) (n k l from from′ : ℕ) (x y : Level) → x ≡ lentLevel s n k l → y ≡ lentLevel s n k (l + 1)
+    → from ≡ 4 + total l (levelSize s n k) → from′ ≡ from + openSize x y → from′ ≡ 4 + total (l + 1) (levelSize s n k)
 unfolding total levelSize groupSize lentLevel
-next-from n k l from from′ x y ex ey e f = rw (f, e, ex, ey, add-one) (omega arith)
+next-from s n k l from from′ x y ex ey e f = rw (f, e, ex, ey, add-one) (omega arith)
 
-pub levels-end : (out : List ℕ) (from n k : ℕ) (ws ts : List ℕ) (position l : ℕ) (r : List ℕ) → levelsLeft out from n k ws ts position l ≡ r → n ≤ l → out ≡ r
+pub levels-end : (s : Widths) (out : List ℕ) (from n k : ℕ) (ws ts : List ℕ) (position l : ℕ) (r : List ℕ) → levelsLeft s out from n k ws ts position l ≡ r
+    → n ≤ l → out ≡ r
 unfolding levelsLeft builtLevels itemsBytes
-levels-end out from n k ws ts position l r e h =
+levels-end s out from n k ws ts position l r e h =
     let z : n - l ≡ 0 = omega arith in
     rw (z, stored-nil) at e
 
-module _ {n k : ℕ} {levels trees : List ℕ} {position : ℕ} {out₀ : List ℕ} (t : QueryBuild present n k levels trees position out₀) where
+module _ (set : WidthSet) {n k : ℕ} {levels trees : List ℕ} {position : ℕ} {out₀ : List ℕ} (t : QueryBuild (widthsOf set) n k levels trees position out₀) where
+  abbrev s : Widths
+  s = widthsOf set
+
   pub levels-step : {out : List ℕ} {from : ℕ} (l : ℕ) {r : List ℕ} {x y : Level} {q : ℕ} {out′ : List ℕ} {j m : ℕ}
-      → levelsLeft out from n k (words levels) trees position l ≡ r → Put out from m (openBytes (words levels) trees x y q) out′ j
-      → x ≡ lentLevel n k l → y ≡ lentLevel n k (l + 1) → q ≡ pairOf position l → l < n → levelsLeft out′ j n k (words levels) trees position (l + 1) ≡ r
+      → levelsLeft s out from n k (words levels) trees position l ≡ r → Put out from m (openBytes (words levels) trees x y q) out′ j
+      → x ≡ lentLevel s n k l → y ≡ lentLevel s n k (l + 1) → q ≡ pairOf position l → l < n → levelsLeft s out′ j n k (words levels) trees position (l + 1) ≡ r
   unfolding levelsLeft builtLevels itemsBytes
   levels-step {out} {from} l {r} {x} {y} {q} {out′} {j} {m} e p ex ey eq h =
       let z : n - l ≡ suc (n - suc l) = omega arith in
       let bs : List ℕ = levelBytes (openLent (words levels) trees x y q) in
       let f : j ≡ from + length bs = p .end ∙ ap (λ i. from + i) (sym (p .size)) in
-      let b : levelBytes (builtLevel present n k (words levels) trees position l) ≡ bs =
-      ap levelBytes (built-is n k (words levels) trees position l (t .position-low) (omega arith) ∙ rw (ex, ey, eq, add-one)) in
+      let b : levelBytes (builtLevel s n k (words levels) trees position l) ≡ bs =
+      ap levelBytes (built-is s (powers set) n k (words levels) trees position l (t .position-low) (omega arith) ∙ rw (ex, ey, eq, add-one)) in
       rw (add-one, f, p .bytes, ← stored-append out from bs) (rw (z, b) at e)
 
   pub count-room : 0 + 4 ≤ length out₀
@@ -125,17 +130,17 @@ module _ {n k : ℕ} {levels trees : List ℕ} {position : ℕ} {out₀ : List �
   count-room = omega (arith, t .out-long)
 
   pub first-levels : {o1 : List ℕ} {from : ℕ} → Put out₀ 0 4 (leBytes 4 n) o1 from → Halves levels
-      → levelsLeft o1 from n k (words levels) trees position 0 ≡ queryBytes present n k (words levels) trees position
+      → levelsLeft s o1 from n k (words levels) trees position 0 ≡ queryBytes s n k (words levels) trees position
   unfolding levelsLeft queryBytes recordBytes
   first-levels {o1} {from} p hs =
-      let items : List ℕ = itemsBytes levelForm (builtLevels present n k (words levels) trees position n 0) in
+      let items : List ℕ = itemsBytes levelForm (builtLevels s n k (words levels) trees position n 0) in
       let e : from ≡ 0 + length (leBytes 4 n) = p .end ∙ ap (λ j. 0 + j) (sym (p .size)) in
       let z : n - 0 ≡ n = omega arith in
-      let is : leBytes 4 n ++ items ≡ queryBytes present n k (words levels) trees position =
-      rw (length-builtLevels present n k (words levels) trees position n 0) in
-      let fills : length (queryBytes present n k (words levels) trees position) ≡ length out₀ =
-      built-query-fills present present-powers n k (words levels) trees (query-lent present n k levels trees position out₀ t hs) position (t .position-low)
+      let is : leBytes 4 n ++ items ≡ queryBytes s n k (words levels) trees position =
+      rw (length-builtLevels s n k (words levels) trees position n 0) in
+      let fills : length (queryBytes s n k (words levels) trees position) ≡ length out₀ =
+      built-query-fills s (powers set) n k (words levels) trees (query-lent s n k levels trees position out₀ t hs) position (t .position-low)
       ∙ sym (t .out-long) in
       rw (z, p .bytes, e)
       (sym (stored-append out₀ 0 (leBytes 4 n) items) ∙ ap (stored out₀ 0) is
-      ∙ stored-all out₀ (queryBytes present n k (words levels) trees position) fills)
+      ∙ stored-all out₀ (queryBytes s n k (words levels) trees position) fills)

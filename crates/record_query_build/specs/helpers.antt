@@ -1,2 +1,3 @@
 pub mod Levels
 pub mod Numbers
+pub mod Sizes

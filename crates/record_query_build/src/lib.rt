@@ -10,6 +10,7 @@ use code_level::trees_size;
 use field_bytes::put_words;
 use record_writer::put_digests;
 use record_writer::put_values;
+use theory_record::WidthSet;
 use tree_place::Place;
 use tree_place::group_of;
 ghost use mathlib.Core.Path.{_≡_};
@@ -17,7 +18,7 @@ ghost use Prim.Native.Nat.{_+_, _*_, _≤_, _<_};
 ghost use lib.ListN.{length};
 ghost use Rattle.theory_field.specs.Words.{words};
 ghost use Rattle.bytes_numbers.specs.helpers.Put.{Put};
-ghost use Rattle.theory_record.specs.Widths.{present};
+ghost use Rattle.theory_record.specs.Widths.{widthsOf};
 ghost use Rattle.theory_record.specs.Sizes.{groupSize, querySize};
 ghost use Rattle.theory_record.specs.Build.{levelStart, treeStart, queryBytes, buildQueryNumber, buildQuery};
 ghost use Rattle.theory_record.proofs.BuildAllowed.{QueryBuild};
@@ -25,6 +26,7 @@ ghost use Rattle.theory_record.proofs.Ranges.{SizesFit};
 ghost use Rattle.tree_place.specs.Place.{index};
 ghost use Rattle.record_query_build.specs.helpers.Levels.{lentLevel, pairBytes, groupsBytes, groupsSize, pathsBytes, pathsSize, LevelPut};
 ghost use Rattle.record_query_build.specs.helpers.Levels.{PairRoom, GroupsRoom, PathsRoom, Room};
+ghost use Rattle.record_query_build.specs.helpers.Sizes.{groupMost};
 ghost use Rattle.record_query_build.specs.helpers.Numbers.{buildNumber};
 
 // A level as it is lent: the word and the byte at which its values and its tree begin, and its sizes.
@@ -37,27 +39,27 @@ pub struct Level {
 }
 
 // Level l, where its values and its tree begin.
-fn lent_level(n: usize, k: usize, l: usize, words_at: usize, tree_at: usize) -> Level
-    requires { ⌜ (n + k ≤ 24) × (l ≤ n) × («words_at» ≡ levelStart n k l) × («tree_at» ≡ 32 * treeStart present n k l) ⌝ }
-    ensures { λ r. ⌜ r ≡ lentLevel n k l ⌝ }
+fn lent_level(set: WidthSet, n: usize, k: usize, l: usize, words_at: usize, tree_at: usize) -> Level
+    requires { ⌜ (n + k ≤ 24) × (l ≤ n) × («words_at» ≡ levelStart n k l) × («tree_at» ≡ 32 * treeStart (widthsOf set) n k l) ⌝ }
+    ensures { λ r. ⌜ r ≡ lentLevel (widthsOf set) n k l ⌝ }
 {
     Level {
         words_at: words_at,
         tree_at: tree_at,
-        width: level_width(n, k, l),
-        depth: level_depth(n, k, l),
-        groups: level_groups(n, k, l),
+        width: level_width(set, n, k, l),
+        depth: level_depth(set, n, k, l),
+        groups: level_groups(set, n, k, l),
     }
 }
 
 // The level after level l: its values and its tree stand after those of level l.
-fn next_level(n: usize, k: usize, l: usize, x: Level) -> Level
-    requires { ⌜ (SizesFit n k) × (l < n) × (x ≡ lentLevel n k l) ⌝ }
-    ensures { λ r. ⌜ r ≡ lentLevel n k (l + 1) ⌝ }
+fn next_level(set: WidthSet, n: usize, k: usize, l: usize, x: Level) -> Level
+    requires { ⌜ (SizesFit n k) × (l < n) × (x ≡ lentLevel (widthsOf set) n k l) ⌝ }
+    ensures { λ r. ⌜ r ≡ lentLevel (widthsOf set) n k (l + 1) ⌝ }
 {
     let words_at = x.words_at + level_length(n, k, l);
     let tree_at = x.tree_at + 32 * (2 * x.groups - 1);
-    lent_level(n, k, l + 1, words_at, tree_at)
+    lent_level(set, n, k, l + 1, words_at, tree_at)
 }
 
 // The words a and b, at places 2q and 2q + 1 of a level, and c, at place q of the next.
@@ -122,18 +124,19 @@ fn put_levels(
     out: &mut [u8],
     levels: &[u64],
     trees: &[u8],
+    set: WidthSet,
     n: usize,
     k: usize,
     position: Place,
 ) -> usize
-    requires { ⌜ QueryBuild present n k (now levels) (now trees) (index position) (now out) ⌝ }
-    ensures { λ _. ⌜ now (out .exit) ≡ queryBytes present n k (words (now (levels .entry))) (now (trees .entry)) (index position) ⌝ }
+    requires { ⌜ QueryBuild (widthsOf set) n k (now levels) (now trees) (index position) (now out) ⌝ }
+    ensures { λ _. ⌜ now (out .exit) ≡ queryBytes (widthsOf set) n k (words (now (levels .entry))) (now (trees .entry)) (index position) ⌝ }
 {
     let mut at = put_number(out, 0, n as u64, 4);
-    let mut x = lent_level(n, k, 0, 0, 0);
+    let mut x = lent_level(set, n, k, 0, 0, 0);
     let mut l: usize = 0;
     while l < n {
-        let y = next_level(n, k, l, x);
+        let y = next_level(set, n, k, l, x);
         let q = position.folded(l + 1);
         at = put_level(out, at, levels, trees, x, y, q);
         x = y;
@@ -143,30 +146,38 @@ fn put_levels(
 }
 
 // How many bytes a group of level l and its path have in a record.
-fn group_size(n: usize, k: usize, l: usize) -> usize
+fn group_size(set: WidthSet, n: usize, k: usize, l: usize) -> usize
     requires { ⌜ (n + k ≤ 24) × (l ≤ n) ⌝ }
-    ensures { λ r. ⌜ (r ≡ groupSize present n k l) × (r ≤ 1000) ⌝ }
+    ensures { λ r. ⌜ (r ≡ groupSize (widthsOf set) n k l) × (r ≤ groupMost) ⌝ }
 {
-    8 + 16 * level_width(n, k, l) + 32 * level_depth(n, k, l)
+    8 + 16 * level_width(set, n, k, l) + 32 * level_depth(set, n, k, l)
 }
 
 // How many bytes a query record has.
-pub fn query_size(n: usize, k: usize) -> usize
+pub fn query_size(set: WidthSet, n: usize, k: usize) -> usize
     requires { ⌜ SizesFit n k ⌝ }
-    ensures { λ r. ⌜ r ≡ querySize present n k ⌝ }
+    ensures { λ r. ⌜ r ≡ querySize (widthsOf set) n k ⌝ }
 {
     let mut size: usize = 4;
     let mut l: usize = 0;
     while l < n {
-        size += 48 + group_size(n, k, l) + group_size(n, k, l + 1);
+        size += 48 + group_size(set, n, k, l) + group_size(set, n, k, l + 1);
         l += 1;
     }
     size
 }
 
 // 4, 5 and 11.
-fn query_number(levels: usize, trees: usize, out: usize, n: usize, k: usize, position: Place) -> u32
-    ensures { λ r. ⌜ r ≡ buildNumber n k levels trees out (index position) ⌝ }
+fn query_number(
+    levels: usize,
+    trees: usize,
+    out: usize,
+    set: WidthSet,
+    n: usize,
+    k: usize,
+    position: Place,
+) -> u32
+    ensures { λ r. ⌜ r ≡ buildNumber (widthsOf set) n k levels trees out (index position) ⌝ }
 {
     let x = size_number(n, k);
     if x != 0 {
@@ -175,10 +186,10 @@ fn query_number(levels: usize, trees: usize, out: usize, n: usize, k: usize, pos
     if levels != 2 * levels_length(n, k) {
         return 5;
     }
-    if trees != trees_size(n, k) {
+    if trees != trees_size(set, n, k) {
         return 5;
     }
-    if out != query_size(n, k) {
+    if out != query_size(set, n, k) {
         return 5;
     }
     if position.index() >= level_length(n, k, 0) {
@@ -192,17 +203,18 @@ pub fn build_query(
     out: &mut [u8],
     levels: &[u64],
     trees: &[u8],
+    set: WidthSet,
     n: usize,
     k: usize,
     position: Place,
 ) -> u32
-    ensures { λ r. ⌜ r ≡ buildQueryNumber present n k (now (levels .entry)) (now (trees .entry)) (index position) (now (out .entry)) ⌝ }
-    ensures { λ _. ⌜ now (out .exit) ≡ buildQuery present n k (now (levels .entry)) (now (trees .entry)) (index position) (now (out .entry)) ⌝ }
+    ensures { λ r. ⌜ r ≡ buildQueryNumber (widthsOf set) n k (now (levels .entry)) (now (trees .entry)) (index position) (now (out .entry)) ⌝ }
+    ensures { λ _. ⌜ now (out .exit) ≡ buildQuery (widthsOf set) n k (now (levels .entry)) (now (trees .entry)) (index position) (now (out .entry)) ⌝ }
 {
-    let number = query_number(levels.len(), trees.len(), out.len(), n, k, position);
+    let number = query_number(levels.len(), trees.len(), out.len(), set, n, k, position);
     if number != 0 {
         return number;
     }
-    put_levels(out, levels, trees, n, k, position);
+    put_levels(out, levels, trees, set, n, k, position);
     0
 }

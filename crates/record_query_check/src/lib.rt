@@ -15,6 +15,7 @@ use record_reader::count_at;
 use record_reader::level_at;
 use record_reader::query_whole;
 use record_reader::word_at;
+use theory_record::WidthSet;
 use tree_place::Place;
 use tree_place::in_group;
 use tree_place::same_group;
@@ -24,10 +25,10 @@ ghost use lib.Dec.{eqb};
 ghost use Rattle.theory_laws.specs.Xor.{_⊕_};
 ghost use Rattle.theory_field.specs.Field.{_⊗_};
 ghost use Rattle.field_gf128.specs.Word.{word};
-ghost use Rattle.theory_record.specs.Query.{pairOf, valueAt, queryNumber, checkQuery};
+ghost use Rattle.theory_record.specs.Query.{pairOf, valueAt, checkQuery};
 ghost use Rattle.tree_place.specs.Place.{index};
 ghost use Rattle.record_opening.specs.helpers.Opening.{valuesAt, Readable};
-ghost use Rattle.record_query_check.specs.helpers.Level.{aNumberAt, cNumberAt, levelAsked, allAsked};
+ghost use Rattle.record_query_check.specs.helpers.Level.{BeforeLevels, aNumberAt, cNumberAt, levelAsked, allAsked};
 ghost use Rattle.record_query_check.specs.helpers.Level.{WideGroup, Allowed, Whole, PairThere, LevelThere};
 ghost use Rattle.record_query_check.specs.Answer.{answer};
 ghost use Rattle.theory_record.specs.Scheme.{scheme};
@@ -67,6 +68,7 @@ fn holds(s: &[u8], group_at: usize, width: usize, place: Place, w: Word) -> bool
 // 16 to 21: the group of a and b, at places 2q and 2q + 1 of level l. It may be known from the level before, whose c it holds.
 fn a_number(
     base: &[u8],
+    set: WidthSet,
     n: usize,
     k: usize,
     l: usize,
@@ -79,15 +81,28 @@ fn a_number(
     b: Word,
     old: Opened,
 ) -> u32
-    requires { ⌜ PairThere (scheme (now base) n k) l (index q) (now s) «group_at» «path_at» root old ⌝ }
-    ensures { λ r. ⌜ r ≡ aNumberAt (schemeOf base n k) l (index q) (now (s .entry)) «group_at» «path_at» root (word a) (word b) ⌝ }
+    requires { ⌜ PairThere (scheme set (now base) n k) l (index q) (now s) «group_at» «path_at» root old ⌝ }
+    ensures { λ r. ⌜ r ≡ aNumberAt (schemeOf set base n k) l (index q) (now (s .entry)) «group_at» «path_at» root (word a) (word b) ⌝ }
 {
     let first = q.first_of_pair();
-    let x = opening_again(base, n, k, l, first, s, group_at, path_at, root, 16, old);
+    let x = opening_again(
+        base,
+        set,
+        n,
+        k,
+        l,
+        first,
+        s,
+        group_at,
+        path_at,
+        root,
+        16,
+        old,
+    );
     if x != 0 {
         return x;
     }
-    let w = level_width(n, k, l);
+    let w = level_width(set, n, k, l);
     if !holds(s, group_at, w, first, a) {
         return 19;
     }
@@ -104,6 +119,7 @@ fn a_number(
 // 22 to 25: the group of c, at place q of level l.
 fn c_number(
     base: &[u8],
+    set: WidthSet,
     n: usize,
     k: usize,
     l: usize,
@@ -114,14 +130,14 @@ fn c_number(
     root: [u8; 32],
     c: Word,
 ) -> u32
-    requires { ⌜ Readable (scheme (now base) n k) l (now s) «group_at» «path_at» ⌝ }
-    ensures { λ r. ⌜ r ≡ cNumberAt (schemeOf base n k) l (index q) (now (s .entry)) «group_at» «path_at» root (word c) ⌝ }
+    requires { ⌜ Readable (scheme set (now base) n k) l (now s) «group_at» «path_at» ⌝ }
+    ensures { λ r. ⌜ r ≡ cNumberAt (schemeOf set base n k) l (index q) (now (s .entry)) «group_at» «path_at» root (word c) ⌝ }
 {
-    let x = opening_number(base, n, k, l, q, s, group_at, path_at, root, 22);
+    let x = opening_number(base, set, n, k, l, q, s, group_at, path_at, root, 22);
     if x != 0 {
         return x;
     }
-    let w = level_width(n, k, l);
+    let w = level_width(set, n, k, l);
     if !holds(s, group_at, w, q, c) {
         return 25;
     }
@@ -131,6 +147,7 @@ fn c_number(
 // 16 to 26: the level that stands at a byte of the record, of which the level before may have opened the group of a and b.
 fn level_number(
     base: &[u8],
+    set: WidthSet,
     n: usize,
     k: usize,
     position: Place,
@@ -142,8 +159,8 @@ fn level_number(
     v: Level,
     old: Opened,
 ) -> u32
-    requires { ⌜ LevelThere (scheme (now base) n k) (index position) (now challenges) (now roots) l (now s) at v old ⌝ }
-    ensures { λ r. ⌜ r ≡ levelAsked (schemeOf base n k) (index position) (now (challenges .entry)) (now (roots .entry)) l (now (s .entry)) at ⌝ }
+    requires { ⌜ LevelThere (scheme set (now base) n k) (index position) (now challenges) (now roots) l (now s) at v old ⌝ }
+    ensures { λ r. ⌜ r ≡ levelAsked (schemeOf set base n k) (index position) (now (challenges .entry)) (now (roots .entry)) l (now (s .entry)) at ⌝ }
 {
     let q = pair_of(position, l);
     let a = word_at(s, at);
@@ -152,6 +169,7 @@ fn level_number(
     let ra = load(roots, 32 * l);
     let x = a_number(
         base,
+        set,
         n,
         k,
         l,
@@ -168,7 +186,19 @@ fn level_number(
         return x;
     }
     let rc = load(roots, 32 * (l + 1));
-    let y = c_number(base, n, k, l + 1, q, s, v.c_group_at, v.c_path_at, rc, c);
+    let y = c_number(
+        base,
+        set,
+        n,
+        k,
+        l + 1,
+        q,
+        s,
+        v.c_group_at,
+        v.c_path_at,
+        rc,
+        c,
+    );
     if y != 0 {
         return y;
     }
@@ -183,6 +213,7 @@ fn level_number(
 // 16 to 26, level by level, of a record that reads whole and has n levels.
 fn check_levels(
     base: &[u8],
+    set: WidthSet,
     n: usize,
     k: usize,
     position: Place,
@@ -190,8 +221,8 @@ fn check_levels(
     roots: &[u8],
     s: &[u8],
 ) -> Checked
-    requires { ⌜ (Allowed (scheme (now base) n k) (index position) (now challenges) (now roots)) × (Whole n (now s)) ⌝ }
-    ensures { λ r. ⌜ answer r ≡ allAsked (schemeOf base n k) (index position) (now (challenges .entry)) (now (roots .entry)) (now (s .entry)) ⌝ }
+    requires { ⌜ (Allowed (scheme set (now base) n k) (index position) (now challenges) (now roots)) × (Whole n (now s)) ⌝ }
+    ensures { λ r. ⌜ answer r ≡ allAsked (schemeOf set base n k) (index position) (now (challenges .entry)) (now (roots .entry)) (now (s .entry)) ⌝ }
 {
     let mut l: usize = 0;
     let mut at: usize = 4;
@@ -202,7 +233,20 @@ fn check_levels(
     };
     while l < n {
         let v = level_at(s, at);
-        let q = level_number(base, n, k, position, challenges, roots, l, s, at, v, old);
+        let q = level_number(
+            base,
+            set,
+            n,
+            k,
+            position,
+            challenges,
+            roots,
+            l,
+            s,
+            at,
+            v,
+            old,
+        );
         if q != 0 {
             return Checked {
                 number: q,
@@ -223,7 +267,7 @@ fn check_levels(
     }
 }
 
-// 4, 5, 7, 11, 14 and 15.
+// 4, 5, 7, 11, 14 and 15, which ask nothing of the widths.
 fn query_number(
     base: &[u8],
     n: usize,
@@ -233,7 +277,7 @@ fn query_number(
     roots: &[u8],
     s: &[u8],
 ) -> u32
-    ensures { λ r. ⌜ r ≡ queryNumber (schemeOf base n k) (index position) (now (challenges .entry)) (now (roots .entry)) (now (s .entry)) ⌝ }
+    ensures { λ r. ⌜ BeforeLevels (now (base .entry)) n k (index position) (now (challenges .entry)) (now (roots .entry)) (now (s .entry)) r ⌝ }
 {
     let x = size_number(n, k);
     if x != 0 {
@@ -263,6 +307,7 @@ fn query_number(
 // Check a query record for a position, lent n challenges and n + 1 roots, level 0 first: 4, 5, 7, 11, 14, 15, then level by level 16 to 26.
 pub fn check_query(
     base: &[u8],
+    set: WidthSet,
     n: usize,
     k: usize,
     position: Place,
@@ -270,7 +315,7 @@ pub fn check_query(
     roots: &[u8],
     s: &[u8],
 ) -> Checked
-    ensures { λ r. ⌜ answer r ≡ checkQuery (schemeOf base n k) (index position) (now (challenges .entry)) (now (roots .entry)) (now (s .entry)) ⌝ }
+    ensures { λ r. ⌜ answer r ≡ checkQuery (schemeOf set base n k) (index position) (now (challenges .entry)) (now (roots .entry)) (now (s .entry)) ⌝ }
 {
     let number = query_number(base, n, k, position, challenges, roots, s);
     if number != 0 {
@@ -279,5 +324,5 @@ pub fn check_query(
             level: 0,
         };
     }
-    check_levels(base, n, k, position, challenges, roots, s)
+    check_levels(base, set, n, k, position, challenges, roots, s)
 }

@@ -12,11 +12,11 @@ use Rattle.theory_merkle.specs.Tree.{pathOf}
 use Rattle.theory_merkle.proofs.Levels.{length-path}
 use Rattle.bytes_numbers.specs.helpers.Put.{Put}
 use Rattle.bytes_numbers.proofs.Stores.{then-put, same-put}
-use Rattle.theory_record.specs.Widths.{present, levelLength, levelWidth, levelGroups, levelDepth, treeLength}
+use Rattle.theory_record.specs.Widths.{Widths, levelLength, levelWidth, levelGroups, levelDepth, treeLength}
 use Rattle.theory_record.specs.Trees.{groupAt, pathAt}
 use Rattle.theory_record.specs.Format.{tailForm, tailGroupBytes, runBytes, itemsBytes, recordBytes}
 use Rattle.theory_record.specs.Build.{digests, openGroup, openGroups, tailBytes}
-use Rattle.theory_record.proofs.Widths.{present-powers, level-shape, width-pos, groups-times-width}
+use Rattle.theory_record.proofs.Widths.{PowersOfTwo, level-shape, width-pos, groups-times-width}
 use Rattle.theory_record.proofs.Build.{length-openGroups}
 use Rattle.theory_field.specs.Words.{words}
 use Rattle.tree_walk.specs.helpers.Paths.{pathFrom}
@@ -58,44 +58,44 @@ groups-end out at values tree width depth groups g r e h =
 
 -- ---- the last level's groups
 
-module _ (n k : ℕ) (small : n + k ≤ 24) (values tree : List ℕ) (long : length values ≡ levelLength n k n) where
+module _ (s : Widths) (p : PowersOfTwo s) (n k : ℕ) (small : n + k ≤ 24) (values tree : List ℕ) (long : length values ≡ levelLength n k n) where
   width : ℕ
-  width = levelWidth present n k n
+  width = levelWidth s n k n
 
   depth : ℕ
-  depth = levelDepth present n k n
+  depth = levelDepth s n k n
 
   groups : ℕ
-  groups = levelGroups present n k n
+  groups = levelGroups s n k n
 
-  tree-read : digests (treeLength present n k n) 0 tree ≡ runs 32 (2 * groups - 1) (drop 0 tree)
+  tree-read : digests (treeLength s n k n) 0 tree ≡ runs 32 (2 * groups - 1) (drop 0 tree)
   unfolding digests treeLength levelGroups groups part
-  tree-read = runs-take 32 (treeLength present n k n) tree
+  tree-read = runs-take 32 (treeLength s n k n) tree
 
   one-group : (g : ℕ) → g < groups
-      → tailGroupBytes (openGroup present n k values (digests (treeLength present n k n) 0 tree) g) ≡ groupBytes values tree width depth groups g
+      → tailGroupBytes (openGroup s n k values (digests (treeLength s n k n) 0 tree) g) ≡ groupBytes values tree width depth groups g
   unfolding tailGroupBytes openGroup groupBytes runBytes groupAt pathAt pathOf pathFrom width depth groups levelDepth
   one-group g h =
-      let z = level-shape present n k n present-powers in
-      let pos : 0 < levelWidth present n k n = width-pos present n k n z in
-      let m : g * levelWidth present n k n / levelWidth present n k n ≡ g = mul-div-cancel g pos in
-      let c : levelWidth present n k n * g ≡ g * levelWidth present n k n = mul-comm (levelWidth present n k n) g in
-      let t = groups-times-width present n k n z in
-      let s : suc g * levelWidth present n k n ≤ levelGroups present n k n * levelWidth present n k n = mul-le-mul-right (levelWidth present n k n) h in
-      let len : length (part (levelWidth present n k n) (g * levelWidth present n k n) values) ≡ levelWidth present n k n =
-      length-part (levelWidth present n k n) (g * levelWidth present n k n) values (omega arith) in
+      let z = level-shape s n k n p in
+      let pos : 0 < levelWidth s n k n = width-pos s n k n z in
+      let m : g * levelWidth s n k n / levelWidth s n k n ≡ g = mul-div-cancel g pos in
+      let c : levelWidth s n k n * g ≡ g * levelWidth s n k n = mul-comm (levelWidth s n k n) g in
+      let t = groups-times-width s n k n z in
+      let within : suc g * levelWidth s n k n ≤ levelGroups s n k n * levelWidth s n k n = mul-le-mul-right (levelWidth s n k n) h in
+      let len : length (part (levelWidth s n k n) (g * levelWidth s n k n) values) ≡ levelWidth s n k n =
+      length-part (levelWidth s n k n) (g * levelWidth s n k n) values (omega arith) in
       rw (m, c, length-map, len, tree-read, length-path) (simp append-assoc)
 
   all-groups : (c g : ℕ) → g + c ≤ groups
-      → itemsBytes tailForm (openGroups present n k values (digests (treeLength present n k n) 0 tree) c g) ≡ groupsBytes values tree width depth groups c g
+      → itemsBytes tailForm (openGroups s n k values (digests (treeLength s n k n) 0 tree) c g) ≡ groupsBytes values tree width depth groups c g
   unfolding itemsBytes openGroups groupsBytes
   all-groups zero g h = refl
   all-groups (suc c) g h = ap₂ (λ (x y : List ℕ). x ++ y) (one-group g (omega arith)) (all-groups c (suc g) (omega arith))
 
-  pub tail-bytes : tailBytes present n k values tree
-      ≡ leBytes 4 (levelGroups present n k n)
-      ++ groupsBytes values tree (levelWidth present n k n) (levelDepth present n k n) (levelGroups present n k n) (levelGroups present n k n) 0
+  pub tail-bytes : tailBytes s n k values tree
+      ≡ leBytes 4 (levelGroups s n k n)
+      ++ groupsBytes values tree (levelWidth s n k n) (levelDepth s n k n) (levelGroups s n k n) (levelGroups s n k n) 0
   unfolding tailBytes recordBytes width depth groups
   tail-bytes =
-      rw (length-openGroups present n k values (digests (treeLength present n k n) 0 tree) (levelGroups present n k n) 0)
-      (ap (λ (x : List ℕ). leBytes 4 (levelGroups present n k n) ++ x) (all-groups (levelGroups present n k n) 0 (omega arith)))
+      rw (length-openGroups s n k values (digests (treeLength s n k n) 0 tree) (levelGroups s n k n) 0)
+      (ap (λ (x : List ℕ). leBytes 4 (levelGroups s n k n) ++ x) (all-groups (levelGroups s n k n) 0 (omega arith)))

@@ -6,12 +6,13 @@ use code_level::level_length;
 use code_level::level_width;
 use code_level::size_number;
 use field_bytes::put_words;
+use theory_record::WidthSet;
 use tree_place::Group;
 use tree_walk::put_path;
 ghost use mathlib.Core.Path.{_≡_};
 ghost use lib.ListN.{length};
 ghost use Rattle.theory_field.specs.Words.{words};
-ghost use Rattle.theory_record.specs.Widths.{present};
+ghost use Rattle.theory_record.specs.Widths.{widthsOf};
 ghost use Rattle.theory_record.specs.Sizes.{tailSize};
 ghost use Rattle.theory_record.specs.Build.{buildTailNumber, buildTail, tailBytes};
 ghost use Rattle.theory_record.proofs.BuildAllowed.{TailBuild};
@@ -42,13 +43,20 @@ fn put_group(
 }
 
 // Every group of the last level, rising, after their count.
-fn put_groups(out: &mut [u8], level: &[u64], tree: &[u8], n: usize, k: usize) -> usize
-    requires { ⌜ TailBuild present n k (now level) (now tree) (now out) ⌝ }
-    ensures { λ _. ⌜ now (out .exit) ≡ tailBytes present n k (words (now (level .entry))) (now (tree .entry)) ⌝ }
+fn put_groups(
+    out: &mut [u8],
+    level: &[u64],
+    tree: &[u8],
+    set: WidthSet,
+    n: usize,
+    k: usize,
+) -> usize
+    requires { ⌜ TailBuild (widthsOf set) n k (now level) (now tree) (now out) ⌝ }
+    ensures { λ _. ⌜ now (out .exit) ≡ tailBytes (widthsOf set) n k (words (now (level .entry))) (now (tree .entry)) ⌝ }
 {
-    let groups = level_groups(n, k, n);
-    let width = level_width(n, k, n);
-    let depth = level_depth(n, k, n);
+    let groups = level_groups(set, n, k, n);
+    let width = level_width(set, n, k, n);
+    let depth = level_depth(set, n, k, n);
     let mut at = put_number(out, 0, groups as u64, 4);
     let mut g: usize = 0;
     while g < groups {
@@ -60,19 +68,19 @@ fn put_groups(out: &mut [u8], level: &[u64], tree: &[u8], n: usize, k: usize) ->
 }
 
 // How many bytes a tail record has.
-pub fn tail_size(n: usize, k: usize) -> usize
+pub fn tail_size(set: WidthSet, n: usize, k: usize) -> usize
     requires { ⌜ SizesFit n k ⌝ }
-    ensures { λ r. ⌜ r ≡ tailSize present n k ⌝ }
+    ensures { λ r. ⌜ r ≡ tailSize (widthsOf set) n k ⌝ }
 {
-    let groups = level_groups(n, k, n);
-    let width = level_width(n, k, n);
-    let depth = level_depth(n, k, n);
+    let groups = level_groups(set, n, k, n);
+    let width = level_width(set, n, k, n);
+    let depth = level_depth(set, n, k, n);
     4 + groups * (8 + 16 * width + 32 * depth)
 }
 
 // 4 and 5.
-fn tail_number(level: usize, tree: usize, out: usize, n: usize, k: usize) -> u32
-    ensures { λ r. ⌜ r ≡ buildNumber n k level tree out ⌝ }
+fn tail_number(level: usize, tree: usize, out: usize, set: WidthSet, n: usize, k: usize) -> u32
+    ensures { λ r. ⌜ r ≡ buildNumber (widthsOf set) n k level tree out ⌝ }
 {
     let x = size_number(n, k);
     if x != 0 {
@@ -81,24 +89,31 @@ fn tail_number(level: usize, tree: usize, out: usize, n: usize, k: usize) -> u32
     if level != 2 * level_length(n, k, n) {
         return 5;
     }
-    if tree != 32 * (2 * level_groups(n, k, n) - 1) {
+    if tree != 32 * (2 * level_groups(set, n, k, n) - 1) {
         return 5;
     }
-    if out != tail_size(n, k) {
+    if out != tail_size(set, n, k) {
         return 5;
     }
     0
 }
 
 // Build a tail record from the last level and its tree, into a buffer of its size: 4, 5.
-pub fn build_tail(out: &mut [u8], level: &[u64], tree: &[u8], n: usize, k: usize) -> u32
-    ensures { λ r. ⌜ r ≡ buildTailNumber present n k (now (level .entry)) (now (tree .entry)) (now (out .entry)) ⌝ }
-    ensures { λ _. ⌜ now (out .exit) ≡ buildTail present n k (now (level .entry)) (now (tree .entry)) (now (out .entry)) ⌝ }
+pub fn build_tail(
+    out: &mut [u8],
+    level: &[u64],
+    tree: &[u8],
+    set: WidthSet,
+    n: usize,
+    k: usize,
+) -> u32
+    ensures { λ r. ⌜ r ≡ buildTailNumber (widthsOf set) n k (now (level .entry)) (now (tree .entry)) (now (out .entry)) ⌝ }
+    ensures { λ _. ⌜ now (out .exit) ≡ buildTail (widthsOf set) n k (now (level .entry)) (now (tree .entry)) (now (out .entry)) ⌝ }
 {
-    let q = tail_number(level.len(), tree.len(), out.len(), n, k);
+    let q = tail_number(level.len(), tree.len(), out.len(), set, n, k);
     if q != 0 {
         return q;
     }
-    put_groups(out, level, tree, n, k);
+    put_groups(out, level, tree, set, n, k);
     0
 }

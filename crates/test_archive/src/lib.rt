@@ -1,5 +1,6 @@
 // What the comparison with the Rust and the benchmark call: leaves and entries, exported under names of their own. It is no part of what
-// people link. A helper that requires is called only where its requirement holds; elsewhere nothing is done.
+// people link. A helper that requires is called only where its requirement holds; elsewhere nothing is done. The set of widths is the present
+// one, which is the Rust's.
 use code_profile::Parameters;
 use code_profile::Profile;
 use field_blocks::Block;
@@ -7,6 +8,7 @@ use field_blocks::Hashed;
 use field_gf128::Inverse;
 use field_gf128::Word;
 use hash_hasher::whole::Digested;
+use theory_record::WidthSet;
 use tree_place::Place;
 
 // 7 coordinates by value.
@@ -322,7 +324,8 @@ pub extern "C" fn dequmlo_test_check_query(
     s: &[u8],
 ) -> NumberedLevel {
     let place = Place::at(position);
-    let a = record_query_check::check_query(base, n, k, place, challenges, roots, s);
+    let set = WidthSet::Present;
+    let a = record_query_check::check_query(base, set, n, k, place, challenges, roots, s);
     NumberedLevel {
         number: a.number,
         level: a.level,
@@ -338,7 +341,7 @@ pub extern "C" fn dequmlo_test_check_tail(
     claim: Word,
     s: &[u8],
 ) -> u32 {
-    record_tail_check::check_tail(base, n, k, root, claim, s)
+    record_tail_check::check_tail(base, WidthSet::Present, n, k, root, claim, s)
 }
 
 #[no_mangle]
@@ -349,7 +352,7 @@ pub extern "C" fn dequmlo_test_build_tail(
     n: usize,
     k: usize,
 ) -> u32 {
-    record_tail_build::build_tail(out, level, tree, n, k)
+    record_tail_build::build_tail(out, level, tree, WidthSet::Present, n, k)
 }
 
 #[no_mangle]
@@ -361,12 +364,13 @@ pub extern "C" fn dequmlo_test_build_query(
     k: usize,
     position: usize,
 ) -> u32 {
-    record_query_build::build_query(out, levels, trees, n, k, Place::at(position))
+    let place = Place::at(position);
+    record_query_build::build_query(out, levels, trees, WidthSet::Present, n, k, place)
 }
 
 #[no_mangle]
 pub extern "C" fn dequmlo_test_fold_tree_width(length: usize) -> usize {
-    code_level::fold_tree_width(length)
+    code_level::fold_tree_width(WidthSet::Present, length)
 }
 
 // The domain's length.
@@ -426,5 +430,5 @@ pub extern "C" fn dequmlo_test_commit(
     codeword: &mut [u64],
     tree: &mut [u8],
 ) -> u32 {
-    code_commit::commit(n, k, base, table, gammas, codeword, tree)
+    code_commit::commit(WidthSet::Present, n, k, base, table, gammas, codeword, tree)
 }

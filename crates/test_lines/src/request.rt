@@ -49,8 +49,8 @@ fn push(head: &mut [u64], row: usize, x: usize) {
     put_half(head, wrapping_add_usize(row, count as usize), x as u64);
 }
 
-// The first four numbers of a request.
-pub struct Numbers(pub usize, pub usize, pub usize, pub usize);
+// The first five numbers of a request.
+pub struct Numbers(pub usize, pub usize, pub usize, pub usize, pub usize);
 
 pub fn numbers_in(words: &[u64]) -> Numbers {
     Numbers(
@@ -58,6 +58,7 @@ pub fn numbers_in(words: &[u64]) -> Numbers {
         item(words, NUMBERS, 1),
         item(words, NUMBERS, 2),
         item(words, NUMBERS, 3),
+        item(words, NUMBERS, 4),
     )
 }
 

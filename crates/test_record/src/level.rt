@@ -15,6 +15,15 @@ use test_lines::request::numbers_in;
 use test_lines::request::words_in;
 use test_lines::words::copy;
 use test_lines::words::first;
+use theory_record::WidthSet;
+
+// A set of widths by its number.
+pub fn set_of(number: usize) -> WidthSet {
+    match number {
+        0 => WidthSet::Present,
+        _ => WidthSet::Wide,
+    }
+}
 
 // A length as the answer.
 fn length(x: usize) -> Answer {
@@ -78,14 +87,18 @@ fn domain_length(n: usize, s: &[u8]) -> Answer {
     two(r.number, r.length)
 }
 
+fn level_tree(n: Numbers, a: &[u64], s: &[u8], y: &mut [u8]) -> Answer {
+    one(code_commit::level::level_tree(set_of(n.0), n.1, n.2, n.3, s, a, y))
+}
+
 pub fn answer(place: usize, n: Numbers, a: &[u64], s: &[u8], y: &mut [u8]) -> Answer {
     match place {
-        0 => length(code_level::fold_tree_width(n.0)),
+        0 => length(code_level::fold_tree_width(set_of(n.0), n.1)),
         1 => level_domain(n.0, s, y),
         2 => parameters(code_profile::parameters_of(profile(n.0)), y),
         3 => domain_length(n.0, s),
         4 => one(code_level::domain::level_domain(s, n.0, y)),
-        5 => one(code_commit::level::level_tree(n.0, n.1, n.2, s, a, y)),
+        5 => level_tree(n, a, s, y),
         6 => parameters(code_profile::seal_parameters(named(n.0), n.1 != 0), y),
         7 => parameters(code_profile::writer_parameters(named(n.0)), y),
         _ => no_room(),
@@ -104,7 +117,11 @@ pub fn fold_levels(
     z: &mut [u8],
 ) -> Answer {
     copy(first_halves(w, codeword.len()), codeword);
-    one(code_fold_levels::fold_levels(n.0, n.1, s, challenges, w, x, y, z))
+    one(code_fold_levels::fold_levels(set_of(n.0), n.1, n.2, s, challenges, w, x, y, z))
+}
+
+fn level_leaves(n: Numbers, a: &[u64], s: &[u8], y: &mut [u8]) -> Answer {
+    one(code_level_parts::level_leaves(set_of(n.0), n.1, n.2, n.3, s, n.4, a, y))
 }
 
 // Parts of a level and of its tree.
@@ -116,7 +133,7 @@ pub fn part(place: usize, words: &[u64], bytes: &[u8], w: &mut [u64], y: &mut [u
     let t = bytes_in(words, bytes, 1);
     match place {
         0 => one(code_level_parts::next_part(n.0, n.1, n.2, first(a), n.3, b, w)),
-        1 => one(code_level_parts::level_leaves(n.0, n.1, n.2, s, n.3, a, y)),
+        1 => level_leaves(n, a, s, y),
         2 => one(code_level_parts::level_parents(n.0, n.1, n.2, s, n.3, t, y)),
         _ => no_room(),
     }

@@ -60,7 +60,7 @@ fn on_all(
     let a = words_in(words, 0);
     let s = bytes_in(words, bytes, 0);
     match place {
-        0 => one(code_commit::commit(n.0, n.1, s, a, w, x, y)),
+        0 => one(code_commit::commit(level::set_of(n.0), n.1, n.2, s, a, w, x, y)),
         1 => level::fold_levels(n, a, words_in(words, 1), s, w, x, y, z),
         2 => level::tails(s, w),
         3 => pair::compare(words, bytes, y, z),
@@ -93,7 +93,7 @@ fn respond(line: usize, operation: usize, words: &[u64], bytes: &[u8]) {
     let mut w = [0xa5a5_a5a5_a5a5_a5a5u64; 8192];
     let mut x = [0xa5a5_a5a5_a5a5_a5a5u64; 2048];
     let mut y = [0xa5u8; 65536];
-    let mut z = [0xa5u8; 1024];
+    let mut z = [0xa5u8; 2048];
     let a = answer(
         operation,
         words,
@@ -118,10 +118,10 @@ none n
 none n
 none n
 none n
-damaged_query nbnnnwbb
-damaged_tail nbnnbwb
-prefixes_query bnnnwbb
-prefixes_tail bnnbwb
+damaged_query nbnnnnwbb
+damaged_tail nbnnnbwb
+prefixes_query bnnnnwbb
+prefixes_tail bnnnbwb
 none n
 none n
 none n
@@ -142,32 +142,32 @@ root_of_path bnnnwbd
 leaf_message bnnnw
 leaves bnnnwB
 parents bnbB
-fold_tree_width n
+fold_tree_width nn
 level_domain bnB
 profile nB
 domain_length bn
 domain_into bnB
-level_tree nnnbwB
+level_tree nnnnbwB
 seal_parameters nnB
 writer_parameters nB
-check_query bnnnwbb
-check_tail bnnbwb
-build_query nnnwbB
-build_tail nnwbB
+check_query bnnnnwbb
+check_tail bnnnbwb
+build_query nnnnwbB
+build_tail nnnwbB
+sizes nnn
 none n
 none n
 none n
-none n
-commit nnbwWWB
-fold_levels nnbwwWWBB
+commit nnnbwWWB
+fold_levels nnnbwwWWBB
 tails bW
-compare bnnnwbbbBB
+compare bnnnnwbbbBB
 walk nnnbbBB
-run nnnbwlwwbblWBB
+run nnnnbwlwwbblWBB
 none n
 none n
 next_part nnnwnwW
-level_leaves nnnbnwB
+level_leaves nnnnbnwB
 level_parents nnnbnbB
 ";
     let operation = request::read(s, table, kept, bytes, &mut words);
@@ -240,6 +240,10 @@ record/walks.txt
 record/tail_list.txt
 record/run.txt
 record/differences.txt
+record/wide_levels.txt
+record/wide.txt
+record/wide_large.txt
+record/wide_most.txt
 record/rust_levels.txt
 record/rust_records.txt
 ",

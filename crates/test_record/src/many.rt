@@ -1,6 +1,7 @@
 // Many records made of one: every byte changed, or every proper prefix; and how often each number is the answer.
 ghost use mathlib.Core.Path.{_≡_};
 ghost use lib.ListN.{length};
+use crate::level::set_of;
 use libc::STDOUT_FILENO;
 use std::num::wrapping_add_u64;
 use std::num::wrapping_add_usize;
@@ -19,6 +20,20 @@ use test_lines::request::words_in;
 use test_lines::words::first;
 use tree_place::Place;
 
+fn query(
+    s: &[u8],
+    set: usize,
+    n: usize,
+    k: usize,
+    position: usize,
+    a: &[u64],
+    t: &[u8],
+    record: &[u8],
+) -> u32 {
+    let place = Place::at(position);
+    record_query_check::check_query(s, set_of(set), n, k, place, a, t, record).number
+}
+
 // What the operation at a place is answered for a record: damaged_query, damaged_tail, prefixes_query, prefixes_tail.
 fn number(place: usize, words: &[u64], bytes: &[u8], record: &[u8]) -> u32 {
     let n = numbers_in(words);
@@ -26,10 +41,10 @@ fn number(place: usize, words: &[u64], bytes: &[u8], record: &[u8]) -> u32 {
     let s = bytes_in(words, bytes, 0);
     let t = bytes_in(words, bytes, 1);
     match place {
-        0 => record_query_check::check_query(s, n.1, n.2, Place::at(n.3), a, t, record).number,
-        1 => record_tail_check::check_tail(s, n.1, n.2, t, first(a), record),
-        2 => record_query_check::check_query(s, n.0, n.1, Place::at(n.2), a, t, record).number,
-        _ => record_tail_check::check_tail(s, n.0, n.1, t, first(a), record),
+        0 => query(s, n.1, n.2, n.3, n.4, a, t, record),
+        1 => record_tail_check::check_tail(s, set_of(n.1), n.2, n.3, t, first(a), record),
+        2 => query(s, n.0, n.1, n.2, n.3, a, t, record),
+        _ => record_tail_check::check_tail(s, set_of(n.0), n.1, n.2, t, first(a), record),
     }
 }
 

@@ -1,4 +1,5 @@
 // Two records compared, and the picking of messages of two chains, which a test can give a digest that has collisions.
+use crate::level::set_of;
 use test_lines::answer::Answer;
 use test_lines::answer::no_room;
 use test_lines::answer::three;
@@ -11,9 +12,10 @@ pub fn compare(words: &[u64], bytes: &[u8], y: &mut [u8], z: &mut [u8]) -> Answe
     let n = numbers_in(words);
     let r = compare_records::compare(
         bytes_in(words, bytes, 0),
-        n.0,
+        set_of(n.0),
         n.1,
-        Place::at(n.2),
+        n.2,
+        Place::at(n.3),
         words_in(words, 0),
         bytes_in(words, bytes, 1),
         bytes_in(words, bytes, 2),
@@ -37,13 +39,13 @@ pub fn walk(
     if leaf == 0 {
         return no_room();
     }
-    if leaf > 512 {
+    if leaf > 1024 {
         return no_room();
     }
     if node == 0 {
         return no_room();
     }
-    if node > 512 {
+    if node > 1024 {
         return no_room();
     }
     if depth > 64 {
@@ -56,10 +58,10 @@ pub fn walk(
     if t.len() < n {
         return no_room();
     }
-    if y.len() != 512 {
+    if y.len() != 1024 {
         return no_room();
     }
-    if z.len() != 512 {
+    if z.len() != 1024 {
         return no_room();
     }
     let m = compare_pick::pick_last(s, t, leaf, node, depth, y, z);

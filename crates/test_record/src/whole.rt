@@ -1,6 +1,7 @@
-// The whole run, on deposits of at most four words with k at most 1.
+// The whole run, on deposits of at most 16 words with k at most 2.
 ghost use mathlib.Core.Path.{_≡_};
 ghost use lib.ListN.{length};
+use crate::level::set_of;
 use claim_whole_run::Answers;
 use field_gf128::Word;
 use test_lines::answer::Answer;
@@ -23,11 +24,11 @@ fn number(list: &[u64], i: usize) -> usize {
 // The roots, both records and both messages.
 fn put_left(
     y: &mut [u8],
-    roots: &[u8; 128],
-    query: &[u8; 400],
-    tail: &[u8; 64],
-    one: &[u8; 520],
-    two: &[u8; 520],
+    roots: &[u8; 160],
+    query: &[u8; 1640],
+    tail: &[u8; 160],
+    one: &[u8; 1032],
+    two: &[u8; 1032],
 ) {
     let a = put_all(y, 0, roots);
     let b = put_all(y, a, query);
@@ -50,19 +51,20 @@ fn run(
     kept: &mut [u64],
     y: &mut [u8],
 ) -> Answers {
-    let mut gammas = [0u64; 8];
-    let mut levels = [0u64; 32];
-    let mut half = [0u64; 16];
-    let mut trees = [0u8; 400];
-    let mut roots = [0xa5u8; 128];
-    let mut query = [0xa5u8; 400];
-    let mut tail = [0xa5u8; 64];
-    let mut one = [0xa5u8; 520];
-    let mut two = [0xa5u8; 520];
+    let mut gammas = [0u64; 16];
+    let mut levels = [0u64; 256];
+    let mut half = [0u64; 64];
+    let mut trees = [0u8; 2048];
+    let mut roots = [0xa5u8; 160];
+    let mut query = [0xa5u8; 1640];
+    let mut tail = [0xa5u8; 160];
+    let mut one = [0xa5u8; 1032];
+    let mut two = [0xa5u8; 1032];
     let r = claim_whole_run::run(
-        n.0,
+        set_of(n.0),
         n.1,
         n.2,
+        n.3,
         claim,
         base,
         table,

@@ -23,7 +23,8 @@ use Rattle.theory_merkle.proofs.Tree.{treeOf-root}
 use Rattle.theory_blake3.specs.Digest.{hash}
 use Rattle.theory_blake3.proofs.HashMode.{length-hash}
 use Rattle.theory_code.specs.Gammas.{gammas}
-use Rattle.theory_record.specs.Widths.{present, levelLength, levelWidth, levelGroups, treeLength}
+use Rattle.theory_record.specs.declared.WidthSet.{WidthSet}
+use Rattle.theory_record.specs.Widths.{Widths, widthsOf, levelLength, levelWidth, levelGroups, treeLength}
 use Rattle.theory_record.specs.Domain.{levelDomain}
 use Rattle.theory_record.specs.Trees.{treeFor, rootFor, treesLent}
 use Rattle.theory_record.specs.Sizes.{querySize, tailSize}
@@ -33,7 +34,7 @@ use Rattle.theory_record.specs.Build.{treeStart, buildQueryNumber, buildQuery, 
 use Rattle.theory_record.proofs.Ranges.{SizesFit, sizes-small}
 use Rattle.theory_record.proofs.Runs.{Words}
 use Rattle.theory_record.proofs.Chain.{Sized, length-treesLent}
-use Rattle.theory_record.proofs.Widths.{present-powers, level-shape}
+use Rattle.theory_record.proofs.Widths.{powers, narrow, level-shape}
 use Rattle.theory_record.proofs.Accepted.{length-treeFor, treeFor-long}
 use Rattle.theory_record.proofs.BuildAllowed.{QueryBuild, TailBuild, build-query, build-query-done, build-tail, build-tail-done}
 use Rattle.theory_record.specs.Build.{levelsLength}
@@ -44,6 +45,7 @@ use Rattle.theory_record.proofs.Domain.{levelDomain-fits}
 use Rattle.theory_claim.specs.Commit.{commitQuestions, commitNumber, committedCodeword, committedTree}
 use Rattle.theory_record.proofs.LevelTree.{build-allowed, groups-some}
 use Rattle.theory_record.proofs.Exactly.{query-exactly, tail-exactly}
+use Rattle.theory_compare.proofs.Found.{leaves-fit}
 use Rattle.theory_compare.proofs.Compare.{Equal, Different, compare-accepted}
 use Rattle.theory_claim.specs.Calls.{Call, callNumber, doneFolds, afterFolds, leftBy}
 use Rattle.theory_claim.specs.Claim.{Deposit, committed, levelOf, Lent, LastLent, After, Collided, Outcome, Claim, Theorem}
@@ -52,12 +54,15 @@ use Rattle.theory_claim.proofs.Levels.{fold-done, level-is, levels-lent
 use Rattle.theory_compare.specs.Compare.{messageBuffer}
 use Rattle.theory_record.specs.Scheme.{Scheme, scheme}
 
-module _ (n k : ℕ) (base table challenges : List ℕ) (d : Deposit n k base table challenges) where
+module _ (set : WidthSet) (n k : ℕ) (base table challenges : List ℕ) (d : Deposit n k base table challenges) where
   abbrev S : Scheme
-  S = scheme base n k
+  S = scheme set base n k
+
+  abbrev s : Widths
+  s = widthsOf set
 
   abbrev c : List ℕ
-  c = committed n k base table challenges
+  c = committed set n k base table challenges
 
   sizes : SizesFit n k
   sizes = record { n-most = d .n-most; k-most = d .k-most; n-least = d .n-least }
@@ -74,10 +79,10 @@ module _ (n k : ℕ) (base table challenges : List ℕ) (d : Deposit n k base ta
   c-words = encode-lt n k _ (words table)
 
   -- ---- 0
-  commit-done : commitNumber present n k (length base) (length table) (2 * (k * n)) (2 * length c) (32 * treeLength present n k 0) ≡ 0
+  commit-done : commitNumber s n k (length base) (length table) (2 * (k * n)) (2 * length c) (32 * treeLength s n k 0) ≡ 0
   unfolding commitNumber
   commit-done =
-      yes-all (commitQuestions present n k (length base) (length table) (2 * (k * n)) (2 * length c) (32 * treeLength present n k 0)) (
+      yes-all (commitQuestions s n k (length base) (length table) (2 * (k * n)) (2 * length c) (32 * treeLength s n k 0)) (
         le-leb n 20 (d .n-most),
         (
           le-leb k 4 (d .k-most),
@@ -85,7 +90,7 @@ module _ (n k : ℕ) (base table challenges : List ℕ) (d : Deposit n k base ta
             eq-eqb _ _ (d .table-long),
             (
               eq-eqb (2 * (k * n)) _ refl,
-              (eq-eqb _ _ (ap (λ (x : ℕ). 2 * x) c-long), (eq-eqb (32 * treeLength present n k 0) _ refl, (le-leb _ 200 (d .base-short), tt))),
+              (eq-eqb _ _ (ap (λ (x : ℕ). 2 * x) c-long), (eq-eqb (32 * treeLength s n k 0) _ refl, (le-leb _ 200 (d .base-short), tt))),
             ),
           ),
         ),
@@ -96,92 +101,92 @@ module _ (n k : ℕ) (base table challenges : List ℕ) (d : Deposit n k base ta
   commit-leaves = refl
 
   tree-done : (l : ℕ) → l ≤ n
-      → buildNumber (length (levelDomain base l)) (levelLength n k l) (levelWidth present n k l) (2 * levelLength n k l) (32 * treeLength present n k l) ≡ 0
+      → buildNumber (length (levelDomain base l)) (levelLength n k l) (levelWidth s n k l) (2 * levelLength n k l) (32 * treeLength s n k l) ≡ 0
   tree-done l h =
-      build-allowed n k l (length (levelDomain base l)) (2 * levelLength n k l) (32 * treeLength present n k l) (sizes-small n k sizes)
+      build-allowed s (powers set) n k l (length (levelDomain base l)) (2 * levelLength n k l) (32 * treeLength s n k l) (omega (arith, narrow set)) (sizes-small n k sizes)
       (omega (arith, levelDomain-fits base l (d .base-short) (omega (arith, d .n-most)))) refl refl
 
-  root-last : (l : ℕ) (values : List ℕ) → getD (treeFor S l values) (treeLength present n k l - 1) [] ≡ rootFor S l values
+  root-last : (l : ℕ) (values : List ℕ) → getD (treeFor S l values) (treeLength s n k l - 1) [] ≡ rootFor S l values
   unfolding treeFor rootFor treeLength
   root-last l values =
-      treeOf-root hash (levelDomain base l) (levelLength n k l) (levelWidth present n k l) (level-shape present n k l present-powers .tree) values
+      treeOf-root hash (levelDomain base l) (levelLength n k l) (levelWidth s n k l) (level-shape s n k l (powers set) .tree) values
 
   query-done : (ls ts out : List ℕ) (position : ℕ) → length ls ≡ 2 * levelsLength n k
-      → length ts ≡ 32 * treeStart present n k (suc n) → length out ≡ querySize present n k
-      → position < 2 ^ (n + k) → buildQueryNumber present n k ls ts position out ≡ 0
+      → length ts ≡ 32 * treeStart s n k (suc n) → length out ≡ querySize s n k
+      → position < 2 ^ (n + k) → buildQueryNumber s n k ls ts position out ≡ 0
   query-done ls ts out position l t o low =
-      build-query present n k ls ts position out (record { sizes = sizes; levels-long = l; trees-long = t; out-long = o; position-low = low })
+      build-query s n k ls ts position out (record { sizes = sizes; levels-long = l; trees-long = t; out-long = o; position-low = low })
 
-  tail-done : (last tree out : List ℕ) → length last ≡ 2 * levelLength n k n → length tree ≡ 32 * treeLength present n k n → length out ≡ tailSize present n k
-      → buildTailNumber present n k last tree out ≡ 0
-  tail-done last tree out l t o = build-tail present n k last tree out (record { sizes = sizes; level-long = l; tree-long = t; out-long = o })
+  tail-done : (last tree out : List ℕ) → length last ≡ 2 * levelLength n k n → length tree ≡ 32 * treeLength s n k n → length out ≡ tailSize s n k
+      → buildTailNumber s n k last tree out ≡ 0
+  tail-done last tree out l t o = build-tail s n k last tree out (record { sizes = sizes; level-long = l; tree-long = t; out-long = o })
 
   -- ---- 2: after calls whose done ones are n folds at variable 0 by r
   module _ (calls : List Call) (done : doneFolds c calls ≡ atFirst (words challenges)) where
     abbrev levels : ℕ → List ℕ
-    levels = levelOf n k base table challenges calls
+    levels = levelOf set n k base table challenges calls
 
     abbrev folded : ℕ → List ℕ
     folded = level c (words challenges)
 
     level-long : (l : ℕ) → l ≤ n → length (levels l) ≡ levelLength n k l
     level-long l h =
-        ap length (level-is n k base table challenges (d .challenges-long) calls done l h)
+        ap length (level-is set n k base table challenges (d .challenges-long) calls done l h)
         ∙ codeword-sized n k c (words challenges) c-long (sizes-small n k sizes) c-words .long l h
 
     last-left : leftBy c calls ≡ levels n
     last-left =
         left-level calls c (words challenges) done ∙ ap folded r-long
-        ∙ sym (level-is n k base table challenges (d .challenges-long) calls done n (omega arith))
+        ∙ sym (level-is set n k base table challenges (d .challenges-long) calls done n (omega arith))
 
     last-entry : (eps : ℕ) → eps < 2 ^ k → at (levels n) eps ≡ mle (at (words table)) (addPoint (words challenges) (shift n k (gammas hash base n k) eps))
     unfolding committedCodeword
     last-entry eps h =
-        ap (λ (x : List ℕ). at x eps) (level-is n k base table challenges (d .challenges-long) calls done n (omega arith))
+        ap (λ (x : List ℕ). at x eps) (level-is set n k base table challenges (d .challenges-long) calls done n (omega arith))
         ∙ last-level-at n k eps (gammas hash base n k) (words table) (words challenges) r-long h
 
-    query-record : (ls ts roots : List ℕ) → Lent n k base table challenges calls ls ts roots → (position : ℕ) → position < 2 ^ (n + k)
-        → (out : List ℕ) → length out ≡ querySize present n k
-        → checkQuery S position challenges roots (buildQuery present n k ls ts position out) ≡ accepted
+    query-record : (ls ts roots : List ℕ) → Lent set n k base table challenges calls ls ts roots → (position : ℕ) → position < 2 ^ (n + k)
+        → (out : List ℕ) → length out ≡ querySize s n k
+        → checkQuery S position challenges roots (buildQuery s n k ls ts position out) ≡ accepted
     query-record ls ts roots z position low out long =
-        let e : ts ≡ treesLent S folded = z .trees-are ∙ trees-lent n k base table challenges (d .challenges-long) calls done in
+        let e : ts ≡ treesLent S folded = z .trees-are ∙ trees-lent set n k base table challenges (d .challenges-long) calls done in
         let sized = codeword-sized n k c (words challenges) c-long (sizes-small n k sizes) c-words in
-        let t : length (treesLent S folded) ≡ 32 * treeStart present n k (suc n) = length-treesLent S length-hash present-powers folded sized in
-        let b : QueryBuild present n k ls ts position out =
+        let t : length (treesLent S folded) ≡ 32 * treeStart s n k (suc n) = length-treesLent S length-hash (powers set) folded sized in
+        let b : QueryBuild s n k ls ts position out =
         record { sizes = sizes; levels-long = z .levels-long; trees-long = ap length e ∙ t; out-long = long; position-low = low } in
-        let levels-same = levels-lent n k base table challenges (d .challenges-long) calls done in
-        let roots-same = roots-lent n k base table challenges (d .challenges-long) calls done in
-        rw (build-query-done present n k ls ts position out b, z .levels-are, levels-same, e, z .roots-are, roots-same)
-        (committed-query S length-hash present-powers (d .base-short) sizes c c-long c-words challenges (d .challenges-long) position low)
+        let levels-same = levels-lent set n k base table challenges (d .challenges-long) calls done in
+        let roots-same = roots-lent set n k base table challenges (d .challenges-long) calls done in
+        rw (build-query-done s n k ls ts position out b, z .levels-are, levels-same, e, z .roots-are, roots-same)
+        (committed-query S length-hash (powers set) (d .base-short) sizes c c-long c-words challenges (d .challenges-long) position low)
 
-    tail-record : (last tree root : List ℕ) → LastLent n k base table challenges calls last tree root → (out : List ℕ) → length out ≡ tailSize present n k
-        → (claim : ℕ) → (checkTail S root claim (buildTail present n k last tree out) ≡ 0) ↔ (claim ≡ mle (at (words table)) (words challenges))
+    tail-record : (last tree root : List ℕ) → LastLent set n k base table challenges calls last tree root → (out : List ℕ) → length out ≡ tailSize s n k
+        → (claim : ℕ) → (checkTail S root claim (buildTail s n k last tree out) ≡ 0) ↔ (claim ≡ mle (at (words table)) (words challenges))
     unfolding committedCodeword
     tail-record last tree root z out long claim =
-        let same : levels n ≡ folded n = level-is n k base table challenges (d .challenges-long) calls done n (omega arith) in
-        let t : length tree ≡ 32 * treeLength present n k n =
+        let same : levels n ≡ folded n = level-is set n k base table challenges (d .challenges-long) calls done n (omega arith) in
+        let t : length tree ≡ 32 * treeLength s n k n =
         ap length (z .tree-is) ∙ length-flat 32 (treeFor S n (levels n)) (treeFor-long S length-hash n (levels n))
-        ∙ ap (λ (x : ℕ). 32 * x) (length-treeFor S n (levels n) present-powers) in
-        let b : TailBuild present n k last tree out = record { sizes = sizes; level-long = z .level-long; tree-long = t; out-long = long } in
+        ∙ ap (λ (x : ℕ). 32 * x) (length-treeFor S n (levels n) (powers set)) in
+        let b : TailBuild s n k last tree out = record { sizes = sizes; level-long = z .level-long; tree-long = t; out-long = long } in
         let claim-is = claim-is-P n k (gammas hash base n k) (words table) challenges (d .challenges-long) in
-        rw (build-tail-done present n k last tree out b, z .level-is, z .tree-is, z .root-is, same, ← claim-is)
-        (committed-tail S length-hash present-powers (d .base-short) sizes c c-long c-words challenges (d .challenges-long) claim)
+        rw (build-tail-done s n k last tree out b, z .level-is, z .tree-is, z .root-is, same, ← claim-is)
+        (committed-tail S length-hash (powers set) (d .base-short) sizes c c-long c-words challenges (d .challenges-long) claim)
 
-    after : After n k base table challenges calls
+    after : After set n k base table challenges calls
     after = record { level-long = level-long; last-left = last-left; last-entry = last-entry; query-record = query-record; tail-record = tail-record }
 
   -- ---- 4
   two-records : (position : ℕ) (rs roots u v old old′ : List ℕ) → Bytes u → Bytes v → length old ≡ messageBuffer → length old′ ≡ messageBuffer
       → checkQuery S position rs roots u ≡ accepted → checkQuery S position rs roots v ≡ accepted
-      → Outcome n k base table challenges position rs roots u v old old′
+      → Outcome set n k base table challenges position rs roots u v old old′
   two-records position rs roots u v old old′ bu bv e e′ au av =
       ⊎-elim
       (λ (x : Equal S position rs roots u v old old′). inl (x .gives-33, x .are-same))
       (λ (x : Different S position rs roots u v old old′). inr (collided x))
-      (compare-accepted S position rs roots u v old old′ length-hash present-powers (omega arith) bu bv e e′
+      (compare-accepted S position rs roots u v old old′ length-hash (powers set) (leaves-fit set) bu bv e e′
       (ap (λ (a : Answer). a .number) au) (ap (λ (a : Answer). a .number) av))
     where
-      collided : Different S position rs roots u v old old′ → Collided n k base table challenges position rs roots u v old old′
+      collided : Different S position rs roots u v old old′ → Collided set n k base table challenges position rs roots u v old old′
       collided x =
           record {
             gives-0 = x .gives-0;
@@ -193,11 +198,11 @@ module _ (n k : ℕ) (base table challenges : List ℕ) (d : Deposit n k base ta
             nearest = x .nearest;
           }
 
-  few-groups : levelGroups present n k n < 2 ^ 32
-  few-groups = omega (arith, groups-some n k n (levelGroups present n k n) (sizes-small n k sizes) refl .1)
+  few-groups : levelGroups s n k n < 2 ^ 32
+  few-groups = omega (arith, groups-some s (powers set) n k n (levelGroups s n k n) (sizes-small n k sizes) refl .1)
 
   -- the whole
-  parts : Claim n k base table challenges
+  parts : Claim set n k base table challenges
   parts =
       record {
         commit-done = commit-done;

@@ -15,6 +15,7 @@ use Rattle.theory_field.proofs.Words.{length-words-even}
 use Rattle.theory_multilinear.specs.Folds.{atFirst}
 use Rattle.theory_multilinear.specs.Levels.{level}
 use Rattle.theory_code.specs.Questions.{sized, lent, foldNumber}
+use Rattle.theory_record.specs.declared.WidthSet.{WidthSet}
 use Rattle.theory_record.specs.Widths.{levelLength}
 use Rattle.theory_record.specs.Trees.{treeFor, rootFor, levelsLent, treesLent, rootsLent}
 use Rattle.theory_record.specs.Scheme.{scheme}
@@ -42,25 +43,25 @@ fold-done n k l n-most k-most h =
       ),
     )
 
-module _ (n k : ℕ) (base table challenges : List ℕ) (long : length challenges ≡ 2 * n) (calls : List Call)
-    (done : doneFolds (committed n k base table challenges) calls ≡ atFirst (words challenges)) where
+module _ (set : WidthSet) (n k : ℕ) (base table challenges : List ℕ) (long : length challenges ≡ 2 * n) (calls : List Call)
+    (done : doneFolds (committed set n k base table challenges) calls ≡ atFirst (words challenges)) where
   abbrev levels : ℕ → List ℕ
-  levels = levelOf n k base table challenges calls
+  levels = levelOf set n k base table challenges calls
 
   abbrev folded : ℕ → List ℕ
-  folded = level (committed n k base table challenges) (words challenges)
+  folded = level (committed set n k base table challenges) (words challenges)
 
   -- level l, after l done folds, is the codeword folded l times at variable 0
-  pub level-is : (l : ℕ) → l ≤ n → levelOf n k base table challenges calls l ≡ level (committed n k base table challenges) (words challenges) l
-  level-is l h = after-level calls (committed n k base table challenges) (words challenges) done l (rw (length-words-even challenges n long) h)
+  pub level-is : (l : ℕ) → l ≤ n → levelOf set n k base table challenges calls l ≡ level (committed set n k base table challenges) (words challenges) l
+  level-is l h = after-level calls (committed set n k base table challenges) (words challenges) done l (rw (length-words-even challenges n long) h)
 
-  pub levels-lent : levelsLent n (levelOf n k base table challenges calls) ≡ levelsLent n (level (committed n k base table challenges) (words challenges))
+  pub levels-lent : levelsLent n (levelOf set n k base table challenges calls) ≡ levelsLent n (level (committed set n k base table challenges) (words challenges))
   levels-lent = endToEnd-ext (suc n) levels folded (λ l h. level-is l (omega arith))
 
-  pub trees-lent : treesLent (scheme base n k) (levelOf n k base table challenges calls)
-      ≡ treesLent (scheme base n k) (level (committed n k base table challenges) (words challenges))
-  trees-lent = endToEnd-ext (suc n) _ _ (λ l h. ap (λ (x : List ℕ). flat (treeFor (scheme base n k) l x)) (level-is l (omega arith)))
+  pub trees-lent : treesLent (scheme set base n k) (levelOf set n k base table challenges calls)
+      ≡ treesLent (scheme set base n k) (level (committed set n k base table challenges) (words challenges))
+  trees-lent = endToEnd-ext (suc n) _ _ (λ l h. ap (λ (x : List ℕ). flat (treeFor (scheme set base n k) l x)) (level-is l (omega arith)))
 
-  pub roots-lent : rootsLent (scheme base n k) (levelOf n k base table challenges calls)
-      ≡ rootsLent (scheme base n k) (level (committed n k base table challenges) (words challenges))
-  roots-lent = endToEnd-ext (suc n) _ _ (λ l h. ap (rootFor (scheme base n k) l) (level-is l (omega arith)))
+  pub roots-lent : rootsLent (scheme set base n k) (levelOf set n k base table challenges calls)
+      ≡ rootsLent (scheme set base n k) (level (committed set n k base table challenges) (words challenges))
+  roots-lent = endToEnd-ext (suc n) _ _ (λ l h. ap (rootFor (scheme set base n k) l) (level-is l (omega arith)))

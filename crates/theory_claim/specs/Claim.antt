@@ -17,6 +17,7 @@ use Rattle.theory_blake3.specs.Digest.{hash}
 use Rattle.theory_code.specs.Gammas.{gammas}
 use Rattle.theory_code.specs.Questions.{foldNumber}
 use Rattle.theory_merkle.specs.Numbers.{buildNumber}
+use Rattle.theory_record.specs.declared.WidthSet.{WidthSet}
 use Rattle.theory_record.specs.Widths.{levelLength, levelWidth, treeLength}
 use Rattle.theory_record.specs.Domain.{levelDomain}
 use Rattle.theory_record.specs.Trees.{treeFor, rootFor, levelsLent, treesLent, rootsLent}
@@ -40,10 +41,10 @@ pub record Deposit (n k : ℕ) (base table challenges : List ℕ) : Type 0 where
   pub table-long : length table ≡ 2 * 2 ^ n
   pub challenges-long : length challenges ≡ 2 * n
 
-module _ (n k : ℕ) (base table challenges : List ℕ) where
+module _ (set : WidthSet) (n k : ℕ) (base table challenges : List ℕ) where
   -- what the deposit fixes: digest and widths of its trees, base domain, n and k
   abbrev pub S : Scheme
-  S = scheme base n k
+  S = scheme set base n k
 
   -- P and L of the table as committed, and r
   abbrev pub P : List ℕ → ℕ
@@ -149,11 +150,11 @@ module _ (n k : ℕ) (base table challenges : List ℕ) where
     pub query-exactly : (position : ℕ) (rs roots bytes : List ℕ) → Bytes bytes
         → (checkQuery S position rs roots bytes ≡ accepted) ↔ AcceptedQuery S position rs roots bytes
     pub tail-exactly : (root : List ℕ) (claim : ℕ) (bytes : List ℕ) → Bytes bytes → (checkTail S root claim bytes ≡ 0) ↔ AcceptedTail S root claim bytes
-    -- 4. two byte strings that the check accepts for one position, whatever the challenges and roots, compared with buffers of 512 bytes
+    -- 4. two byte strings that the check accepts for one position, whatever the challenges and roots, compared with buffers of 1,024 bytes
     pub two-records : (position : ℕ) (rs roots u v old old′ : List ℕ) → Bytes u → Bytes v → length old ≡ messageBuffer → length old′ ≡ messageBuffer
         → checkQuery S position rs roots u ≡ accepted → checkQuery S position rs roots v ≡ accepted
         → Outcome position rs roots u v old old′
 
--- The theorem: nothing is assumed but the ranges.
+-- The theorem, for either set of widths, one throughout: nothing is assumed but the ranges.
 abbrev pub Theorem : Type 0
-Theorem = (n k : ℕ) (base table challenges : List ℕ) → Deposit n k base table challenges → Claim n k base table challenges
+Theorem = (set : WidthSet) (n k : ℕ) (base table challenges : List ℕ) → Deposit n k base table challenges → Claim set n k base table challenges

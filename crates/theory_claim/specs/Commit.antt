@@ -11,7 +11,8 @@ use Rattle.theory_multilinear.specs.Codeword.{encode}
 use Rattle.theory_blake3.specs.Digest.{hash}
 use Rattle.theory_code.specs.Questions.{sized, lent}
 use Rattle.theory_code.specs.Gammas.{gammas}
-use Rattle.theory_record.specs.Widths.{Widths, present, treeLength}
+use Rattle.theory_record.specs.Widths.{Widths, widthsOf, treeLength}
+use Rattle.theory_record.specs.declared.WidthSet.{WidthSet}
 use Rattle.theory_record.specs.Trees.{treeFor}
 use Rattle.theory_record.specs.Scheme.{Scheme}
 
@@ -32,9 +33,9 @@ unfoldable pub commitNumber : Widths → ℕ → ℕ → ℕ → ℕ → ℕ →
 commitNumber s n k base table gammas codeword tree = firstNo (commitQuestions s n k base table gammas codeword tree)
 
 -- the number that `commit` answers, of what it is lent
-abbrev pub commitAnswer : ℕ → ℕ → List ℕ → List ℕ → List ℕ → List ℕ → List ℕ → ℕ
-commitAnswer n k base table gammas codeword tree =
-    commitNumber present n k (length base) (length table) (length gammas) (length codeword) (length tree)
+abbrev pub commitAnswer : WidthSet → ℕ → ℕ → List ℕ → List ℕ → List ℕ → List ℕ → List ℕ → ℕ
+commitAnswer set n k base table gammas codeword tree =
+    commitNumber (widthsOf set) n k (length base) (length table) (length gammas) (length codeword) (length tree)
 
 -- ---- what is left in the three buffers. The gammas are those of the base domain, `gammas hash base n k`
 

@@ -1,4 +1,4 @@
--- Comparing two accepted query records, with buffers of 512 bytes, gives 33 exactly when they are equal bytes; else 0, and the two messages,
+-- Comparing two accepted query records, with buffers of 1,024 bytes, gives 33 exactly when they are equal bytes; else 0, and the two messages,
 -- each to its length in its buffer, differ and have one digest. Rests on what is found of them.
 use Prim.Native.Nat.{ℕ, _-_, _≤_}
 use mathlib.Core.Path.{_≡_, refl, sym, _∙_, ap}
@@ -16,7 +16,8 @@ use Rattle.theory_merkle.specs.Binding.{Found, none, pair}
 use Rattle.theory_record.specs.Query.{checkQuery}
 use Rattle.theory_record.proofs.Widths.{PowersOfTwo}
 use Rattle.theory_record.proofs.Query.{QueryAccepted, query-accepted, query-zero}
-use Rattle.theory_compare.specs.Compare.{recordsFound, inBuffer, accepts, Comparison, compareNumber, compared, firstMessage, secondMessage, messageBuffer}
+use Rattle.theory_compare.specs.Compare.{recordsFound, inBuffer, accepts, Comparison, compareNumber, compared, firstMessage, secondMessage}
+use Rattle.theory_compare.specs.Compare.{longestLeaf, messageBuffer}
 use Rattle.theory_compare.specs.Nearest.{NearestRoot}
 use Rattle.theory_compare.proofs.Found.{Tells, records-tell}
 use Rattle.theory_record.specs.Scheme.{Scheme}
@@ -87,15 +88,15 @@ module _ (S : Scheme) (position : ℕ) (challenges roots u v old old′ : List �
   unfolding compared firstMessage secondMessage
   answers-0 m m′ e f = rw (e, f) (refl, (message-in-buffer m, message-in-buffer m′))
 
-  -- two records that are accepted for one position, and buffers of 512 bytes
-  pub compare-accepted : ((m : List ℕ) → length (H m) ≡ 32) → PowersOfTwo s → s .width ≤ 8 → Bytes u → Bytes v
+  -- two records that are accepted for one position, and buffers with room for the longest message
+  pub compare-accepted : ((m : List ℕ) → length (H m) ≡ 32) → PowersOfTwo s → longestLeaf s ≤ messageBuffer → Bytes u → Bytes v
       → length old ≡ messageBuffer → length old′ ≡ messageBuffer
       → checkQuery S position challenges roots u .number ≡ 0 → checkQuery S position challenges roots v .number ≡ 0 → Equal ⊎ Different
-  compare-accepted sized p narrow bu bv e e′ eu ev =
+  compare-accepted sized p room bu bv e e′ eu ev =
       let hu = query-accepted S position challenges roots u (query-zero S position challenges roots u eu) in
       let hv = query-accepted S position challenges roots v (query-zero S position challenges roots v ev) in
       go (same u v) refl (number-is hu eu ev e e′) (recordsFound S position u v) refl
-      (records-tell S sized narrow (hu .ranges .base-short) position challenges roots p u v bu bv hu hv)
+      (records-tell S sized p room (hu .ranges .base-short) position challenges roots u v bu bv hu hv)
     where
       go : (b : Bool) → same u v ≡ b → compareNumber S position challenges roots u v old old′ ≡ pick (not b) 0 33
           → (f : Found) → recordsFound S position u v ≡ f → Tells H (u ≡ v) (NearestRoot S position u v) f → Equal ⊎ Different

@@ -1,30 +1,28 @@
 -- What is found of two accepted query records: nothing where they are equal bytes, else two messages that differ, have one digest and
 -- have room in their buffers. Rests on the binding of a tree's paths and on an accepted record being settled by its groups and paths.
 use Prim.Native.Nat.{ℕ, suc, _+_, _*_, _<_, _≤_}
-use mathlib.Core.Path.{_≡_, sym, _∙_}
+use mathlib.Core.Path.{_≡_, refl, sym, _∙_}
 use mathlib.Core.Logic.{_⊎_, inl, inr}
-use mathlib.Core.Bool.{Bool, true, false}
 use mathlib.Core.List.{List, [], _∷_}
 use native.Mathlib.Omega.{arith}
-use lib.Dec.{leb}
 use lib.ListN.{length}
-use Rattle.theory_laws.specs.Questions.{pick}
 use Rattle.theory_laws.proofs.Lists.{Bytes}
 use Rattle.theory_merkle.specs.Binding.{Found, none, pair, orElse, messagesOf, collision, Nearest}
 use Rattle.theory_merkle.proofs.Binding.{Says, FoundWithin, binding, collision-within}
 use Rattle.theory_record.specs.Domain.{levelDomain, domainRoom}
-use Rattle.theory_record.specs.Widths.{Widths, widthFor, levelLength, levelWidth, levelDepth}
+use Rattle.theory_record.specs.Widths.{Widths, widthsOf, levelLength, levelWidth, levelDepth}
+use Rattle.theory_record.specs.declared.WidthSet.{WidthSet}
 use Rattle.theory_record.specs.Trees.{leadsTo}
 use Rattle.theory_record.specs.Format.{LevelRecord, levelForm, recordItems}
 use Rattle.theory_record.specs.Query.{pairOf}
 use Rattle.theory_record.proofs.Domain.{levelDomain-fits}
 use Rattle.theory_record.proofs.Format.{GroupHeld, LevelHeld}
 use Rattle.theory_record.proofs.Records.{All, length-recordItems}
-use Rattle.theory_record.proofs.Widths.{PowersOfTwo}
+use Rattle.theory_record.proofs.Widths.{PowersOfTwo, narrow, level-width-le}
 use Rattle.theory_record.proofs.Query.{Holds, AllHold, QueryAccepted}
 use Rattle.theory_record.proofs.Consequences.{SameOpenings, AllSame, accepted-held, query-settled}
 use Rattle.theory_compare.specs.Nearest.{wayOf, NearestAt, NearestFrom, NearestRoot}
-use Rattle.theory_compare.specs.Compare.{openingFound, pairFound, levelsFound, recordsFound, messageBuffer}
+use Rattle.theory_compare.specs.Compare.{openingFound, pairFound, levelsFound, recordsFound, longestLeaf, messageBuffer}
 use Rattle.theory_record.specs.Scheme.{Scheme}
 
 -- two messages that differ, have one digest, and have room in their buffers
@@ -59,15 +57,13 @@ bound-tells H ms ms′ P none p w = p
 bound-tells H ms ms′ P (pair m m′) c w =
     (record { differ = c .differ; one-digest = c .one-digest; first-fits = w .0; second-fits = w .1 }, c .nearest)
 
--- groups of at most 8 values have room with their messages
-width-narrow : (s : Widths) (n k l : ℕ) → s .width ≤ 8 → levelWidth s n k l ≤ 8
-unfolding levelWidth widthFor
-width-narrow s n k l h = go (leb (s .threshold) (levelLength n k l)) (leb 2 (levelLength n k l))
-  where
-    go : (a b : Bool) → pick a (s .width) (pick b 2 1) ≤ 8
-    go true b = h
-    go false true = omega arith
-    go false false = omega arith
+-- the longest message of either set has room in a buffer: 434 and 818 bytes
+pub longest-leaves : (longestLeaf (widthsOf WidthSet.Present) ≡ 434) × (longestLeaf (widthsOf WidthSet.Wide) ≡ 818)
+unfolding widthsOf
+longest-leaves = (refl, refl)
+
+pub leaves-fit : (set : WidthSet) → longestLeaf (widthsOf set) ≤ messageBuffer
+leaves-fit set = omega (arith, narrow set)
 
 -- a group and a path of level l, as a record that is accepted has them
 record Opens (s : Widths) (n k l : ℕ) (values : List ℕ) (path : List (List ℕ)) : Type 0 where
@@ -75,7 +71,9 @@ record Opens (s : Widths) (n k l : ℕ) (values : List ℕ) (path : List (List �
   pub wide : length values ≡ levelWidth s n k l
   pub deep : length path ≡ levelDepth s n k l
 
-module _ (S : Scheme) (sized : (m : List ℕ) → length (S .digest m) ≡ 32) (narrow : S .widths .width ≤ 8) (short : length (S .base) ≤ 200) where
+-- a scheme whose longest leaf message has room in a buffer
+module _ (S : Scheme) (sized : (m : List ℕ) → length (S .digest m) ≡ 32) (p : PowersOfTwo (S .widths)) (room : longestLeaf (S .widths) ≤ messageBuffer)
+    (short : length (S .base) ≤ 200) where
   open Scheme S using (digest as H, widths as s, base, n, k)
 
   opening-tells : (l place : ℕ) (values values′ : List ℕ) (path path′ : List (List ℕ)) → l < 100 → Opens s n k l values path → Opens s n k l values′ path′
@@ -88,7 +86,7 @@ module _ (S : Scheme) (sized : (m : List ℕ) → length (S .digest m) ≡ 32) (
       let count : ℕ = levelLength n k l in
       let width : ℕ = levelWidth s n k l in
       let d : length domain ≤ domainRoom = levelDomain-fits base l short h in
-      let w : width ≤ 8 = width-narrow s n k l narrow in
+      let w : width ≤ s .width = level-width-le s p n k l in
       let ms = messagesOf H domain count width place values path in
       let ms′ = messagesOf H domain count width place values′ path′ in
       bound-tells H ms ms′ ((values ≡ values′) × (path ≡ path′)) (collision H domain count width place values path values′ path′)
@@ -137,11 +135,11 @@ module _ (S : Scheme) (sized : (m : List ℕ) → length (S .digest m) ≡ 32) (
         (levels-tell (suc l) xs ys (omega arith) (omega arith) (dx .1) (dy .1) (hx .1) (hy .1))
 
     -- two records that are accepted for one position
-    pub records-tell : (p : PowersOfTwo s) (u v : List ℕ) → Bytes u → Bytes v
+    pub records-tell : (u v : List ℕ) → Bytes u → Bytes v
         → QueryAccepted S position challenges roots u → QueryAccepted S position challenges roots v
         → Tells H (u ≡ v) (NearestRoot S position u v) (recordsFound S position u v)
     unfolding recordsFound NearestRoot
-    records-tell p u v bu bv hu hv =
+    records-tell u v bu bv hu hv =
         let xs : List LevelRecord = recordItems levelForm n u in
         let ys : List LevelRecord = recordItems levelForm n v in
         let few = hu .ranges .sizes .n-most in

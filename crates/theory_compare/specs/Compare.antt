@@ -8,8 +8,8 @@ use lib.ListN.{length, replicate}
 use Rattle.theory_laws.specs.Questions.{Question, _asks_, firstNo, onDone}
 use Rattle.theory_laws.specs.Lists.{same}
 use Rattle.theory_merkle.specs.Binding.{Found, none, pair, orElse, collision}
-use Rattle.theory_record.specs.Widths.{levelLength, levelWidth}
-use Rattle.theory_record.specs.Domain.{levelDomain}
+use Rattle.theory_record.specs.Widths.{Widths, levelLength, levelWidth}
+use Rattle.theory_record.specs.Domain.{levelDomain, domainRoom}
 use Rattle.theory_record.specs.Format.{LevelRecord, levelForm, recordItems}
 use Rattle.theory_record.specs.Query.{pairOf, sizeQuestions, checkQuery}
 use Rattle.theory_record.specs.Scheme.{Scheme}
@@ -50,9 +50,13 @@ abbrev pub secondOf : Found → List ℕ
 secondOf none = []
 secondOf (pair m m′) = m′
 
--- the length of a buffer for a message
+-- how long a message of a set gets: a leaf message under the longest domain with a group of the set's width
+abbrev pub longestLeaf : Widths → ℕ
+longestLeaf s = 97 + domainRoom + 16 * s .width
+
+-- the length of a buffer for a message, under either set
 abbrev pub messageBuffer : ℕ
-messageBuffer = 512
+messageBuffer = 1024
 
 -- a message in its buffer, zeros after it
 unfoldable pub inBuffer : List ℕ → List ℕ

@@ -5,11 +5,13 @@ use mathlib.Core.List.{List, [], _∷_, map}
 use native.Mathlib.Omega.{arith}
 use lib.ListN.{length, length-append, length-map}
 use Rattle.theory_laws.proofs.Lists.{AllLong, length-leBytes}
-use Rattle.theory_record.specs.Widths.{Widths, present, levelWidth, levelGroups, levelDepth, total}
+use Rattle.theory_merkle.specs.Tree.{halvings, log2}
+use Rattle.theory_record.specs.Widths.{Widths, widthsOf, levelWidth, levelGroups, levelDepth, total}
+use Rattle.theory_record.specs.declared.WidthSet.{WidthSet}
 use Rattle.theory_record.specs.Format.{LevelRecord, TailGroup, levelForm, tailForm}
 use Rattle.theory_record.specs.Format.{wordBytes, runBytes, levelBytes, tailGroupBytes, itemsBytes, recordBytes}
 use Rattle.theory_record.specs.Sizes.{groupSize, levelSize, querySize, tailSize}
-use Rattle.theory_record.proofs.Widths.{PowersOfTwo, present-powers, widthLogAt, width-by-exponent, depth-by-exponent, level-shape, groups-by-depth}
+use Rattle.theory_record.proofs.Widths.{PowersOfTwo, tested-powers, powers, widthLogAt, width-by-exponent, depth-by-exponent, level-shape, groups-by-depth}
 use Rattle.theory_record.proofs.Totals.{total-ext, total-first}
 use Rattle.theory_record.proofs.Runs.{words-long, length-runBytes}
 
@@ -102,17 +104,27 @@ module _ (s : Widths) (p : PowersOfTwo s) (n k : ℕ) where
       let e : n + k - n ≡ k = omega arith in
       rw (groups-by-depth s n k n (level-shape s n k n p), depth-by-exponent s p n k n, group-size n, e)
 
--- the sizes of SPECIFICATION 7.6 under the present widths: (n, k) of (1, 0), (2, 1), (18, 2), (20, 4), and tails for k from 0 to 4
-pub query-sizes : (querySize present 1 0 ≡ 116) × (querySize present 2 1 ≡ 388) × (querySize present 18 2 ≡ 14884) × (querySize present 20 4 ≡ 20484)
-unfolding total present-powers
-query-sizes =
-    let size = query-size present present-powers in
-    (size 1 0, size 2 1, size 18 2, size 20 4)
+-- the sizes of SPECIFICATION 7.6: of query records for (n, k) of (1, 0), (2, 1), (18, 2), (20, 4), and of tails for k from 0 to 4
+abbrev QuerySizes : WidthSet → ℕ → ℕ → ℕ → ℕ → Type 0
+QuerySizes set a b c d =
+    let size = querySize (widthsOf set) in
+    (size 1 0 ≡ a) × (size 2 1 ≡ b) × (size 18 2 ≡ c) × (size 20 4 ≡ d)
 
-pub tail-sizes : (n : ℕ)
-    → (tailSize present n 0 ≡ 28) × (tailSize present n 1 ≡ 44) × (tailSize present n 2 ≡ 148) × (tailSize present n 3 ≡ 420)
-    × (tailSize present n 4 ≡ 340)
-unfolding present-powers
-tail-sizes n =
-    let size = tail-size present present-powers n in
-    (size 0, size 1, size 2, size 3, size 4)
+pub query-sizes : QuerySizes WidthSet.Present 116 388 14884 20484 × QuerySizes WidthSet.Wide 116 388 24036 32228
+unfolding total powers tested-powers widthsOf log2 halvings
+query-sizes =
+    let present = query-size _ (powers WidthSet.Present) in
+    let wide = query-size _ (powers WidthSet.Wide) in
+    ((present 1 0, present 2 1, present 18 2, present 20 4), (wide 1 0, wide 2 1, wide 18 2, wide 20 4))
+
+abbrev TailSizes : WidthSet → ℕ → ℕ → ℕ → ℕ → ℕ → Type 0
+TailSizes set a b c d e =
+    let size = tailSize (widthsOf set) in
+    (n : ℕ) → (size n 0 ≡ a) × (size n 1 ≡ b) × (size n 2 ≡ c) × (size n 3 ≡ d) × (size n 4 ≡ e)
+
+pub tail-sizes : TailSizes WidthSet.Present 28 44 148 420 340 × TailSizes WidthSet.Wide 28 44 148 420 1092
+unfolding powers tested-powers widthsOf log2 halvings
+tail-sizes =
+    let present = tail-size _ (powers WidthSet.Present) in
+    let wide = tail-size _ (powers WidthSet.Wide) in
+    (λ n. (present n 0, present n 1, present n 2, present n 3, present n 4), λ n. (wide n 0, wide n 1, wide n 2, wide n 3, wide n 4))

@@ -5,15 +5,17 @@ use mathlib.Core.Path.{_≡_, refl, sym, _∙_, ap}
 use mathlib.Core.Bool.{Bool, true, false}
 use native.Mathlib.Omega.{arith}
 use native.Mathlib.Nat.{mul-le-mul-right, mod-lt, div-add-mod'}
-use borrow.Author.Tests.{le-leb, lt-leb, leb-true, leb-false}
-use lib.Dec.{leb}
+use borrow.Author.Tests.{le-leb, lt-leb, leb-true, leb-false, eqb-true}
+use lib.Dec.{leb, eqb}
 use lib.Pow.{pow-pos, pow-mono, pow-lt, pow-add, shl-shr}
 use lib.Arith.{digits-div, digits-mod}
-use Rattle.theory_laws.specs.Questions.{pick}
-use Rattle.theory_merkle.specs.Tree.{groupOf, log2, depthOf}
+use Rattle.theory_laws.specs.Questions.{pick, both}
+use Rattle.theory_laws.proofs.Lists.{both-true}
+use Rattle.theory_merkle.specs.Tree.{groupOf, halvings, log2, depthOf}
 use Rattle.theory_merkle.specs.Shape.{Shape}
 use Rattle.theory_merkle.proofs.Sizes.{shape-pow, log2-pow}
-use Rattle.theory_record.specs.Widths.{Widths, present, widthFor, levelLength, levelWidth, levelGroups, levelDepth}
+use Rattle.theory_record.specs.Widths.{Widths, widthsOf, widest, widthFor, levelLength, levelWidth, levelGroups, levelDepth}
+use Rattle.theory_record.specs.declared.WidthSet.{WidthSet}
 
 -- ---- widths
 
@@ -26,15 +28,57 @@ pub record PowersOfTwo (s : Widths) : Type 0 where
   pub at-least-two : 1 ≤ widthLog
   pub at-most-threshold : widthLog ≤ thresholdLog
 
-unfoldable pub present-powers : PowersOfTwo present
-present-powers = record { thresholdLog = 4; widthLog = 3; threshold-is = refl; width-is = refl; at-least-two = omega arith; at-most-threshold = omega arith }
+-- the test of a set: both numbers are powers of two, the width is at least 2 and at most the threshold
+abbrev pub powersTest : Widths → Bool
+powersTest s =
+    let t = log2 (s .threshold) in
+    let w = log2 (s .width) in
+    both (eqb (s .threshold) (2 ^ t)) (both (eqb (s .width) (2 ^ w)) (both (leb 1 w) (leb w t)))
 
--- the small values of SPECIFICATION 12.1: widths of lengths 1, 2, 8, 16
-pub present-widths : (widthFor present 1 ≡ 1) × (widthFor present 2 ≡ 2) × (widthFor present 8 ≡ 2) × (widthFor present 16 ≡ 8)
-unfolding widthFor
-present-widths = (refl, refl, refl, refl)
+unfoldable pub tested-powers : (s : Widths) → powersTest s ≡ true → PowersOfTwo s
+tested-powers s e =
+    let t : ℕ = log2 (s .threshold) in
+    let w : ℕ = log2 (s .width) in
+    let a = both-true _ _ e in
+    let b = both-true _ _ (a .1) in
+    let c = both-true _ _ (b .1) in
+    record {
+      thresholdLog = t;
+      widthLog = w;
+      threshold-is = eqb-true _ _ (a .0);
+      width-is = eqb-true _ _ (b .0);
+      at-least-two = leb-true 1 w (c .0);
+      at-most-threshold = leb-true w t (c .1);
+    }
 
-leb-pow : (i m : ℕ) → leb (2 ^ i) (2 ^ m) ≡ leb i m
+-- the two sets pass it
+pub sets-pass : (set : WidthSet) → powersTest (widthsOf set) ≡ true
+unfolding widthsOf log2 halvings
+sets-pass WidthSet.Present = refl
+sets-pass WidthSet.Wide = refl
+
+unfoldable pub powers : (set : WidthSet) → PowersOfTwo (widthsOf set)
+powers set = tested-powers (widthsOf set) (sets-pass set)
+
+-- and none is wider than the widest
+pub narrow : (set : WidthSet) → widthsOf set .width ≤ widest
+unfolding widthsOf
+narrow WidthSet.Present = omega arith
+narrow WidthSet.Wide = omega arith
+
+-- the small values of SPECIFICATION 12.1: widths of lengths 1, 2, 8, 16 under the present set, and of 2, 32, 64 under the wide one
+abbrev presentWidth : ℕ → ℕ
+presentWidth = widthFor (widthsOf WidthSet.Present)
+
+abbrev wideWidth : ℕ → ℕ
+wideWidth = widthFor (widthsOf WidthSet.Wide)
+
+pub small-widths : ((presentWidth 1 ≡ 1) × (presentWidth 2 ≡ 2) × (presentWidth 8 ≡ 2) × (presentWidth 16 ≡ 8))
+    × ((wideWidth 1 ≡ 1) × (wideWidth 2 ≡ 2) × (wideWidth 32 ≡ 2) × (wideWidth 64 ≡ 32))
+unfolding widthFor widthsOf
+small-widths = ((refl, refl, refl, refl), (refl, refl, refl, refl))
+
+pub leb-pow : (i m : ℕ) → leb (2 ^ i) (2 ^ m) ≡ leb i m
 leb-pow i m = go (leb i m) refl
   where
     go : (t : Bool) → leb i m ≡ t → leb (2 ^ i) (2 ^ m) ≡ t
@@ -71,6 +115,22 @@ module _ (s : Widths) (p : PowersOfTwo s) (m : ℕ) where
       go false = omega arith
 
 -- ---- levels
+
+-- a level's width is at most the set's
+pub level-width-le : (s : Widths) → PowersOfTwo s → (n k l : ℕ) → levelWidth s n k l ≤ s .width
+unfolding levelWidth widthFor
+level-width-le s p n k l = go (leb (s .threshold) (levelLength n k l)) (leb 2 (levelLength n k l))
+  where
+    two : 2 ≤ s .width
+    two = rw (p .width-is) (pow-mono {i = 1} {j = p .widthLog} (p .at-least-two))
+
+    go : (wide pair : Bool) → pick wide (s .width) (pick pair 2 1) ≤ s .width
+    go true pair = omega arith
+    go false true = two
+    go false false = omega (arith, two)
+
+pub width-most : (set : WidthSet) (n k l : ℕ) → levelWidth (widthsOf set) n k l ≤ widest
+width-most set n k l = omega (arith, level-width-le (widthsOf set) (powers set) n k l, narrow set)
 
 -- width and depth of level l by exponents, of which n + k - l is that of its length
 module _ (s : Widths) (p : PowersOfTwo s) (n k l : ℕ) where

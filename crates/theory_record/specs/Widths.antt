@@ -4,15 +4,21 @@ use Prim.Native.Nat.{ℕ, zero, suc, _+_, _-_, _/_, _^_}
 use lib.Dec.{leb}
 use Rattle.theory_laws.specs.Questions.{pick}
 use Rattle.theory_merkle.specs.Tree.{depthOf, treeSize}
+use Rattle.theory_record.specs.declared.WidthSet.{WidthSet}
 
 -- a set of widths: from the length `threshold` on a group has `width` values
 pub record Widths : Type 0 where
   pub threshold : ℕ
   pub width : ℕ
 
--- the present set, that of `fold_tree_width`: 8 from length 16
-abbrev pub present : Widths
-present = record { threshold = 16; width = 8 }
+-- the two that a deposit chooses from: the present one, 8 from length 16, and the wide one, 32 from length 64
+unfoldable pub widthsOf : WidthSet → Widths
+widthsOf WidthSet.Present = record { threshold = 16; width = 8 }
+widthsOf WidthSet.Wide = record { threshold = 64; width = 32 }
+
+-- the largest width of the two
+abbrev pub widest : ℕ
+widest = 32
 
 -- the width of the groups of a tree over this many values: the set's from its threshold on, 2 from length 2, else 1
 unfoldable pub widthFor : Widths → ℕ → ℕ

@@ -21,7 +21,7 @@ use Rattle.theory_laws.specs.Lists.{flat, leBytes, same}
 use Rattle.theory_merkle.specs.Message.{prefixed, serializePrefix, serializeParts, wordsBytes}
 use Rattle.theory_merkle.specs.Message.{leafLabel, leafPrefix, leafRest, leafMessage, nodeLabel, nodeMessage}
 use Rattle.theory_merkle.specs.Binding.{differing, lastDiffering, messages, messagesOf, collision}
-use Rattle.theory_record.specs.Widths.{widthFor, levelLength, levelWidth}
+use Rattle.theory_record.specs.Widths.{widthsOf, widthFor, levelLength, levelWidth}
 use Rattle.theory_record.specs.Domain.{decimalWithin, decimal, levelDomain}
 use Rattle.theory_record.specs.Query.{pairOf}
 use Rattle.theory_compare.specs.Compare.{openingFound, pairFound, levelsFound, inBuffer}
@@ -36,10 +36,10 @@ pub all-hold : AllHold (cases ++ compareCases)
 unfolding codeword reduction xtime mulBits _⊗_ sq sel _⊕_ sum tab ins prod factor eqAt eqTable mle line foldAt foldList
     gamma shiftAt shift vertex addPoint block inBlocks encode phi partial partialEvals materialize indicator
     flat leBytes same prefixed serializePrefix serializeParts leafLabel nodeLabel wordsBytes leafPrefix leafRest leafMessage nodeMessage
-    differing lastDiffering messages messagesOf collision widthFor levelLength levelWidth decimalWithin decimal levelDomain
+    differing lastDiffering messages messagesOf collision widthsOf widthFor levelLength levelWidth decimalWithin decimal levelDomain
     pairOf openingFound pairFound levelsFound inBuffer
 all-hold = (refl, (refl, (refl, (ap one inverse-of-2, rest))))
   where
     -- all but the first four
     rest : AllHold (drop 4 (cases ++ compareCases))
-    rest = (refl, (refl, (refl, (refl, (refl, (refl, (refl, (refl, (refl, (refl, (refl, (refl, (refl, (refl, tt))))))))))))))
+    rest = (refl, (refl, (refl, (refl, (refl, (refl, (refl, (refl, (refl, (refl, (refl, (refl, (refl, (refl, (refl, tt)))))))))))))))

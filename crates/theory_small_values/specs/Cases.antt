@@ -2,7 +2,7 @@
 -- has one of these definitions.
 use Prim.Native.Nat.{ℕ, _^_}
 use mathlib.Core.Path.{_≡_}
-use mathlib.Core.List.{List, [], _∷_}
+use mathlib.Core.List.{List, [], _∷_, map}
 use lib.ListN.{replicate}
 use Rattle.theory_laws.specs.Table.{at}
 use Rattle.theory_field.specs.Field.{_⊗_, sq, inverse}
@@ -10,7 +10,8 @@ use Rattle.theory_multilinear.specs.Equality.{eqTable}
 use Rattle.theory_multilinear.specs.Fold.{foldList}
 use Rattle.theory_multilinear.specs.Codeword.{encode}
 use Rattle.theory_multilinear.specs.Partials.{partialEvals, indicator}
-use Rattle.theory_record.specs.Widths.{present, widthFor}
+use Rattle.theory_record.specs.declared.WidthSet.{WidthSet}
+use Rattle.theory_record.specs.Widths.{widthsOf, widthFor}
 
 -- a case: the values that a definition gives, and those of the specification
 pub record Case : Type 0 where
@@ -44,8 +45,10 @@ cases =
     ∷ (codeword gives (5 ∷ 9 ∷ 33 ∷ 45 ∷ []))
     -- folded by 2
     ∷ (foldList 0 2 codeword gives (29 ∷ 57 ∷ []))
-    -- the widths of lengths 1, 2, 8, 16
-    ∷ ((widthFor present 1 ∷ widthFor present 2 ∷ widthFor present 8 ∷ widthFor present 16 ∷ []) gives (1 ∷ 2 ∷ 2 ∷ 8 ∷ []))
+    -- the widths of lengths 1, 2, 8, 16 under the present set
+    ∷ (map (widthFor (widthsOf WidthSet.Present)) (1 ∷ 2 ∷ 8 ∷ 16 ∷ []) gives (1 ∷ 2 ∷ 2 ∷ 8 ∷ []))
+    -- and of 1, 2, 32, 64 under the wide set
+    ∷ (map (widthFor (widthsOf WidthSet.Wide)) (1 ∷ 2 ∷ 32 ∷ 64 ∷ []) gives (1 ∷ 2 ∷ 2 ∷ 32 ∷ []))
     ∷ []
 
 -- every case of a list gives what is expected

@@ -5,7 +5,8 @@ use mathlib.Core.List.{List, [], _∷_}
 use lib.ListN.{length, replicate}
 use Rattle.theory_laws.specs.Table.{at}
 use Rattle.theory_merkle.specs.Binding.{Found}
-use Rattle.theory_record.specs.Widths.{present}
+use Rattle.theory_record.specs.declared.WidthSet.{WidthSet}
+use Rattle.theory_record.specs.Widths.{widthsOf}
 use Rattle.theory_record.specs.Format.{LevelRecord}
 use Rattle.theory_record.specs.Scheme.{Scheme}
 use Rattle.theory_compare.specs.Compare.{pairFound, levelsFound, firstOf, secondOf, inBuffer}
@@ -17,7 +18,7 @@ nothing m = replicate 32 0
 
 -- n = 2, k = 0 and an empty base domain: level 0 has 4 values in two groups, level 1 has 2 values in one group, level 2 has one value
 abbrev pub toy : Scheme
-toy = record { digest = nothing; widths = present; base = []; n = 2; k = 0 }
+toy = record { digest = nothing; widths = widthsOf WidthSet.Present; base = []; n = 2; k = 0 }
 
 -- a level that shows these groups, and these digests on a's path
 abbrev pub shows : List ℕ → List ℕ → List (List ℕ) → LevelRecord
@@ -54,5 +55,5 @@ compareCases =
     -- nothing, where all is the same
     ∷ (told 0 (pairFound toy 0 0 (shows (1 ∷ 2 ∷ []) (3 ∷ 4 ∷ []) (digest 5 ∷ [])) (shows (1 ∷ 2 ∷ []) (3 ∷ 4 ∷ []) (digest 5 ∷ []))) gives (0 ∷ 0 ∷ 0 ∷ []))
     -- a message in its buffer, zeros after it
-    ∷ (inBuffer (1 ∷ 2 ∷ []) gives (1 ∷ 2 ∷ replicate 510 0))
+    ∷ (inBuffer (1 ∷ 2 ∷ []) gives (1 ∷ 2 ∷ replicate 1022 0))
     ∷ []

@@ -76,15 +76,15 @@ returns c =
     let bytes = length-take-le _ _ (tree-fits (start .pre) _ eb) ∙ eb in
     let e = done .commit .ensures in
     let kept = done .commit .kept in
-    let z = commit-allowed (a .base .now) (a .table .now) (start .pre) _ _ size bytes in
-    let front = kept .1 .1 .1 .1 .1 .0 ∙ size in
+    let z = commit-allowed (a .set) (a .base .now) (a .table .now) (start .pre) _ _ size bytes in
+    let front = kept .1 .1 .1 .1 .1 .1 .0 ∙ size in
     record {
       gammas-are = made _ _ _ _ _ (e .0) z (e .1 .0);
-      level-is = first-level _ _ (done .commit .last .1 .1 .1 .1 .1 .0) _ front ∙ made _ _ _ _ _ (e .0) z (e .1 .1 .0);
-      behind = same-behind _ _ (done .commit .last .1 .1 .1 .1 .1 .0) (a .levels .now) es front;
+      level-is = first-level _ _ (done .commit .last .1 .1 .1 .1 .1 .1 .0) _ front ∙ made _ _ _ _ _ (e .0) z (e .1 .1 .0);
+      behind = same-behind _ _ (done .commit .last .1 .1 .1 .1 .1 .1 .0) (a .levels .now) es front;
       tree-is =
-          take-at (done .commit .last .1 .1 .1 .1 .1 .1 .0) _ _ (kept .1 .1 .1 .1 .1 .1 .0 ∙ bytes)
-          ∙ tree-left (a .base .now) (a .table .now) (start .pre) (made _ _ _ _ _ (e .0) z (e .1 .1 .1));
+          take-at (done .commit .last .1 .1 .1 .1 .1 .1 .1 .0) _ _ (kept .1 .1 .1 .1 .1 .1 .1 .0 ∙ bytes)
+          ∙ tree-left (a .set) (a .base .now) (a .table .now) (start .pre) (made _ _ _ _ _ (e .0) z (e .1 .1 .1));
     }
 
 pub commit-first-spec : {M : Type 1} → statement M

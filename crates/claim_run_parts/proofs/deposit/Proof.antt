@@ -34,11 +34,11 @@ level-trees-requires c κs =
       record {
         small = sizes-small _ _ (p .commit .sizes);
         base-le = p .commit .base-short;
-        levels-long = folded .fold-calls .kept .1 .1 .1 .1 .0 ∙ made .commit-first .kept .1 .1 .1 .1 .1 .0 ∙ p .commit .levels-long;
-        trees-long = made .commit-first .kept .1 .1 .1 .1 .1 .1 .0 ∙ p .commit .trees-long;
+        levels-long = folded .fold-calls .kept .1 .1 .1 .1 .0 ∙ made .commit-first .kept .1 .1 .1 .1 .1 .1 .0 ∙ p .commit .levels-long;
+        trees-long = made .commit-first .kept .1 .1 .1 .1 .1 .1 .1 .0 ∙ p .commit .trees-long;
       },
       p .roots-long,
-      first-tree _ _ _ _ (e .tree-is) (left .each 0 (omega arith) ∙ after-none _ _),
+      first-tree _ _ _ _ _ (e .tree-is) (left .each 0 (omega arith) ∙ after-none _ _),
     )
 
 same-length : tie.Need-same-length

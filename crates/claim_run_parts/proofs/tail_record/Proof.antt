@@ -75,9 +75,9 @@ returns c =
     let sized : tie.After-level-length = search in
     let start : tie.Start = search in
     let a = start .args in (
-      tail-built _ _ _ _ (a .levels .now) (a .trees .now) (a .out .now) _ (sized .level-length .ensures) (treed .tree-bytes .ensures)
+      tail-built _ _ _ _ _ (a .levels .now) (a .trees .now) (a .out .now) _ (sized .level-length .ensures) (treed .tree-bytes .ensures)
           (built .build-tail .ensures .1),
-      tail-checked (a .base .now) _ _ (word (a .claim)) _ (a .roots .now) _ (c .check-tail .ensures),
+      tail-checked _ (word (a .claim)) _ (a .roots .now) _ (c .check-tail .ensures),
     )
 
 pub tail-record-spec : {M : Type 1} → statement M

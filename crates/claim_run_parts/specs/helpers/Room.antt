@@ -7,7 +7,8 @@ use denote.Ref.{RefT, now}
 use Rattle.theory_field.specs.Words.{words}
 use Rattle.theory_blake3.specs.Digest.{hash}
 use Rattle.theory_code.specs.Gammas.{gammas}
-use Rattle.theory_record.specs.Widths.{present, levelLength, treeLength}
+use Rattle.theory_record.specs.declared.WidthSet.{WidthSet}
+use Rattle.theory_record.specs.Widths.{Widths, widthsOf, levelLength, treeLength}
 use Rattle.theory_record.specs.Accepted.{SizesFit}
 use Rattle.theory_record.specs.Sizes.{querySize, tailSize}
 use Rattle.theory_record.specs.Build.{levelsLength, treeStart, levelValues, buildTail}
@@ -21,70 +22,71 @@ use Rattle.claim_fold_calls.specs.helpers.Laid.{CallsLent}
 use Rattle.claim_run_parts.specs.Parts.{Deposited, lastLevel, lastTree}
 
 -- for committing: a table of 2^n words, room for the gammas, and at least for level 0 and its tree
-pub record CommitRoom (n k base table gammas levels trees : ℕ) : Type 0 where
+pub record CommitRoom (s : Widths) (n k base table gammas levels trees : ℕ) : Type 0 where
   pub sizes : SizesFit n k
   pub base-short : base ≤ 200
   pub table-long : table ≡ 2 * 2 ^ n
   pub gammas-long : gammas ≡ 2 * (k * n)
   pub levels-long : levels ≡ 2 * levelsLength n k
-  pub trees-long : trees ≡ 32 * treeStart present n k (suc n)
+  pub trees-long : trees ≡ 32 * treeStart s n k (suc n)
 
 -- and for the levels: four numbers and a challenge for each call, room for a fold, n challenges and all roots
-pub record Room (n k base table calls challenges gammas levels half kept trees roots : ℕ) : Type 0 where
-  pub commit : CommitRoom n k base table gammas levels trees
+pub record Room (s : Widths) (n k base table calls challenges gammas levels half kept trees roots : ℕ) : Type 0 where
+  pub commit : CommitRoom s n k base table gammas levels trees
   pub calls-lent : CallsLent calls challenges
   pub half-long : half ≡ 2 ^ (n + k)
   pub kept-long : kept ≡ 2 * n
   pub roots-long : roots ≡ 32 * (n + 1)
 
 -- and for the records: a position, room for both, and for two messages
-pub record RecordRoom (n k position query tail one two : ℕ) : Type 0 where
+pub record RecordRoom (s : Widths) (n k position query tail one two : ℕ) : Type 0 where
   pub position-low : position < 2 ^ (n + k)
-  pub query-long : query ≡ querySize present n k
-  pub tail-long : tail ≡ tailSize present n k
+  pub query-long : query ≡ querySize s n k
+  pub tail-long : tail ≡ tailSize s n k
   pub one-long : one ≡ messageBuffer
   pub two-long : two ≡ messageBuffer
 
 -- what is lent to the tail record: at least the last level, its tree and its root
-pub record LastRoom (n k levels trees roots : ℕ) : Type 0 where
+pub record LastRoom (s : Widths) (n k levels trees roots : ℕ) : Type 0 where
   pub small : n + k ≤ 24
   pub levels-least : 2 * levelLength n k n ≤ levels
-  pub trees-least : 32 * treeLength present n k n ≤ trees
+  pub trees-least : 32 * treeLength s n k n ≤ trees
   pub roots-least : 32 ≤ roots
 
 -- the same of what a contract names
 abbrev pub Ref : Type 0
 Ref = RefT (List ℕ)
 
-abbrev pub CommitLent : ℕ → ℕ → Ref → Ref → Ref → Ref → Ref → Type 0
-CommitLent n k base table gammas levels trees =
-    CommitRoom n k (length (now base)) (length (now table)) (length (now gammas)) (length (now levels)) (length (now trees))
+abbrev pub CommitLent : WidthSet → ℕ → ℕ → Ref → Ref → Ref → Ref → Ref → Type 0
+CommitLent set n k base table gammas levels trees =
+    CommitRoom (widthsOf set) n k (length (now base)) (length (now table)) (length (now gammas)) (length (now levels)) (length (now trees))
 
-abbrev pub DepositLent : ℕ → ℕ → Ref → Ref → Ref → Ref → Ref → Ref → Ref → Ref → Ref → Ref → Type 0
-DepositLent n k base table calls challenges gammas levels half kept trees roots =
-    Room n k (length (now base)) (length (now table)) (length (now calls)) (length (now challenges)) (length (now gammas)) (length (now levels))
-    (length (now half)) (length (now kept)) (length (now trees)) (length (now roots))
+abbrev pub DepositLent : WidthSet → ℕ → ℕ → Ref → Ref → Ref → Ref → Ref → Ref → Ref → Ref → Ref → Ref → Type 0
+DepositLent set n k base table calls challenges gammas levels half kept trees roots =
+    Room (widthsOf set) n k (length (now base)) (length (now table)) (length (now calls)) (length (now challenges)) (length (now gammas))
+    (length (now levels)) (length (now half)) (length (now kept)) (length (now trees)) (length (now roots))
 
-abbrev pub RecordLent : ℕ → ℕ → ℕ → Ref → Ref → Ref → Ref → Type 0
-RecordLent n k position query tail one two =
-    RecordRoom n k position (length (now query)) (length (now tail)) (length (now one)) (length (now two))
+abbrev pub RecordLent : WidthSet → ℕ → ℕ → ℕ → Ref → Ref → Ref → Ref → Type 0
+RecordLent set n k position query tail one two =
+    RecordRoom (widthsOf set) n k position (length (now query)) (length (now tail)) (length (now one)) (length (now two))
 
 -- what committing leaves: the gammas, level 0 at the front of the levels and its tree at the front of the trees, and what was behind level 0
-pub record Committed (n k : ℕ) (base table old gammas′ levels trees : List ℕ) : Type 0 where
+pub record Committed (set : WidthSet) (n k : ℕ) (base table old gammas′ levels trees : List ℕ) : Type 0 where
   pub gammas-are : words gammas′ ≡ gammas hash base n k
   pub level-is : levelValues n k (words levels) 0 ≡ committedCodeword base n k (words table)
   pub behind : drop (levelLength n k 0) (words levels) ≡ drop (levelLength n k 0) (words old)
-  pub tree-is : take (32 * treeLength present n k 0) trees ≡ flat (treeFor (scheme base n k) 0 (committedCodeword base n k (words table)))
+  pub tree-is : take (32 * treeLength (widthsOf set) n k 0) trees ≡ flat (treeFor (scheme set base n k) 0 (committedCodeword base n k (words table)))
 
-abbrev pub CommitLeft : ℕ → ℕ → Slice → Slice → Slice → Slice → Slice → Type 0
-CommitLeft n k base table gammas levels trees =
-    Committed n k (now (base .entry)) (now (table .entry)) (now (levels .entry)) (now (gammas .exit)) (now (levels .exit)) (now (trees .exit))
+abbrev pub CommitLeft : WidthSet → ℕ → ℕ → Slice → Slice → Slice → Slice → Slice → Type 0
+CommitLeft set n k base table gammas levels trees =
+    Committed set n k (now (base .entry)) (now (table .entry)) (now (levels .entry)) (now (gammas .exit)) (now (levels .exit)) (now (trees .exit))
 
-abbrev pub DepositLeft : ℕ → ℕ → Slice → Slice → Slice → Slice → Slice → Slice → Slice → Slice → Slice → ℕ → Type 0
-DepositLeft n k base table calls challenges gammas levels kept trees roots done =
-    Deposited n k (now (base .entry)) (now (table .entry)) (now (calls .entry)) (now (challenges .entry)) (now (levels .entry)) (now (kept .entry))
+abbrev pub DepositLeft : WidthSet → ℕ → ℕ → Slice → Slice → Slice → Slice → Slice → Slice → Slice → Slice → Slice → ℕ → Type 0
+DepositLeft set n k base table calls challenges gammas levels kept trees roots done =
+    Deposited set n k (now (base .entry)) (now (table .entry)) (now (calls .entry)) (now (challenges .entry)) (now (levels .entry)) (now (kept .entry))
     (now (gammas .exit)) (now (levels .exit)) (now (kept .exit)) (now (trees .exit)) (now (roots .exit)) done
 
 -- a buffer after the tail record of the last level and its tree was built into it
-abbrev pub tailLent : ℕ → ℕ → Slice → Slice → Slice → List ℕ
-tailLent n k levels trees out = buildTail present n k (lastLevel n k (now (levels .entry))) (lastTree n k (now (trees .entry))) (now (out .entry))
+abbrev pub tailLent : WidthSet → ℕ → ℕ → Slice → Slice → Slice → List ℕ
+tailLent set n k levels trees out =
+    buildTail (widthsOf set) n k (lastLevel n k (now (levels .entry))) (lastTree (widthsOf set) n k (now (trees .entry))) (now (out .entry))

@@ -56,29 +56,29 @@ tail-record-requires c κs =
     let start = at-start (at-first (at-second laid)) in
     let kept = laid .deposit .kept in
     last-room
-    (room-same (start .pre .0) (kept .1 .1 .1 .1 .1 .1 .1 .0) (kept .1 .1 .1 .1 .1 .1 .1 .1 .1 .0) (kept .1 .1 .1 .1 .1 .1 .1 .1 .1 .1 .0)
-    (kept .1 .1 .1 .1 .1 .1 .1 .1 .1 .1 .1 .0))
+    (room-same (start .pre .0) (kept .1 .1 .1 .1 .1 .1 .1 .1 .0) (kept .1 .1 .1 .1 .1 .1 .1 .1 .1 .1 .0) (kept .1 .1 .1 .1 .1 .1 .1 .1 .1 .1 .1 .0)
+    (kept .1 .1 .1 .1 .1 .1 .1 .1 .1 .1 .1 .1 .0))
 
 two-records-requires : tie.Need-two-records-requires
 two-records-requires c κs = search needs
 
 same-length : tie.Need-same-length
-same-length c = deposited c .deposit .kept .1 .1 .1 .1 .1 .1 .0
+same-length c = deposited c .deposit .kept .1 .1 .1 .1 .1 .1 .1 .0
 
 same-length-2 : tie.Need-same-length-2
-same-length-2 c = deposited c .deposit .kept .1 .1 .1 .1 .1 .1 .1 .0
+same-length-2 c = deposited c .deposit .kept .1 .1 .1 .1 .1 .1 .1 .1 .0
 
 same-length-3 : tie.Need-same-length-3
-same-length-3 c = deposited c .deposit .kept .1 .1 .1 .1 .1 .1 .1 .1 .0
+same-length-3 c = deposited c .deposit .kept .1 .1 .1 .1 .1 .1 .1 .1 .1 .0
 
 same-length-4 : tie.Need-same-length-4
-same-length-4 c = deposited c .deposit .kept .1 .1 .1 .1 .1 .1 .1 .1 .1 .0
+same-length-4 c = deposited c .deposit .kept .1 .1 .1 .1 .1 .1 .1 .1 .1 .1 .0
 
 same-length-5 : tie.Need-same-length-5
-same-length-5 c = deposited c .deposit .kept .1 .1 .1 .1 .1 .1 .1 .1 .1 .1 .0
+same-length-5 c = deposited c .deposit .kept .1 .1 .1 .1 .1 .1 .1 .1 .1 .1 .1 .0
 
 same-length-6 : tie.Need-same-length-6
-same-length-6 c = deposited c .deposit .kept .1 .1 .1 .1 .1 .1 .1 .1 .1 .1 .1 .0
+same-length-6 c = deposited c .deposit .kept .1 .1 .1 .1 .1 .1 .1 .1 .1 .1 .1 .1 .0
 
 same-length-7 : tie.Need-same-length-7
 same-length-7 c = search needs
@@ -105,8 +105,8 @@ returns c =
     let start = at-start first in
     let kept = laid .deposit .kept in
     let room =
-    room-same (start .pre .0) (kept .1 .1 .1 .1 .1 .1 .1 .0) (kept .1 .1 .1 .1 .1 .1 .1 .1 .1 .0) (kept .1 .1 .1 .1 .1 .1 .1 .1 .1 .1 .0)
-    (kept .1 .1 .1 .1 .1 .1 .1 .1 .1 .1 .1 .0) in
+    room-same (start .pre .0) (kept .1 .1 .1 .1 .1 .1 .1 .1 .0) (kept .1 .1 .1 .1 .1 .1 .1 .1 .1 .1 .0) (kept .1 .1 .1 .1 .1 .1 .1 .1 .1 .1 .1 .0)
+    (kept .1 .1 .1 .1 .1 .1 .1 .1 .1 .1 .1 .1 .0) in
     let d = laid .deposit .ensures in
     let q = asked .query-record .ensures in
     let t = told .tail-record .ensures in

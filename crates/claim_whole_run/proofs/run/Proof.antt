@@ -32,7 +32,7 @@ made-requires : tie.Need-made-requires
 made-requires c κs =
     let numbered : tie.After-run-number = search in
     let passed : tie.Else1 = search in
-    rooms _ _ _ _ _ _ _ _ _ _ _ _ _ _ _ _ _ (numbered .run-number .ensures) (passed .if1 .left)
+    rooms _ _ _ _ _ _ _ _ _ _ _ _ _ _ _ _ _ _ (numbered .run-number .ensures) (passed .if1 .left)
 
 same-length : tie.Need-same-length
 same-length c = search needs

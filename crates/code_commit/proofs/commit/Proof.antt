@@ -56,7 +56,7 @@ returns-2 c =
     let g = made _ _ _ _ _ (derived .derive .ensures .0) (derive-allowed h) (derived .derive .ensures .1) in
     let w = made _ _ _ _ _ (encoded .encode .ensures .0) (encode-allowed h (search needs)) (encoded .encode .ensures .1) in (
       zero-said _ _ (asked .number .ensures) (derived .before .before .if1 .left),
-      (g, (codeword-made _ _ _ _ g w, tree-made _ _ _ _ g w _ (built .build-level .ensures))),
+      (g, (codeword-made _ _ _ _ g w, tree-made _ _ _ _ g w _ _ (built .build-level .ensures))),
     )
 
 pub commit-spec : {M : Type 1} → statement M

@@ -5,11 +5,11 @@ use native.Mathlib.Omega.{arith}
 use lib.Dec.{leb}
 use Rattle.theory_laws.specs.Questions.{pick}
 use Rattle.theory_laws.proofs.Questions.{asks, asks-given, no-le, yes-le}
-use Rattle.theory_record.specs.Widths.{present}
+use Rattle.theory_record.specs.Widths.{widthsOf}
 use Rattle.theory_record.specs.Accepted.{SizesFit}
 use Rattle.theory_record.proofs.Ranges.{sizes-small}
 use Rattle.code_level.proofs.Sizes.{sizes-said, asks-sizes}
-use Rattle.code_level.proofs.Totals.{level-small, levels-fit}
+use Rattle.code_level.proofs.Totals.{length-small, levels-fit}
 use Rattle.code_fold_levels.specs.Levels.{foldLevelsNumber}
 use Rattle.code_fold_levels.proofs.Sizes.{lengths-yes}
 use borrow.Author.Needs.{needs}
@@ -58,7 +58,7 @@ level-length-requires : tie.Need-level-length-requires
 level-length-requires c κs = let passed : tie.Else1 = search in (sizes-small _ _ (sizes passed), sizes passed .n-least)
 
 mul-if4 : tie.Need-mul-if4
-mul-if4 c = let h = (let passed : tie.Else1 = search in level-small _ _ 1 (sizes-small _ _ (sizes passed))) in search needs
+mul-if4 c = let h = (let passed : tie.Else1 = search in length-small _ _ 1 (sizes-small _ _ (sizes passed))) in search needs
 
 returns-4 : tie.Need-returns-4
 unfolding foldLevelsNumber
@@ -83,7 +83,7 @@ returns-6 c = search (asks, asks-given, asks-sizes) depth 18 fits 12000
 
 -- every length had its yes, and 7 is left
 last-asked : (c : tie.Else6) (r : ℕ) → let a = start c .args in r ≡ pick (leb (a .base) 200) 0 7
-    → r ≡ foldLevelsNumber present (a .n) (a .k) (a .base) (a .challenges) (a .levels) (a .half) (a .trees) (a .roots)
+    → r ≡ foldLevelsNumber (widthsOf (a .set)) (a .n) (a .k) (a .base) (a .challenges) (a .levels) (a .half) (a .trees) (a .roots)
 last-asked c r e =
     let sized : tie.After-size-number = search in
     let levels : tie.After-levels-length = search in
@@ -94,8 +94,8 @@ last-asked c r e =
     let passed3 : tie.Else3 = search in
     let passed4 : tie.Else4 = search in
     let passed5 : tie.Else5 = search in
-    lengths-yes _ _ _ _ _ _ _ _ (sized .size-number .ensures) (passed1 .if1 .left) (passed2 .if2 .left) (levels .levels-length .ensures) (passed3 .if3 .left)
-    (first .level-length .ensures) (passed4 .if4 .left) (trees .trees-size .ensures) (passed5 .if5 .left) (c .if6 .left) e
+    lengths-yes _ _ _ _ _ _ _ _ _ (sized .size-number .ensures) (passed1 .if1 .left) (passed2 .if2 .left) (levels .levels-length .ensures)
+    (passed3 .if3 .left) (first .level-length .ensures) (passed4 .if4 .left) (trees .trees-size .ensures) (passed5 .if5 .left) (c .if6 .left) e
 
 returns-7 : tie.Need-returns-7
 returns-7 c = last-asked (c .before) 7 (no-le _ _ _ _ _ (c .if7 .taken) refl)

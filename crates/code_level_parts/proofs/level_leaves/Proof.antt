@@ -18,7 +18,7 @@ put-leaves-requires : tie.Need-put-leaves-requires
 put-leaves-requires c κs =
     let asked : tie.After-leaves-number = search in
     let passed : tie.Else1 = search in
-    leaves-fit _ _ _ _ _ _ _ (asked .leaves-number .ensures) (passed .if1 .left)
+    leaves-fit _ _ _ _ _ _ _ _ (asked .leaves-number .ensures) (passed .if1 .left)
 
 same-length : tie.Need-same-length
 same-length c = search needs

@@ -2,7 +2,7 @@
 use Rattle.theory_laws.proofs.Questions.{asks, asks-given}
 use Rattle.theory_record.proofs.Ranges.{sizes-small}
 use Rattle.code_level.proofs.Sizes.{sizes-said, asks-sizes}
-use Rattle.code_level.proofs.Totals.{level-small}
+use Rattle.code_level.proofs.Totals.{length-small}
 use Rattle.code_level_parts.specs.Numbers.{nextPartNumber}
 use Prim.Native.Nat.{_*_}
 use mathlib.Core.Path.{sym, ap, _∙_}
@@ -37,7 +37,7 @@ mul-if3 c =
     let passed : tie.Else1 = search in
     let small = sizes-small _ _ (sizes-said _ _ _ (sized .size-number .ensures) (passed .if1 .left)) in
     let start : tie.Start = search in
-    let h = level-small (start .args .n) (start .args .k) (start .args .l) small in
+    let h = length-small (start .args .n) (start .args .k) (start .args .l) small in
     search needs
 
 returns-3 : tie.Need-returns-3

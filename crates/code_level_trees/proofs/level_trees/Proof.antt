@@ -17,11 +17,11 @@ use Rattle.code_level.proofs.level_length.Reads as level-length-reads
 use Rattle.code_commit.proofs.trees.tree_bytes.Reads as tree-bytes-reads
 
 abbrev Inv-loop : tie.InvT-loop
-Inv-loop n k base levels trees₀ roots₀ from₀ at₀ place₀ l₀ trees roots from at place l =
-    Grown base n k (levelValues n k (words levels)) l from at place trees roots
+Inv-loop set n k base levels trees₀ roots₀ from₀ at₀ place₀ l₀ trees roots from at place l =
+    Grown set base n k (levelValues n k (words levels)) l from at place trees roots
 
 abbrev μ-loop : tie.MeasureT-loop
-μ-loop n k base levels trees₀ roots₀ from₀ at₀ place₀ l₀ trees roots from at place l = n + 1 - l
+μ-loop set n k base levels trees₀ roots₀ from₀ at₀ place₀ l₀ trees roots from at place l = n + 1 - l
 
 level-length-requires : tie.Need-level-length-requires Inv-loop μ-loop
 level-length-requires c κs =
@@ -43,7 +43,7 @@ put-root-requires : tie.Need-put-root-requires Inv-loop μ-loop
 put-root-requires c κs =
     let start : tie.Start Inv-loop μ-loop = search in
     let measured : tie.After-tree-bytes Inv-loop μ-loop = search in
-    let t = first-tree-room _ _ (measured .tree-bytes .ensures) (start .pre .0 .trees-long) in
+    let t = first-tree-room _ _ _ (measured .tree-bytes .ensures) (start .pre .0 .trees-long) in
     (t .1, t .0, omega (arith, start .pre .1))
 
 loop-holds : tie.Need-loop-holds Inv-loop μ-loop
@@ -53,7 +53,7 @@ loop-holds c =
     let measured : tie.After-tree-bytes Inv-loop μ-loop = search in
     let rooted : tie.After-put-root Inv-loop μ-loop = search in
     let p = start .pre in
-    begun _ _ _ _ (sized .level-length .ensures) (measured .tree-bytes .ensures) (p .0 .trees-long) (p .1) (rooted .put-root .kept .0) (p .2)
+    begun _ _ _ _ _ (sized .level-length .ensures) (measured .tree-bytes .ensures) (p .0 .trees-long) (p .1) (rooted .put-root .kept .0) (p .2)
     (rooted .put-root .ensures)
 
 put-tree-requires : tie.Need-put-tree-requires Inv-loop μ-loop
@@ -94,10 +94,10 @@ tree-bytes-requires-2 c κs =
 
 add-at : tie.Need-add-at Inv-loop μ-loop
 add-at c =
-    let g = (let turn : tie.In-loop Inv-loop μ-loop = search in turn .before .loop .inv) in
-    let w =
-    (let turn : tie.In-loop Inv-loop μ-loop = search in
-    tree-room _ _ _ (turn .loop-test .taken) (g .at=) (c .tree-bytes2 .ensures) (g .trees-long)) in
+    let start : tie.Start Inv-loop μ-loop = search in
+    let turn : tie.In-loop Inv-loop μ-loop = search in
+    let g = turn .before .loop .inv in
+    let w = tree-room _ _ _ _ (turn .loop-test .taken) (g .at=) (c .tree-bytes2 .ensures) (start .pre .0 .trees-long) in
     search needs
 
 put-root-requires-2 : tie.Need-put-root-requires-2 Inv-loop μ-loop
@@ -105,7 +105,7 @@ put-root-requires-2 c κs =
     let turn : tie.In-loop Inv-loop μ-loop = search in
     let measured : tie.After-tree-bytes2 Inv-loop μ-loop = search in
     let g = turn .before .loop .inv in
-    let t = tree-room _ _ _ (turn .loop-test .taken) (g .at=) (measured .tree-bytes2 .ensures) (g .trees-long) in
+    let t = tree-room _ _ _ _ (turn .loop-test .taken) (g .at=) (measured .tree-bytes2 .ensures) (g .trees-long) in
     (omega arith, search needs, omega (arith, g .place=, g .roots-long, turn .loop-test .taken))
 
 add-l : tie.Need-add-l Inv-loop μ-loop
@@ -124,8 +124,8 @@ loop-again c =
     let sized : tie.After-level-length2 Inv-loop μ-loop = search in
     let measured : tie.After-tree-bytes2 Inv-loop μ-loop = search in
     let rooted : tie.After-put-root2 Inv-loop μ-loop = search in
-    grown-more _ _ _ _ (turn .before .loop .inv) (turn .loop-test .taken) (sized .level-length2 .ensures) (measured .tree-bytes2 .ensures)
-    (grown .put-tree .ensures) (grown .put-tree .kept .1 .1 .1 .1 .1 .1 .0) (rooted .put-root2 .kept .0) (rooted .put-root2 .ensures)
+    grown-more _ _ _ _ _ (turn .before .loop .inv) (turn .loop-test .taken) (sized .level-length2 .ensures) (measured .tree-bytes2 .ensures)
+    (grown .put-tree .ensures) (grown .put-tree .kept .1 .1 .1 .1 .1 .1 .1 .0) (rooted .put-root2 .kept .0) (rooted .put-root2 .ensures)
 
 same-length : tie.Need-same-length Inv-loop μ-loop
 same-length c = let start : tie.Start Inv-loop μ-loop = search in c .before .loop .inv .trees-long ∙ sym (start .pre .0 .trees-long)
@@ -134,7 +134,7 @@ same-length-2 : tie.Need-same-length-2 Inv-loop μ-loop
 same-length-2 c = let start : tie.Start Inv-loop μ-loop = search in c .before .loop .inv .roots-long ∙ sym (start .pre .1)
 
 returns : tie.Need-returns Inv-loop μ-loop
-returns c = let g = c .before .loop .inv in (all-trees _ _ _ _ g (c .loop-test .left), all-roots _ _ _ _ g (c .loop-test .left))
+returns c = let g = c .before .loop .inv in (all-trees _ _ _ _ _ g (c .loop-test .left), all-roots _ _ _ _ _ g (c .loop-test .left))
 
 pub level-trees-spec : {M : Type 1} → statement M
 level-trees-spec =

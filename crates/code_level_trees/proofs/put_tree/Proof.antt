@@ -24,7 +24,7 @@ tree-fits : (c : tie.After-tree-bytes) → let start = c .before .before .before
     (start .args .at + c .tree-bytes .result ≤ length (start .args .trees .now)) × (32 ≤ c .tree-bytes .result)
 tree-fits c =
     let p = c .before .before .before .before .before .pre in
-    tree-room _ _ _ (p .within) (p .at=) (c .tree-bytes .ensures) (p .room .trees-long)
+    tree-room _ _ _ _ (p .within) (p .at=) (c .tree-bytes .ensures) (p .room .trees-long)
 
 level-length-requires : tie.Need-level-length-requires
 level-length-requires c κs = search needs
@@ -87,7 +87,7 @@ returns c =
     let sized = measured .before in
     let start = sized .before .before .before .before in
     let p = start .pre in
-    tree-put _ _ _ _ _ _ (p .from=) (sized .level-length .ensures) (p .at=) (measured .tree-bytes .ensures) (built .build-level .ensures)
+    tree-put _ _ _ _ _ _ _ (p .from=) (sized .level-length .ensures) (p .at=) (measured .tree-bytes .ensures) (built .build-level .ensures)
 
 pub put-tree-spec : {M : Type 1} → statement M
 put-tree-spec =

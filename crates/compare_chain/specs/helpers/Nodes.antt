@@ -8,6 +8,7 @@ use Rattle.theory_laws.specs.Lists.{runs, flat, stored}
 use Rattle.theory_blake3.specs.Digest.{hash}
 use Rattle.theory_merkle.specs.Message.{leafMessage, nodeMessage}
 use Rattle.theory_merkle.specs.Binding.{messagesOf}
+use Rattle.theory_record.specs.Widths.{widest}
 use Rattle.record_opening.specs.helpers.Opening.{valuesFrom}
 use Rattle.theory_merkle.specs.Tree.{left, right}
 
@@ -31,7 +32,7 @@ LeafNoted before domain count width group s from after d =
 
 -- there is room for it, of an s and a buffer so long
 abbrev pub LeafRoom : ℕ → ℕ → ℕ → ℕ → ℕ → Type 0
-LeafRoom domain width s from out = (width ≤ 8) × (from + 16 * width ≤ s) × (97 + domain + 16 * width ≤ out) × (out ≤ 2 ^ 24)
+LeafRoom domain width s from out = (width ≤ widest) × (from + 16 * width ≤ s) × (97 + domain + 16 * width ≤ out) × (out ≤ 2 ^ 24)
 
 -- the node message of a digest, number g of its level, and its sibling, from a place of a buffer on
 abbrev pub NodeNoted : List ℕ → ℕ → List ℕ → ℕ → ℕ → List ℕ → List ℕ → List ℕ → List ℕ → Type 0
@@ -54,5 +55,5 @@ chainInto out domain count width place s from path depth =
 -- there is room for them, of an s and a buffer so long
 abbrev pub ChainRoom : ℕ → ℕ → ℕ → ℕ → ℕ → ℕ → ℕ → Type 0
 ChainRoom domain width s from path depth out =
-    (domain ≤ 255) × (0 < width) × (width ≤ 8) × (from + 16 * width ≤ s) × (path + 32 * depth ≤ s)
+    (domain ≤ 255) × (0 < width) × (width ≤ widest) × (from + 16 * width ≤ s) × (path + 32 * depth ≤ s)
     × (97 + domain + 16 * width + (136 + domain) * depth ≤ out) × (out ≤ 2 ^ 24)

@@ -38,7 +38,7 @@ pub record LevelsSized (S : Scheme) (l q : ℕ) (s : List ℕ) (x : Level) (t : 
   pub first-room : length first ≡ messageBuffer
   pub second-room : length second ≡ messageBuffer
 
--- two records that are accepted for one position, under some challenges and roots, and buffers of 512 bytes
+-- two records that are accepted for one position, under some challenges and roots, and buffers for a message of each
 pub record Comparable (S : Scheme) (position : ℕ) (first second message message′ : List ℕ) : Type 0 where
   pub challenges : List ℕ
   pub roots : List ℕ

@@ -25,26 +25,26 @@ level-depth-requires c κs = search needs
 array-share-prefix-domain : tie.Need-array-share-prefix-domain
 array-share-prefix-domain c =
     let start : tie.Start = search in
-    let h = room (start .pre .0) in
+    let h = room _ (start .pre .0) in
     omega arith
 
 slice-aggregate-put-chain : tie.Need-slice-aggregate-put-chain
 slice-aggregate-put-chain c =
     let start : tie.Start = search in
     let domain : tie.After-level-domain = search in
-    let h = room (start .pre .0) in
+    let h = room _ (start .pre .0) in
     message-length _ _ _ _ _ _ (domain .level-domain .ensures) (omega arith)
 
 add-put-chain : tie.Need-add-put-chain
 add-put-chain c =
     let start : tie.Start = search in
-    let h = room (start .pre .0) in
+    let h = room _ (start .pre .0) in
     search needs
 
 add-put-chain-2 : tie.Need-add-put-chain-2
 add-put-chain-2 c =
     let start : tie.Start = search in
-    let h = room (start .pre .0) in
+    let h = room _ (start .pre .0) in
     search needs
 
 put-chain-requires : tie.Need-put-chain-requires
@@ -53,14 +53,14 @@ put-chain-requires c κs =
     let domain : tie.After-level-domain = search in
     let depth = c .before .before in
     let width = depth .before in
-    let h = room (start .pre .0) in
+    let h = room _ (start .pre .0) in
     let put = domain .level-domain .ensures in (
       domain-room _ _ _ _ _ put (omega arith) (h .domain-short),
       omega arith,
       omega arith,
       omega arith,
       omega arith,
-      chain-fits (start .pre .0) _ _ _ _
+      chain-fits _ (start .pre .0) _ _ _ _
           (record { domain-is = domain-there _ _ _ _ _ put (omega arith); width-is = width .level-width .ensures; depth-is = depth .level-depth .ensures })
           (start .pre .1),
       omega arith,
@@ -76,10 +76,10 @@ returns c =
     let put = c .before .before in
     let depth = put .before .before .before in
     let width = depth .before in
-    let h = room (start .pre .0) in
+    let h = room _ (start .pre .0) in
     let at = domain .level-domain .ensures in (
       omega (arith, at .end),
-      chain-written (start .pre .0) _ _ _ _ _ _ _ (put .put-chain .ensures) (prefix-is _ _ _ _ _ at (omega arith)) (width .before .level-length .ensures)
+      chain-written _ (start .pre .0) _ _ _ _ _ _ _ (put .put-chain .ensures) (prefix-is _ _ _ _ _ at (omega arith)) (width .before .level-length .ensures)
           (width .level-width .ensures) (depth .level-depth .ensures),
     )
 

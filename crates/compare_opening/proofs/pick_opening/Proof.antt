@@ -37,7 +37,7 @@ small : (c : tie.After-level-depth)
 small c =
     let start : tie.Start = search in
     let first : tie.After-level-chain = search in
-    let h = room (start .pre .first-sized) in
+    let h = room _ (start .pre .first-sized) in
     omega (arith, first .level-chain .ensures .0, c .before .level-width .ensures)
 
 add-pick-last : tie.Need-add-pick-last
@@ -59,7 +59,7 @@ pick-last-requires c κs =
     let width = depth .before in
     let second = width .before .before in
     let first = second .before .before .before in
-    chains-there (start .pre)
+    chains-there _ (start .pre)
     (record { domain-is = first .level-chain .ensures .0; width-is = width .level-width .ensures; depth-is = depth .level-depth .ensures })
     (record { chain-is = first .level-chain .ensures .1; buffer-long = search needs })
     (record { chain-is = second .level-chain2 .ensures .1; buffer-long = search needs })
@@ -79,7 +79,7 @@ returns c =
     let second = width .before .before in
     let first = second .before .before .before in
     let start = first .before .before .before .before .before .before .before in
-    picked-opening (start .pre)
+    picked-opening _ (start .pre)
     (record { domain-is = first .level-chain .ensures .0; width-is = width .level-width .ensures; depth-is = depth .level-depth .ensures })
     (record { chain-is = first .level-chain .ensures .1; buffer-long = search needs })
     (record { chain-is = second .level-chain2 .ensures .1; buffer-long = search needs }) (picked .pick-last .ensures)

@@ -1,22 +1,24 @@
 -- The messages that are hashed on the way from a group of a level to its root (SPECIFICATION 9.2, under the level's domain), where the
 -- group and the path stand at bytes of a record, and what is picked of two of them. Rests on merkle's lists of messages, on the levels'
 -- widths and domains, and on comparing.
-use Prim.Native.Nat.{ℕ}
+use Prim.Native.Nat.{ℕ, _+_, _*_}
 use mathlib.Core.Path.{_≡_}
 use mathlib.Core.List.{List}
 use denote.Ref.{now}
 use lib.ListN.{length}
 use Rattle.theory_laws.specs.Lists.{flat}
 use Rattle.theory_merkle.specs.Binding.{Found, messagesOf}
+use Rattle.theory_record.specs.declared.WidthSet.{WidthSet}
+use Rattle.theory_record.specs.Widths.{widest}
+use Rattle.theory_record.specs.Domain.{domainRoom}
 use Rattle.theory_record.specs.Scheme.{Scheme, scheme, lengthAt, widthAt, domainAt}
 use Rattle.record_opening.specs.helpers.Opening.{valuesAt, digestsAt, Sized}
 use Rattle.theory_compare.specs.Lent.{Slice}
 use Rattle.theory_compare.specs.Compare.{openingFound, messageBuffer}
 
--- the length of a buffer for all of them: a leaf message of 8 values under the longest level domain, 97 + 209 + 128 bytes, and 24 node messages,
--- 136 + 209 bytes each
+-- the length of a buffer for all of them, 9,098: a leaf message of the most values under the longest level domain, and 24 node messages
 abbrev pub chainBuffer : ℕ
-chainBuffer = 8714
+chainBuffer = 97 + domainRoom + 16 * widest + 24 * (136 + domainRoom)
 
 -- the messages from the group of a place of level l to the root
 unfoldable pub levelMessages : Scheme → ℕ → ℕ → List ℕ → List (List ℕ) → List (List ℕ)
@@ -32,12 +34,12 @@ foundAt S l place s sgroup spath t tgroup tpath =
     openingFound S l place (valuesAt s sgroup) (digestsAt s spath) (valuesAt t tgroup) (digestsAt t tpath)
 
 -- the same, of records and a base domain that are lent
-abbrev pub chainLent : Slice → ℕ → ℕ → ℕ → ℕ → Slice → ℕ → ℕ → List ℕ
-chainLent base n k l place s group path = chainAt (scheme (now (base .entry)) n k) l place (now (s .entry)) group path
+abbrev pub chainLent : Slice → WidthSet → ℕ → ℕ → ℕ → ℕ → Slice → ℕ → ℕ → List ℕ
+chainLent base set n k l place s group path = chainAt (scheme set (now (base .entry)) n k) l place (now (s .entry)) group path
 
-abbrev pub foundLent : Slice → ℕ → ℕ → ℕ → ℕ → Slice → ℕ → ℕ → Slice → ℕ → ℕ → Found
-foundLent base n k l place s sgroup spath t tgroup tpath =
-    foundAt (scheme (now (base .entry)) n k) l place (now (s .entry)) sgroup spath (now (t .entry)) tgroup tpath
+abbrev pub foundLent : Slice → WidthSet → ℕ → ℕ → ℕ → ℕ → Slice → ℕ → ℕ → Slice → ℕ → ℕ → Found
+foundLent base set n k l place s sgroup spath t tgroup tpath =
+    foundAt (scheme set (now (base .entry)) n k) l place (now (s .entry)) sgroup spath (now (t .entry)) tgroup tpath
 
 -- the groups and the paths are there, of the level's width and depth, and so is room for a message of each
 pub record BothSized (S : Scheme) (l : ℕ) (s : List ℕ) (sgroup spath : ℕ) (t : List ℕ) (tgroup tpath : ℕ) (first second : List ℕ) : Type 0 where

@@ -14,7 +14,8 @@ lent-number-requires c κs = search needs
 
 returns : tie.Need-returns
 returns c =
-    let a = lent-refused _ _ _ _ _ _ _ _ _ _ (c .before .lent-number .ensures) (c .if1 .taken) in
+    let start : tie.Start = search in
+    let a = lent-refused _ (start .args .set) _ _ _ _ _ _ _ _ _ (c .before .lent-number .ensures) (c .if1 .taken) in
     (a .answer-is, (a .first-is, a .second-is))
 
 records-number-requires : tie.Need-records-number-requires
@@ -24,14 +25,14 @@ returns-2 : tie.Need-returns-2
 returns-2 c =
     let read = c .before in
     let asked = read .before .before in
-    let a = records-refused _ _ _ _ _ _ _ _ _ _ (asked .lent-number .ensures) (read .before .if1 .left) (read .records-number .ensures) (c .if2 .taken) in
+    let a = records-refused _ _ _ _ _ _ _ _ _ _ _ (asked .lent-number .ensures) (read .before .if1 .left) (read .records-number .ensures) (c .if2 .taken) in
     (a .answer-is, (a .first-is, a .second-is))
 
 pick-levels-requires : tie.Need-pick-levels-requires
 pick-levels-requires c κs =
     let read = c .before .before .before in
     let asked = read .before .before in
-    comparable _ _ _ _ _ _ _ _ _ _ (asked .lent-number .ensures) (read .before .if1 .left) (read .records-number .ensures)
+    comparable _ _ _ _ _ _ _ _ _ _ _ (asked .lent-number .ensures) (read .before .if1 .left) (read .records-number .ensures)
     (c .before .before .if2 .left)
 
 same-length : tie.Need-same-length
@@ -46,7 +47,7 @@ returns-3 c =
     let read = picked .before .before .before .before in
     let asked = read .before .before in
     let a =
-    picked-answer _ _ _ _ _ _ _ _ _ _ (asked .lent-number .ensures) (read .before .if1 .left) (read .records-number .ensures)
+    picked-answer _ _ _ _ _ _ _ _ _ _ _ (asked .lent-number .ensures) (read .before .if1 .left) (read .records-number .ensures)
     (picked .before .before .before .if2 .left) (picked .pick-levels .ensures) in
     (a .answer-is, (a .first-is, a .second-is))
 

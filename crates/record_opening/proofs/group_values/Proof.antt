@@ -5,13 +5,14 @@ use lib.ListN.{length}
 use native.Mathlib.Omega.{arith}
 use Rattle.theory_laws.specs.Lists.{part, leValue}
 use Rattle.theory_field.proofs.Words.{Filled, filled-more}
+use Rattle.theory_record.specs.Widths.{widest}
 use Rattle.record_opening.proofs.Values.{values-filled}
 use borrow.Author.Needs.{needs}
 use Rattle.record_opening.proofs.group_values.Statement.{statement}
 use Rattle.record_opening.proofs.group_values.Tie as tie
 
 abbrev Inv-loop : tie.InvT-loop
-Inv-loop s from width values₀ i₀ values i = (i ≤ width) × (length values ≡ 16) × Filled (λ j. leValue (part 16 (from + 16 * j) s)) i values
+Inv-loop s from width values₀ i₀ values i = (i ≤ width) × (length values ≡ 2 * widest) × Filled (λ j. leValue (part 16 (from + 16 * j) s)) i values
 
 abbrev μ-loop : tie.MeasureT-loop
 μ-loop s from width values₀ i₀ values i = width - i

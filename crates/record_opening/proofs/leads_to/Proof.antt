@@ -1,8 +1,7 @@
 -- `record_opening::leads_to` meets its contract.
-use Rattle.theory_record.proofs.Widths.{present-powers}
 use native.Mathlib.Omega.{arith}
 use Rattle.tree_digest.proofs.Messages.{message-length, prefix-is}
-use Rattle.record_opening.proofs.Levels.{width-most, sized-room, domain-room, leads-is}
+use Rattle.record_opening.proofs.Levels.{sized-room, domain-room, leads-is}
 use borrow.Author.Needs.{needs}
 use Rattle.record_opening.proofs.leads_to.Statement.{statement}
 use Rattle.record_opening.proofs.leads_to.Tie as tie
@@ -25,33 +24,33 @@ level-depth-requires c κs = search needs
 array-share-prefix-domain : tie.Need-array-share-prefix-domain
 array-share-prefix-domain c =
     let start : tie.Start = search in
-    let h = sized-room _ present-powers (width-most _ _) _ _ _ _ (start .pre) in
+    let h = sized-room _ (start .pre) in
     search needs
 
 slice-aggregate-root-from : tie.Need-slice-aggregate-root-from
 slice-aggregate-root-from c =
     let start : tie.Start = search in
     let domain : tie.After-level-domain = search in
-    let h = sized-room _ present-powers (width-most _ _) _ _ _ _ (start .pre) in
+    let h = sized-room _ (start .pre) in
     message-length _ _ _ _ _ _ (domain .level-domain .ensures) (omega arith)
 
 add-root-from : tie.Need-add-root-from
 add-root-from c =
     let start : tie.Start = search in
-    let h = sized-room _ present-powers (width-most _ _) _ _ _ _ (start .pre) in
+    let h = sized-room _ (start .pre) in
     search needs
 
 add-root-from-2 : tie.Need-add-root-from-2
 add-root-from-2 c =
     let start : tie.Start = search in
-    let h = sized-room _ present-powers (width-most _ _) _ _ _ _ (start .pre) in
+    let h = sized-room _ (start .pre) in
     search needs
 
 root-from-requires : tie.Need-root-from-requires
 root-from-requires c κs =
     let start : tie.Start = search in
     let domain : tie.After-level-domain = search in
-    let h = sized-room _ present-powers (width-most _ _) _ _ _ _ (start .pre) in
+    let h = sized-room _ (start .pre) in
     (domain-room _ _ _ _ _ (domain .level-domain .ensures) (omega arith) (h .domain-short), omega arith, omega arith, omega arith, omega arith)
 
 returns : tie.Need-returns
@@ -62,7 +61,7 @@ returns c =
     let width : tie.After-level-width = search in
     let depth : tie.After-level-depth = search in
     let p = start .pre in
-    let h = sized-room _ present-powers (width-most _ _) _ _ _ _ p in
+    let h = sized-room _ p in
     leads-is _ _ _ _ _ _ _ _ _ _ _ p (c .root-from .ensures) (prefix-is _ _ _ _ _ (domain .level-domain .ensures) (omega arith))
     (count .level-length .ensures) (width .level-width .ensures) (depth .level-depth .ensures)
 

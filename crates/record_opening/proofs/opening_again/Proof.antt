@@ -1,5 +1,5 @@
 -- `record_opening::opening_again` meets its contract.
-use Rattle.theory_record.proofs.Widths.{present-powers}
+use Rattle.theory_record.proofs.Widths.{powers}
 use Rattle.record_opening.proofs.Again.{sized-old, again-right, even-width}
 use borrow.Author.Needs.{needs}
 use Rattle.record_opening.proofs.opening_again.Statement.{statement}
@@ -18,7 +18,7 @@ same-opening-requires c κs =
     let ew = c .before .level-width .ensures in (
       p .0 .group-fits,
       p .0 .path-fits,
-      even-width _ present-powers _ _ _ _ (p .1) ew,
+      even-width _ (powers _) _ _ _ _ (p .1) ew,
       λ e. sized-old _ _ _ _ _ _ (p .3 e) _ _ ew (c .level-depth .ensures),
     )
 

@@ -14,6 +14,7 @@ use Rattle.theory_record.specs.Trees.{leadsTo}
 use Rattle.theory_record.specs.Format.{runCount, runFits, runItems}
 use Rattle.record_opening.specs.declared.Opened.{Opened}
 use Rattle.theory_record.specs.Scheme.{Scheme, widthAt, depthAt}
+use Rattle.theory_record.specs.Widths.{widest}
 
 -- c values from a byte of s on
 unfoldable pub valuesFrom : List ℕ → ℕ → ℕ → List ℕ
@@ -32,7 +33,7 @@ rootFrom domain count width place s from path depth = rootOfPath hash domain cou
 
 -- both are all there, of a domain and an s so long
 abbrev pub WayThere : ℕ → ℕ → ℕ → ℕ → ℕ → ℕ → Type 0
-WayThere domain width s from path depth = (domain ≤ 255) × (0 < width) × (width ≤ 8) × (from + 16 * width ≤ s) × (path + 32 * depth ≤ s)
+WayThere domain width s from path depth = (domain ≤ 255) × (0 < width) × (width ≤ widest) × (from + 16 * width ≤ s) × (path + 32 * depth ≤ s)
 
 -- the group and the path at two bytes of s are all there, and n, k, the level and the base domain are in their ranges
 pub record Readable (S : Scheme) (l : ℕ) (s : List ℕ) (group path : ℕ) : Type 0 where

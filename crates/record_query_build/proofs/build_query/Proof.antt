@@ -12,7 +12,7 @@ query-number-requires : tie.Need-query-number-requires
 query-number-requires c κs = search needs
 
 returns : tie.Need-returns
-returns c = let e = c .before .query-number .ensures in (number-is _ _ _ _ _ _ _ e, refused _ _ _ _ _ _ _ e (c .if1 .taken))
+returns c = let e = c .before .query-number .ensures in (number-is _ _ _ _ _ _ _ _ e, refused _ _ _ _ _ _ _ _ e (c .if1 .taken))
 
 put-levels-requires : tie.Need-put-levels-requires
 put-levels-requires c κs = search allowed
@@ -26,7 +26,7 @@ returns-2 c =
     let asked = put .before .before .before in
     let e = asked .query-number .ensures in
     let z = put .before .before .if1 .left in
-    (zero-is _ _ _ _ _ _ _ e z, done _ _ _ _ _ _ _ e _ z (put .put-levels .ensures))
+    (zero-is _ _ _ _ _ _ _ _ e z, done _ _ _ _ _ _ _ _ e _ z (put .put-levels .ensures))
 
 pub build-query-spec : {M : Type 1} → statement M
 build-query-spec =

@@ -10,31 +10,31 @@ level-length-requires c κs = search needs
 add-words-at : tie.Need-add-words-at
 add-words-at c =
     let start : tie.Start = search in
-    let h = next-fits _ _ _ _ (start .pre .0) (start .pre .1) (start .pre .2) in
+    let h = next-fits _ _ _ _ _ (start .pre .0) (start .pre .1) (start .pre .2) in
     search needs
 
 mul-tree-at : tie.Need-mul-tree-at
 mul-tree-at c =
     let start : tie.Start = search in
-    let h = next-fits _ _ _ _ (start .pre .0) (start .pre .1) (start .pre .2) in
+    let h = next-fits _ _ _ _ _ (start .pre .0) (start .pre .1) (start .pre .2) in
     search needs
 
 sub-tree-at : tie.Need-sub-tree-at
 sub-tree-at c =
     let start : tie.Start = search in
-    let h = next-fits _ _ _ _ (start .pre .0) (start .pre .1) (start .pre .2) in
+    let h = next-fits _ _ _ _ _ (start .pre .0) (start .pre .1) (start .pre .2) in
     search needs
 
 mul-tree-at-2 : tie.Need-mul-tree-at-2
 mul-tree-at-2 c =
     let start : tie.Start = search in
-    let h = next-fits _ _ _ _ (start .pre .0) (start .pre .1) (start .pre .2) in
+    let h = next-fits _ _ _ _ _ (start .pre .0) (start .pre .1) (start .pre .2) in
     search needs
 
 add-tree-at : tie.Need-add-tree-at
 add-tree-at c =
     let start : tie.Start = search in
-    let h = next-fits _ _ _ _ (start .pre .0) (start .pre .1) (start .pre .2) in
+    let h = next-fits _ _ _ _ _ (start .pre .0) (start .pre .1) (start .pre .2) in
     search needs
 
 add-lent-level : tie.Need-add-lent-level
@@ -45,7 +45,7 @@ lent-level-requires c κs =
     let start : tie.Start = search in
     let count : tie.After-level-length = search in
     let p = start .pre in
-    (search needs, search needs, next-first _ _ _ _ (p .0) (p .1) (p .2) _ (count .level-length .ensures), next-tree _ _ _ _ (p .0) (p .1) (p .2))
+    (search needs, search needs, next-first _ _ _ _ _ (p .0) (p .1) (p .2) _ (count .level-length .ensures), next-tree _ _ _ _ _ (p .0) (p .1) (p .2))
 
 returns : tie.Need-returns
 returns c = search needs

@@ -8,7 +8,7 @@ use mathlib.Core.Path.{_≡_, _∙_}
 use native.Mathlib.Omega.{arith}
 use lib.ListN.{length}
 use Rattle.theory_field.specs.Words.{words}
-use Rattle.theory_record.specs.Widths.{present, total}
+use Rattle.theory_record.specs.Widths.{widthsOf, total}
 use Rattle.theory_record.specs.Sizes.{levelSize}
 use Rattle.theory_record.specs.Build.{queryBytes}
 use Rattle.tree_place.specs.Place.{index}
@@ -17,22 +17,22 @@ use Rattle.record_query_build.proofs.put_levels.Statement.{statement}
 use Rattle.record_query_build.proofs.put_levels.Tie as tie
 
 abbrev Inv-loop : tie.InvT-loop
-Inv-loop out₀ levels trees n k position at₀ x₀ l₀ out at x l =
-    (l ≤ n) × (length out ≡ length out₀) × (x ≡ lentLevel n k l) × (at ≡ 4 + total l (levelSize present n k))
-    × (levelsLeft out at n k (words levels) trees (index position) l ≡ queryBytes present n k (words levels) trees (index position))
+Inv-loop out₀ levels trees set n k position at₀ x₀ l₀ out at x l =
+    (l ≤ n) × (length out ≡ length out₀) × (x ≡ lentLevel (widthsOf set) n k l) × (at ≡ 4 + total l (levelSize (widthsOf set) n k))
+    × (levelsLeft (widthsOf set) out at n k (words levels) trees (index position) l ≡ queryBytes (widthsOf set) n k (words levels) trees (index position))
 
 abbrev μ-loop : tie.MeasureT-loop
-μ-loop out₀ levels trees n k position at₀ x₀ l₀ out at x l = n - l
+μ-loop out₀ levels trees set n k position at₀ x₀ l₀ out at x l = n - l
 
 put-number-requires : tie.Need-put-number-requires Inv-loop μ-loop
 put-number-requires c κs =
     let start : tie.Start Inv-loop μ-loop = search in
-    count-room (start .pre)
+    count-room _ (start .pre)
 
 lent-level-requires : tie.Need-lent-level-requires Inv-loop μ-loop
 lent-level-requires c κs =
     let start : tie.Start Inv-loop μ-loop = search in
-    first-level _ _ (start .pre .sizes)
+    first-level _ _ _ (start .pre .sizes)
 
 loop-holds : tie.Need-loop-holds Inv-loop μ-loop
 loop-holds c =
@@ -42,8 +42,8 @@ loop-holds c =
       search needs,
       search needs,
       c .lent-level .ensures,
-      no-levels _ _ _ (counted .put-number .ensures .end),
-      first-levels (start .pre) (counted .put-number .ensures) (λ j. lent .before .shared-slice-known .given j .fits),
+      no-levels _ _ _ _ (counted .put-number .ensures .end),
+      first-levels _ (start .pre) (counted .put-number .ensures) (λ j. lent .before .shared-slice-known .given j .fits),
     )
 
 next-level-requires : tie.Need-next-level-requires Inv-loop μ-loop
@@ -65,7 +65,7 @@ put-level-requires c κs =
     let loop = next .before .before in
     let counted = loop .before .before .before .before in
     let i = loop .loop .inv in
-    level-room (start .pre) _ (next .before .loop-test .taken) (i .2) (next .next-level .ensures) (pair-is _ _ _ (folded .folded .ensures)) (i .3)
+    level-room _ (start .pre) _ (next .before .loop-test .taken) (i .2) (next .next-level .ensures) (pair-is _ _ _ (folded .folded .ensures)) (i .3)
     (i .1 ∙ counted .put-number .kept .0)
 
 add-l : tie.Need-add-l Inv-loop μ-loop
@@ -89,8 +89,8 @@ loop-again c =
       search needs,
       search needs,
       y,
-      next-from _ _ _ _ _ _ _ (i .2) y (i .3) (p .end),
-      levels-step (start .pre) _ (i .4) p (i .2) y (pair-is _ _ _ (folded .folded .ensures)) (next .before .loop-test .taken),
+      next-from _ _ _ _ _ _ _ _ (i .2) y (i .3) (p .end),
+      levels-step _ (start .pre) _ (i .4) p (i .2) y (pair-is _ _ _ (folded .folded .ensures)) (next .before .loop-test .taken),
     )
 
 same-length : tie.Need-same-length Inv-loop μ-loop

@@ -7,21 +7,21 @@ use Rattle.theory_laws.specs.Lists.{part}
 use Rattle.theory_field.specs.Words.{words}
 use Rattle.theory_merkle.specs.Tree.{groupOf}
 use Rattle.bytes_numbers.specs.helpers.Put.{Put}
-use Rattle.theory_record.specs.Widths.{present, levelWidth, levelGroups, levelDepth}
+use Rattle.theory_record.specs.Widths.{Widths, widest, levelWidth, levelGroups, levelDepth}
 use Rattle.theory_record.specs.Format.{LevelRecord, wordBytes, runBytes, levelBytes}
 use Rattle.theory_record.specs.Build.{levelStart, treeStart}
 use Rattle.tree_walk.specs.helpers.Paths.{pathFrom}
 use Rattle.record_query_build.specs.declared.Level.{Level}
 
 -- level l: its first word in the lent levels, its tree's first byte in the lent trees, and its sizes
-unfoldable pub lentLevel : ℕ → ℕ → ℕ → Level
-lentLevel n k l =
+unfoldable pub lentLevel : Widths → ℕ → ℕ → ℕ → Level
+lentLevel s n k l =
     record {
       «words_at» = levelStart n k l;
-      «tree_at» = 32 * treeStart present n k l;
-      width = levelWidth present n k l;
-      depth = levelDepth present n k l;
-      groups = levelGroups present n k l;
+      «tree_at» = 32 * treeStart s n k l;
+      width = levelWidth s n k l;
+      depth = levelDepth s n k l;
+      groups = levelGroups s n k l;
     }
 
 -- the values of the group of a place of level x, and its path
@@ -79,7 +79,7 @@ LevelPut out from levels trees x y q out′ r = Put out from (openSize x y) (ope
 -- the group of a place of level x is in the lent levels
 pub record ValuesThere (levels : ℕ) (x : Level) (place : ℕ) : Type 0 where
   pub filled : 0 < x .width
-  pub width-le : x .width ≤ 8
+  pub width-le : x .width ≤ widest
   pub values-there : 2 * (x .«words_at» + x .width * groupOf place (x .width) + x .width) ≤ levels
 
 -- and its path in the lent trees

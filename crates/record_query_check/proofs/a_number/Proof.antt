@@ -1,5 +1,5 @@
 -- `record_query_check::a_number` meets its contract.
-use Rattle.theory_record.proofs.Widths.{present-powers}
+use Rattle.theory_record.proofs.Widths.{powers}
 use Rattle.record_query_check.specs.helpers.Level.{WideGroup}
 use Rattle.record_query_check.proofs.Groups.{opened-wide, a-stops, no-a, two-groups, no-b, both-held}
 use denote.Ref.{now}
@@ -29,7 +29,7 @@ wide : (c : tie.After-level-width)
 wide c =
     let start : tie.Start = search in
     let opened : tie.After-opening-again = search in
-    opened-wide present-powers _ _ _ _ _ (start .pre .readable) (opened .opening-again .ensures) (c .before .if1 .left) (c .level-width .ensures) (omega arith)
+    opened-wide (powers _) _ _ _ _ _ (start .pre .readable) (opened .opening-again .ensures) (c .before .if1 .left) (c .level-width .ensures) (omega arith)
 
 holds-requires : tie.Need-holds-requires
 holds-requires c κs = wide c

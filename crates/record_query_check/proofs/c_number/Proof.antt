@@ -1,5 +1,5 @@
 -- `record_query_check::c_number` meets its contract.
-use Rattle.theory_record.proofs.Widths.{present-powers}
+use Rattle.theory_record.proofs.Widths.{powers}
 use Rattle.record_query_check.proofs.Groups.{opened-wide, c-stops, no-c, c-held}
 use native.Mathlib.Omega.{arith}
 use borrow.Author.Needs.{needs}
@@ -24,7 +24,7 @@ holds-requires : tie.Need-holds-requires
 holds-requires c κs =
     let opened = c .before .before in
     let start = opened .before .before .before in
-    opened-wide present-powers _ _ _ _ _ (start .pre) (opened .opening-number .ensures) (c .before .if1 .left) (c .level-width .ensures) (omega arith)
+    opened-wide (powers _) _ _ _ _ _ (start .pre) (opened .opening-number .ensures) (c .before .if1 .left) (c .level-width .ensures) (omega arith)
 
 returns-2 : tie.Need-returns-2
 returns-2 c = search no-c

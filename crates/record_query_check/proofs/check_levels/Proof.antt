@@ -1,5 +1,5 @@
 -- `record_query_check::check_levels` meets its contract: from level l on, what is left to check gives the answer, and what is known is so.
-use Rattle.theory_record.proofs.Widths.{present-powers}
+use Rattle.theory_record.proofs.Widths.{powers}
 use Rattle.record_query_check.proofs.Again.{leads-next}
 use Rattle.record_opening.proofs.Again.{no-claim}
 use Rattle.record_opening.specs.helpers.Opening.{Known}
@@ -24,13 +24,13 @@ use Rattle.record_reader.proofs.level_at.Reads as level-at-reads
 use Rattle.theory_record.specs.Scheme.{scheme}
 
 abbrev Inv-loop : tie.InvT-loop
-Inv-loop base n k position challenges roots s l₀ at₀ old₀ l at old =
+Inv-loop base set n k position challenges roots s l₀ at₀ old₀ l at old =
     (l ≤ n) × (at ≤ length s) × (wholeItems levelForm (n - l) (drop at s) ≡ true)
-    × (checkFrom (scheme base n k) (index position) challenges roots s at l ≡ allAsked (scheme base n k) (index position) challenges roots s)
-    × (l < n → Known (scheme base n k) l (2 * pairOf (index position) l) s old (rootAt roots l))
+    × (checkFrom (scheme set base n k) (index position) challenges roots s at l ≡ allAsked (scheme set base n k) (index position) challenges roots s)
+    × (l < n → Known (scheme set base n k) l (2 * pairOf (index position) l) s old (rootAt roots l))
 
 abbrev μ-loop : tie.MeasureT-loop
-μ-loop base n k position challenges roots s l₀ at₀ old₀ l at old = n - l
+μ-loop base set n k position challenges roots s l₀ at₀ old₀ l at old = n - l
 
 loop-holds : tie.Need-loop-holds Inv-loop μ-loop
 loop-holds c =
@@ -56,8 +56,8 @@ level-number-requires c κs =
       known = inv .4 test;
     }
 
-cast-t14 : tie.Need-cast-t14 Inv-loop μ-loop
-cast-t14 c = search needs
+cast-t15 : tie.Need-cast-t15 Inv-loop μ-loop
+cast-t15 c = search needs
 
 returns : tie.Need-returns Inv-loop μ-loop
 returns c = search level-refused
@@ -82,7 +82,7 @@ loop-again c =
       level-places _ _ _ v .within,
       rest-there _ _ _ _ _ v t (i .2),
       level-passed _ _ _ _ _ _ _ _ _ _ v (asked .level-number .ensures) t (i .3) (c .if1 .left),
-      λ h e. leads-next _ present-powers _ _ _ _ _ _ _ _ (start .pre .0) h v (level-there _ _ _ _ _ v t (i .2)) (asked .level-number .ensures) (c .if1 .left),
+      λ h e. leads-next _ (powers _) _ _ _ _ _ _ _ _ (start .pre .0) h v (level-there _ _ _ _ _ v t (i .2)) (asked .level-number .ensures) (c .if1 .left),
     )
 
 returns-2 : tie.Need-returns-2 Inv-loop μ-loop
@@ -97,7 +97,7 @@ check-levels-spec =
     loop-holds
     level-at-requires
     level-number-requires
-    cast-t14
+    cast-t15
     returns
     add-l
     loop-less

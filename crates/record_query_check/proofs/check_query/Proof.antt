@@ -12,13 +12,15 @@ query-number-requires : tie.Need-query-number-requires
 query-number-requires c κs = search needs
 
 returns : tie.Need-returns
-returns c = search query-refused
+returns c = query-refused _ _ _ _ _ _ (c .before .query-number .ensures _) (c .if1 .taken)
 
 check-levels-requires : tie.Need-check-levels-requires
-check-levels-requires c κs = query-allowed _ _ _ _ _ _ (c .before .query-number .ensures) (c .if1 .left)
+check-levels-requires c κs = query-allowed _ _ _ _ _ _ (c .before .query-number .ensures _) (c .if1 .left)
 
 returns-2 : tie.Need-returns-2
-returns-2 c = search query-checked
+returns-2 c =
+    let asked = c .before .before in
+    query-checked _ _ _ _ _ _ (asked .query-number .ensures _) (c .before .if1 .left) _ (c .check-levels .ensures)
 
 pub check-query-spec : {M : Type 1} → statement M
 check-query-spec =

@@ -28,7 +28,7 @@ asked-c c = c .before .before .before .before
 abbrev number : tie.Start → ℕ
 number start =
     let a = start .args in
-    levelAsked (scheme (now (a .base)) (a .n) (a .k)) (index (a .position)) (now (a .challenges)) (now (a .roots)) (a .l) (now (a .s)) (a .at)
+    levelAsked (scheme (a .set) (now (a .base)) (a .n) (a .k)) (index (a .position)) (now (a .challenges)) (now (a .roots)) (a .l) (now (a .s)) (a .at)
 
 -- ---- what is asked of the code
 

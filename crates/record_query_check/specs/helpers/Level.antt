@@ -9,12 +9,17 @@ use lib.ListN.{length, drop}
 use Rattle.theory_laws.specs.Questions.{Question, _asks_, firstNo}
 use Rattle.theory_merkle.specs.Tree.{groupOf}
 use Rattle.theory_record.specs.Format.{runCount, runFits, levelForm, levelRead, recordWhole, recordItems}
-use Rattle.theory_record.specs.Query.{Answer, pairOf, valueAt, rootAt, levelNumber, checkLevels}
+use Rattle.theory_record.specs.Query.{Answer, pairOf, valueAt, rootAt, levelNumber, checkLevels, queryNumber}
 use Rattle.record_reader.specs.declared.Level.{Level}
 use Rattle.record_reader.specs.helpers.Places.{levelAt}
 use Rattle.record_opening.specs.declared.Opened.{Opened}
 use Rattle.record_opening.specs.helpers.Opening.{valuesAt, digestsAt, openingQuestions, Readable, Known}
-use Rattle.theory_record.specs.Scheme.{Scheme, widthAt}
+use Rattle.theory_record.specs.declared.WidthSet.{WidthSet}
+use Rattle.theory_record.specs.Scheme.{Scheme, scheme, widthAt}
+
+-- r is the number of 4, 5, 7, 11, 14 and 15, whatever the set of widths
+abbrev pub BeforeLevels : List ℕ → ℕ → ℕ → ℕ → List ℕ → List ℕ → List ℕ → ℕ → Type 0
+BeforeLevels base n k position challenges roots s r = (set : WidthSet) → r ≡ queryNumber (scheme set base n k) position challenges roots s
 
 -- 19 to 21
 abbrev pub pairHeld : ℕ → ℕ → List ℕ → ℕ → ℕ → List Question

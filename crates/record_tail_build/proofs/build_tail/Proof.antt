@@ -12,7 +12,7 @@ tail-number-requires : tie.Need-tail-number-requires
 tail-number-requires c κs = search needs
 
 returns : tie.Need-returns
-returns c = (number-is _ _ _ _ _ _ (c .before .tail-number .ensures), refused _ _ _ _ _ _ (c .before .tail-number .ensures) (c .if1 .taken))
+returns c = (number-is _ _ _ _ _ _ _ (c .before .tail-number .ensures), refused _ _ _ _ _ _ _ (c .before .tail-number .ensures) (c .if1 .taken))
 
 put-groups-requires : tie.Need-put-groups-requires
 put-groups-requires c κs = search allowed
@@ -26,7 +26,7 @@ returns-2 c =
     let asked = put .before .before .before in
     let e = asked .tail-number .ensures in
     let z = put .before .before .if1 .left in
-    (zero-is _ _ _ _ _ _ e z, done _ _ _ _ _ _ e _ z (put .put-groups .ensures))
+    (zero-is _ _ _ _ _ _ _ e z, done _ _ _ _ _ _ _ e _ z (put .put-groups .ensures))
 
 pub build-tail-spec : {M : Type 1} → statement M
 build-tail-spec =

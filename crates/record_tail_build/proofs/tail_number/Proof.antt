@@ -34,19 +34,19 @@ level-groups-requires c κs = let h = sizes-said _ _ _ (c .before .before .befor
 mul-if3 : tie.Need-mul-if3
 mul-if3 c =
     let sizes = sizes-said _ _ _ (c .before .before .before .before .size-number .ensures) (c .before .before .before .if1 .left) in
-    let h = groups-small _ _ _ sizes (c .level-groups .ensures) in
+    let h = groups-small _ _ _ _ sizes (c .level-groups .ensures) in
     search needs
 
 sub-if3 : tie.Need-sub-if3
 sub-if3 c =
     let sizes = sizes-said _ _ _ (c .before .before .before .before .size-number .ensures) (c .before .before .before .if1 .left) in
-    let h = groups-small _ _ _ sizes (c .level-groups .ensures) in
+    let h = groups-small _ _ _ _ sizes (c .level-groups .ensures) in
     search needs
 
 mul-if3-2 : tie.Need-mul-if3-2
 mul-if3-2 c =
     let sizes = sizes-said _ _ _ (c .before .before .before .before .size-number .ensures) (c .before .before .before .if1 .left) in
-    let h = groups-small _ _ _ sizes (c .level-groups .ensures) in
+    let h = groups-small _ _ _ _ sizes (c .level-groups .ensures) in
     search needs
 
 returns-3 : tie.Need-returns-3

@@ -21,42 +21,42 @@ level-depth-requires c κs = search needs
 mul-result : tie.Need-mul-result
 mul-result c =
     let h =
-    last-level (c .before .before .before .pre) (c .before .before .level-groups .ensures) (c .before .level-width .ensures) (c .level-depth .ensures) in
+    last-level _ (c .before .before .before .pre) (c .before .before .level-groups .ensures) (c .before .level-width .ensures) (c .level-depth .ensures) in
     let s = size-small h in
     search needs
 
 add-result : tie.Need-add-result
 add-result c =
     let h =
-    last-level (c .before .before .before .pre) (c .before .before .level-groups .ensures) (c .before .level-width .ensures) (c .level-depth .ensures) in
+    last-level _ (c .before .before .before .pre) (c .before .before .level-groups .ensures) (c .before .level-width .ensures) (c .level-depth .ensures) in
     let s = size-small h in
     search needs
 
 mul-result-2 : tie.Need-mul-result-2
 mul-result-2 c =
     let h =
-    last-level (c .before .before .before .pre) (c .before .before .level-groups .ensures) (c .before .level-width .ensures) (c .level-depth .ensures) in
+    last-level _ (c .before .before .before .pre) (c .before .before .level-groups .ensures) (c .before .level-width .ensures) (c .level-depth .ensures) in
     let s = size-small h in
     search needs
 
 add-result-2 : tie.Need-add-result-2
 add-result-2 c =
     let h =
-    last-level (c .before .before .before .pre) (c .before .before .level-groups .ensures) (c .before .level-width .ensures) (c .level-depth .ensures) in
+    last-level _ (c .before .before .before .pre) (c .before .before .level-groups .ensures) (c .before .level-width .ensures) (c .level-depth .ensures) in
     let s = size-small h in
     search needs
 
 mul-result-3 : tie.Need-mul-result-3
 mul-result-3 c =
     let h =
-    last-level (c .before .before .before .pre) (c .before .before .level-groups .ensures) (c .before .level-width .ensures) (c .level-depth .ensures) in
+    last-level _ (c .before .before .before .pre) (c .before .before .level-groups .ensures) (c .before .level-width .ensures) (c .level-depth .ensures) in
     let s = size-small h in
     search needs
 
 add-result-3 : tie.Need-add-result-3
 add-result-3 c =
     let h =
-    last-level (c .before .before .before .pre) (c .before .before .level-groups .ensures) (c .before .level-width .ensures) (c .level-depth .ensures) in
+    last-level _ (c .before .before .before .pre) (c .before .before .level-groups .ensures) (c .before .level-width .ensures) (c .level-depth .ensures) in
     let s = size-small h in
     search needs
 

@@ -23,7 +23,7 @@ GroupPut out from level tree width depth groups g out′ end =
 
 -- group g stands in the lent level and its path in the lent tree, and both fit
 pub record Room (out from level tree width depth groups g : ℕ) : Type 0 where
-  pub width-le : width ≤ 8
+  pub width-le : width ≤ 16
   pub groups-are : groups ≡ 2 ^ depth
   pub groups-le : groups ≤ 16
   pub group-lt : g < groups

@@ -3,17 +3,17 @@ use Prim.Native.Nat.{ℕ, _*_}
 use mathlib.Core.List.{List, [], _∷_, _++_}
 use lib.Dec.{eqb}
 use Rattle.theory_laws.specs.Questions.{Question, _asks_, firstNo}
-use Rattle.theory_record.specs.Widths.{present, levelLength, treeLength}
+use Rattle.theory_record.specs.Widths.{Widths, levelLength, treeLength}
 use Rattle.theory_record.specs.Sizes.{tailSize}
 use Rattle.theory_record.specs.Query.{sizeQuestions}
 
 -- 5, of the level, the tree and the record's buffer
-abbrev pub lengths : ℕ → ℕ → ℕ → ℕ → ℕ → List Question
-lengths n k level tree out =
+abbrev pub lengths : Widths → ℕ → ℕ → ℕ → ℕ → ℕ → List Question
+lengths s n k level tree out =
     (5 asks eqb level (2 * levelLength n k n)) ∷
-    (5 asks eqb tree (32 * treeLength present n k n)) ∷
-    (5 asks eqb out (tailSize present n k)) ∷
+    (5 asks eqb tree (32 * treeLength s n k n)) ∷
+    (5 asks eqb out (tailSize s n k)) ∷
     []
 
-unfoldable pub buildNumber : ℕ → ℕ → ℕ → ℕ → ℕ → ℕ
-buildNumber n k level tree out = firstNo (sizeQuestions n k ++ lengths n k level tree out)
+unfoldable pub buildNumber : Widths → ℕ → ℕ → ℕ → ℕ → ℕ → ℕ
+buildNumber s n k level tree out = firstNo (sizeQuestions n k ++ lengths s n k level tree out)

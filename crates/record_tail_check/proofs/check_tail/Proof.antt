@@ -18,7 +18,7 @@ load-requires : tie.Need-load-requires
 load-requires c κs = search root-room
 
 groups-number-requires : tie.Need-groups-number-requires
-groups-number-requires c κs = tail-allowed _ _ _ _ _ _ (c .before .before .head-number .ensures) (c .before .if1 .left) .1
+groups-number-requires c κs = tail-allowed _ _ _ _ _ _ _ (c .before .before .head-number .ensures) (c .before .if1 .left) .1
 
 returns-2 : tie.Need-returns-2
 returns-2 c =
@@ -26,7 +26,7 @@ returns-2 c =
     let asked = root .before .before in
     let e = asked .head-number .ensures in
     let z = root .before .if1 .left in
-    tail-passes _ _ _ _ _ _ _ e z _ _ (whole-root _ _ _ _ _ _ e z _ (root .load .ensures)) (c .groups-number .ensures)
+    tail-passes _ _ _ _ _ _ _ _ e z _ _ (whole-root _ _ _ _ _ _ _ e z _ (root .load .ensures)) (c .groups-number .ensures)
 
 pub check-tail-spec : {M : Type 1} → statement M
 check-tail-spec =

@@ -15,12 +15,12 @@ use Rattle.record_tail_check.proofs.groups_number.Statement.{statement}
 use Rattle.record_tail_check.proofs.groups_number.Tie as tie
 
 abbrev Inv-loop : tie.InvT-loop
-Inv-loop base n k root claim s groups width g₀ at₀ g at =
+Inv-loop base set n k root claim s groups width g₀ at₀ g at =
     (g ≤ groups) × (at ≤ length s) × (wholeItems tailForm (groups - g) (drop at s) ≡ true)
-    × (groupsLeft base n k root (word claim) s groups at g ≡ groupsNumber base n k root (word claim) s)
+    × (groupsLeft base set n k root (word claim) s groups at g ≡ groupsNumber base set n k root (word claim) s)
 
 abbrev μ-loop : tie.MeasureT-loop
-μ-loop base n k root claim s groups width g₀ at₀ g at = groups - g
+μ-loop base set n k root claim s groups width g₀ at₀ g at = groups - g
 
 level-groups-requires : tie.Need-level-groups-requires Inv-loop μ-loop
 level-groups-requires c κs = search needs
@@ -34,7 +34,7 @@ loop-holds c =
     let start = groups .before .before .before in
     let z = start .pre in
     let e = groups .level-groups .ensures in
-    (search needs, begin-within z e, begin-whole z e, begin-groups _ _ _ _ _ _ _ e)
+    (search needs, begin-within z e, begin-whole z e, begin-groups _ _ _ _ _ _ _ _ e)
 
 group-at-requires : tie.Need-group-at-requires Inv-loop μ-loop
 group-at-requires c κs = search needs
@@ -72,7 +72,7 @@ returns c =
     let read = first .before .before in
     let loop = read .before .before in
     let width = loop .before in
-    group-refused _ _ _ _ _ _ _ _ _ (loop .loop .inv .3) (read .group-at .ensures) (first-is first) (c .before .opening-number .ensures)
+    group-refused _ _ _ _ _ _ _ _ _ _ (loop .loop .inv .3) (read .group-at .ensures) (first-is first) (c .before .opening-number .ensures)
     (width .level-width .ensures) (read .before .loop-test .taken) (c .if1 .taken)
 
 add-g : tie.Need-add-g Inv-loop μ-loop
@@ -96,7 +96,7 @@ loop-again c =
       search needs,
       group-places _ _ _ v .within,
       rest-there (start .pre) (groups .level-groups .ensures) _ _ v t (i .2),
-      group-passed _ _ _ _ _ _ _ _ _ (i .3) v (first-is first) (asked .opening-number .ensures) (width .level-width .ensures) t (c .if1 .left),
+      group-passed _ _ _ _ _ _ _ _ _ _ (i .3) v (first-is first) (asked .opening-number .ensures) (width .level-width .ensures) t (c .if1 .left),
     )
 
 first-value-requires : tie.Need-first-value-requires Inv-loop μ-loop

@@ -1,7 +1,7 @@
 -- `claim_run_parts::questions::deposit_number` meets its contract.
 use native.Mathlib.Omega.{arith}
-use Rattle.theory_laws.proofs.Questions.{asks, asks-given}
-use Rattle.claim_run_parts.proofs.Numbers.{asks-twice, room-asked}
+use Rattle.theory_laws.proofs.Questions.{asks, asks-given, yes-eq, no-eq}
+use Rattle.claim_run_parts.proofs.Numbers.{asks-twice, roots-asked}
 use Rattle.code_codeword.proofs.Lengths.{gammas-fit}
 use Rattle.theory_record.proofs.Ranges.{sizes-small}
 use Rattle.code_level.proofs.Totals.{levels-fit}
@@ -15,7 +15,10 @@ use Rattle.code_level.proofs.levels_length.Reads as levels-length-reads
 use Rattle.code_level.proofs.trees_size.Reads as trees-size-reads
 
 mul-if1 : tie.Need-mul-if1
-mul-if1 c = let start : tie.Start = search in let p = start .pre in omega (arith, gammas-fit {n = start .args .n} {k = start .args .k} (p .n-most) (p .k-most))
+mul-if1 c =
+    let start : tie.Start = search in
+    let p = start .pre in
+    omega (arith, gammas-fit {n = start .args .n} {k = start .args .k} (p .n-most) (p .k-most))
 
 mul-if1-2 : tie.Need-mul-if1-2
 mul-if1-2 c =
@@ -60,10 +63,10 @@ mul-if6 : tie.Need-mul-if6
 mul-if6 c = search needs
 
 returns-6 : tie.Need-returns-6
-returns-6 c = search (asks, asks-given, asks-twice) depth 16 fits 8000
+returns-6 c = search (roots-asked, no-eq)
 
 returns-7 : tie.Need-returns-7
-returns-7 c = search room-asked
+returns-7 c = search (roots-asked, yes-eq)
 
 pub deposit-number-spec : {M : Type 1} → statement M
 deposit-number-spec =

@@ -22,7 +22,7 @@ build-level-requires : tie.Need-build-level-requires
 build-level-requires c κs =
     let asked : tie.After-number = search in
     let passed : tie.Else1 = search in
-    level-allowed _ _ _ _ _ _ (asked .number .ensures) (passed .if1 .left)
+    level-allowed _ _ _ _ _ _ _ (asked .number .ensures) (passed .if1 .left)
 
 same-length : tie.Need-same-length
 same-length c = search needs

@@ -52,7 +52,7 @@ returns c =
     let lent = domain .before .before in
     let start = lent .before .before .before in
     let y = start .pre in
-    level-built _ _ _ y (domain-is _ _ (y .base-le) (omega arith) (domain .level-domain .ensures) (search needs)) (count .level-length .ensures)
+    level-built _ _ _ _ y (domain-is _ _ (y .base-le) (omega arith) (domain .level-domain .ensures) (search needs)) (count .level-length .ensures)
     (width .level-width .ensures) (built .build .ensures .1)
 
 pub build-level-spec : {M : Type 1} → statement M

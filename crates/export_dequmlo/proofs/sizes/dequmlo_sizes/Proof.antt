@@ -1,39 +1,31 @@
 -- `export_dequmlo::sizes::dequmlo_sizes` meets its contract.
 use native.Mathlib.Omega.{arith}
-use Rattle.code_level.proofs.Sizes.{sizes-said}
 use Rattle.theory_record.proofs.Ranges.{SizesFit, sizes-small}
-use Rattle.export_dequmlo.proofs.Fixed.{gammas-small, sizes-refused, sizes-made}
+use Rattle.export_dequmlo.proofs.Fixed.{gammas-small, sizes-allowed, sizes-refused, sizes-made}
 use borrow.Author.Needs.{needs}
 use Rattle.export_dequmlo.proofs.sizes.dequmlo_sizes.Statement.{statement}
 use Rattle.export_dequmlo.proofs.sizes.dequmlo_sizes.Tie as tie
-use Rattle.export_dequmlo.proofs.sizes.dequmlo_sizes.Reads as reads
-use Rattle.export_dequmlo.proofs.sizes.dequmlo_sizes.Lts as lts
-use Rattle.code_codeword.proofs.sizes.power.Reads as power-reads
-use Rattle.code_commit.proofs.trees.tree_bytes.Reads as tree-bytes-reads
-use Rattle.code_level.proofs.level_length.Reads as level-length-reads
-use Rattle.code_level.proofs.levels_length.Reads as levels-length-reads
-use Rattle.code_level.proofs.size_number.Reads as size-number-reads
-use Rattle.code_level.proofs.trees_size.Reads as trees-size-reads
-use Rattle.record_query_build.proofs.query_size.Reads as query-size-reads
-use Rattle.record_tail_build.proofs.tail_size.Reads as tail-size-reads
 
 -- question 4 has its yes
 allowed : (c : tie.Else1) → SizesFit (c .before .before .args .n) (c .before .before .args .k)
-allowed c = sizes-said _ _ _ (c .before .size-number .ensures) (c .if1 .left)
+allowed c = sizes-allowed _ _ _ _ (c .before .sizes-number .ensures) (c .if1 .left)
 
-size-number-requires : tie.Need-size-number-requires
-size-number-requires c κs = search needs
+sizes-number-requires : tie.Need-sizes-number-requires
+sizes-number-requires c κs = search needs
 
 returns : tie.Need-returns
-returns c = sizes-refused _ _ _ (c .before .size-number .ensures) (c .if1 .taken)
+returns c = sizes-refused _ _ _ _ (c .before .sizes-number .ensures) (c .if1 .taken)
+
+set-of-requires : tie.Need-set-of-requires
+set-of-requires c κs = search needs
 
 power-requires : tie.Need-power-requires
 power-requires c κs =
     let passed : tie.Else1 = search in
     omega (arith, allowed passed .n-most)
 
-mul-t6 : tie.Need-mul-t6
-mul-t6 c =
+mul-t8 : tie.Need-mul-t8
+mul-t8 c =
     let passed : tie.Else1 = search in
     let h = gammas-small _ _ (allowed passed) in
     search needs
@@ -63,13 +55,13 @@ level-length-requires-2 c κs =
     let passed : tie.Else1 = search in
     (sizes-small _ _ (allowed passed), allowed passed .n-least)
 
-add-t12 : tie.Need-add-t12
-add-t12 c =
+add-t14 : tie.Need-add-t14
+add-t14 c =
     let passed : tie.Else1 = search in
     omega (arith, allowed passed .n-most)
 
-mul-t13 : tie.Need-mul-t13
-mul-t13 c =
+mul-t15 : tie.Need-mul-t15
+mul-t15 c =
     let passed : tie.Else1 = search in
     omega (arith, allowed passed .n-most)
 
@@ -95,38 +87,39 @@ tail-size-requires c κs =
 
 returns-2 : tie.Need-returns-2
 returns-2 c =
-    let sized : tie.After-size-number = search in
-    let passed : tie.Else1 = search in
-    let power : tie.After-power = search in
-    let level-length : tie.After-level-length = search in
-    let tree-bytes : tie.After-tree-bytes = search in
-    let levels-length : tie.After-levels-length = search in
-    let trees-size : tie.After-trees-size = search in
-    let level-length2 : tie.After-level-length2 = search in
-    let level-length3 : tie.After-level-length3 = search in
-    let tree-bytes2 : tie.After-tree-bytes2 = search in
-    let query-size : tie.After-query-size = search in
-    let tail-size : tie.After-tail-size = search in
-    sizes-made _ _ _ (sized .size-number .ensures) _ _ _ _ _ _ _ _ _ _
-    (passed .if1 .left) (power .power .ensures) (level-length .level-length .ensures) (tree-bytes .tree-bytes .ensures) (levels-length .levels-length .ensures) (trees-size .trees-size .ensures)
-    (level-length2 .level-length2 .ensures) (level-length3 .level-length3 .ensures) (tree-bytes2 .tree-bytes2 .ensures)
-    (query-size .query-size .ensures) (tail-size .tail-size .ensures)
+    let query-size = c .before in
+    let tree-bytes2 = query-size .before in
+    let level-length3 = tree-bytes2 .before in
+    let level-length2 = level-length3 .before in
+    let trees-size = level-length2 .before in
+    let levels-length = trees-size .before in
+    let tree-bytes = levels-length .before in
+    let level-length = tree-bytes .before in
+    let power = level-length .before in
+    let chosen = power .before in
+    let passed = chosen .before in
+    let sized = passed .before in
+    sizes-made _ _ _ _ (sized .sizes-number .ensures) _ _ _ _ _ _ _ _ _ _ _
+    (passed .if1 .left) (chosen .set-of .ensures) (power .power .ensures) (level-length .level-length .ensures) (tree-bytes .tree-bytes .ensures)
+    (levels-length .levels-length .ensures) (trees-size .trees-size .ensures) (level-length2 .level-length2 .ensures)
+    (level-length3 .level-length3 .ensures) (tree-bytes2 .tree-bytes2 .ensures) (query-size .query-size .ensures) (c .tail-size .ensures)
 
 pub dequmlo-sizes-spec : {M : Type 1} → statement M
 dequmlo-sizes-spec =
     tie.close
     (tie.spec
-    size-number-requires
+    sizes-number-requires
     returns
+    set-of-requires
     power-requires
-    mul-t6
+    mul-t8
     level-length-requires
     tree-bytes-requires
     levels-length-requires
     trees-size-requires
     level-length-requires-2
-    add-t12
-    mul-t13
+    add-t14
+    mul-t15
     level-length-requires-3
     tree-bytes-requires-2
     query-size-requires

@@ -37,12 +37,12 @@ returns-5 c = search needs
 mul-n : tie.Need-mul-n
 mul-n c =
     let start : tie.Start = search in
-    let h = mul-le-mul {n₁ = start .args .node} {m₁ = start .args .depth} {n₂ = 512} {m₂ = 64} (search needs) (search needs) in search needs
+    let h = mul-le-mul {n₁ = start .args .node} {m₁ = start .args .depth} {n₂ = 1024} {m₂ = 64} (search needs) (search needs) in search needs
 
 add-n : tie.Need-add-n
 add-n c =
     let start : tie.Start = search in
-    let h = mul-le-mul {n₁ = start .args .node} {m₁ = start .args .depth} {n₂ = 512} {m₂ = 64} (search needs) (search needs) in search needs
+    let h = mul-le-mul {n₁ = start .args .node} {m₁ = start .args .depth} {n₂ = 1024} {m₂ = 64} (search needs) (search needs) in search needs
 
 no-room-requires-6 : tie.Need-no-room-requires-6
 no-room-requires-6 c κs = search needs
