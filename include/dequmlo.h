@@ -28,9 +28,9 @@
 
 /* The version of this header, which is that of the archive beside it. */
 #define DEQUMLO_VERSION_MAJOR 0
-#define DEQUMLO_VERSION_MINOR 6
+#define DEQUMLO_VERSION_MINOR 7
 #define DEQUMLO_VERSION_PATCH 0
-#define DEQUMLO_VERSION "0.6.0"
+#define DEQUMLO_VERSION "0.7.0"
 
 /* The sets of widths. The present one has groups of 8 words in levels of 16 words or more, the wide one groups of 32 in levels of 64 or more. Shorter
    levels have groups of 2 words under either, and a level of one word has one. Seals that were made before version 0.6.0 have the present set. */
@@ -273,7 +273,7 @@ uint32_t dequmlo_build_query(uint8_t *out, size_t out_length, const uint64_t *le
 
 /* Checks a query record: 0 is accepted. The record may have any bytes and any length.
    Refuses: 4 (widths, n, k), 5 (challenges or roots), 7 (a base domain of more than 200 bytes), 11 (the position), 14 (it does not read whole),
-   15 (it has not n levels), and 16 to 26 with the level (docs/REFUSALS.md). */
+   15 (it has not n levels), and 16 to 26 with the level; 20 is retired (docs/REFUSALS.md). */
 dequmlo_checked dequmlo_check_query(const uint8_t *base, size_t base_length, uint32_t widths, size_t n, size_t k, size_t position,
                                     const uint64_t *challenges, size_t challenges_length, const uint8_t *roots, size_t roots_length,
                                     const uint8_t *record, size_t record_length);

@@ -17,7 +17,7 @@ import struct
 import sys
 from pathlib import Path
 
-# SPECIFICATION 8.2: the questions that a check puts.
+# SPECIFICATION 8.2: the questions that a check puts. 20 is retired.
 QUESTIONS = {
     4: "Is n at least 1 and at most 20, and k at most 4?",
     5: "Is there a challenge for each level, and a root more?",
@@ -29,7 +29,6 @@ QUESTIONS = {
     17: "Has the a path this level's depth?",
     18: "Do the a group and the a path lead to this level's root?",
     19: "Does the a group hold a?",
-    20: "Are the places of a and b in one group?",
     21: "Does the a group hold b?",
     22: "Has the c group the next level's width?",
     23: "Has the c path the next level's depth?",
@@ -239,7 +238,6 @@ def check_query(base, widths, n, k, position, challenges, roots, record):
         ask(17, len(a_path) == this.depth, l)
         ask(18, this.root(2 * q // w, a_group, a_path) == roots[l], l)
         ask(19, a_group[2 * q % w] == a, l)
-        ask(20, (2 * q + 1) // w == 2 * q // w, l)
         ask(21, a_group[(2 * q + 1) % w] == b, l)
         ask(22, len(c_group) == w_next, l)
         ask(23, len(c_path) == following.depth, l)

@@ -82,7 +82,7 @@ def heads_of_query(n, k):
 
 
 def of_level(l):
-    """16 to 26, 20 excepted."""
+    """16 to 26; 20 is retired."""
     ways = [
         (16, in_item(l, "a_group", longer)),
         (17, in_item(l, "a_path", longer)),

@@ -143,7 +143,6 @@ def check_query(base, widths, n, k, position, challenges, roots, record):
         root = root_of_path(level_domain(base, l), count, width, 2 * q, x.a_group, x.a_path)
         yield 18, l, root == roots[32 * l : 32 * (l + 1)]
         yield 19, l, x.a_group[2 * q % width] == x.a
-        yield 20, l, 2 * q // width == (2 * q + 1) // width
         yield 21, l, x.a_group[(2 * q + 1) % width] == x.b
         count, width, depth = shape(widths, n, k, l + 1)
         yield 22, l, len(x.c_group) == width

@@ -74,7 +74,8 @@ const COMMANDS: [Command; 12] = [
     Command {
         name: "explain",
         usage: "seal explain [NUMBER | older | widths]",
-        does: "Says what the number of a refusal means, and what to ask the holder for; which seals --older is for; or what the sets of widths are.",
+        does: "Says what the number of a refusal means, and what to ask the holder for, or that it is retired; which seals --older is for; or what the\n    \
+               sets of widths are.",
         takes: &["--json"],
     },
     Command {

@@ -152,6 +152,7 @@ fn json_is_one_object_whatever_happens() {
         (0, "version"),
         (0, "explain"),
         (0, "explain 18"),
+        (0, "explain 20"),
         (0, "explain widths"),
         (0, "demo --widths wide"),
         (2, "demo --widths broad"),

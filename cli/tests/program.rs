@@ -296,20 +296,63 @@ fn explaining() {
         ],
     );
     let all = desk.run("explain").out;
-    let numbers: Vec<&str> = all
-        .lines()
-        .filter(|line| line.starts_with(|c: char| c.is_ascii_digit()))
-        .map(|line| line.split(':').next().unwrap())
-        .collect();
-    assert_eq!(numbers.len(), 33);
+    let (explained, retired) = all.split_once("\nRetired numbers:\n").unwrap();
+    let numbers = numbers_of(explained);
+    assert_eq!(numbers.len(), 32);
     assert_eq!(
         numbers[23..],
-        ["1", "2", "3", "6", "8", "9", "10", "12", "13", "20"]
+        ["1", "2", "3", "6", "8", "9", "10", "12", "13"]
     );
+    assert!(!numbers.contains(&"20"));
+    assert_eq!(numbers_of(retired), ["20"]);
     desk.run("explain 34")
         .says(2, &["`34` is no refusal's number; they go from 1 to 33"]);
     desk.run("explain 0").says(2, &[]);
     assert!(all.contains("`seal explain older`") && all.contains("`seal explain widths`"));
+}
+
+/// The numbers that lines begin with.
+fn numbers_of(text: &str) -> Vec<&str> {
+    text.lines()
+        .filter(|line| line.starts_with(|c: char| c.is_ascii_digit()))
+        .map(|line| line.split(':').next().unwrap())
+        .collect()
+}
+
+/// A retired number is no wrong use: whoever asks is told that it is retired, since when, and what to do.
+#[test]
+fn explaining_a_retired_number() {
+    let desk = Desk::new("explain-retired");
+    let sentence = "retired since version 0.7.0: it asked whether a and b are in one group, and they always are";
+    let ask = "Ask which program wrote the report that names this number, and check the record again: no version of the library or of the program \
+               seal ever gave it.";
+    let lines = format!("20: {sentence}\n  {ask}\n");
+    let run = desk.run("explain 20");
+    assert_eq!((run.status, &*run.out), (0, &*lines));
+    let all = desk.run("explain").out;
+    assert!(
+        all.contains(&format!("\nRetired numbers:\n{lines}")),
+        "{all}"
+    );
+    assert_eq!(all.matches(sentence).count(), 1, "{all}");
+
+    let object = format!(
+        "{{\"number\": 20, \"since\": \"0.7.0\", \"sentence\": \"{sentence}\", \"ask\": \"{ask}\"}}"
+    );
+    desk.run("explain 20 --json").says(
+        0,
+        &[
+            "\"verdict\": \"done\"",
+            &format!("\"found\": {{\"explanations\": [], \"retired\": [{object}]}}"),
+        ],
+    );
+    desk.run("explain 18 --json").says(
+        0,
+        &["\"explanations\": [{\"number\": 18, ", "\"retired\": []"],
+    );
+    let both = desk.run("explain --json");
+    both.says(0, &[&format!("}}], \"retired\": [{object}]}}")]);
+    assert_eq!(both.out.matches("{\"number\": ").count(), 33);
 }
 
 #[test]

@@ -93,6 +93,7 @@ fn every_command_ends_with_the_status_that_is_documented() {
         (2, "show plan.txt".into()),
         (0, "explain".into()),
         (0, "explain 18".into()),
+        (0, "explain 20".into()),
         (2, "explain 34".into()),
         (0, "demo".into()),
         (2, "demo more".into()),

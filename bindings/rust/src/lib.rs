@@ -56,7 +56,7 @@ pub use buffers::Buffers;
 pub use deposit::{Deposit, Folded};
 pub use parameters::Parameters;
 pub use record::{Collision, QueryRecord, ShownLevel, Statement, TailRecord};
-pub use refusal::{Explanation, Refusal, EXPLANATIONS};
+pub use refusal::{Explanation, Refusal, Retired, EXPLANATIONS, RETIRED};
 pub use root::{ParseRootError, Root};
 pub use sizes::Sizes;
 pub use threads::Threads;

@@ -1,4 +1,5 @@
-//! Refusals, and the one table of sentences that says what each number means. docs/REFUSALS.md shows the same table; a test compares them.
+//! Refusals, the one table of sentences that says what each number means, and the numbers that are retired. docs/REFUSALS.md shows the same tables; a
+//! test compares them.
 
 use std::fmt;
 
@@ -10,7 +11,7 @@ use std::fmt;
 /// ```
 #[derive(Clone, Copy, Debug, PartialEq, Eq)]
 pub struct Refusal {
-    /// From 1 to 33.
+    /// From 1 to 33; 20 is retired.
     pub number: u32,
     /// The level of a query record at which 16 to 26 was found.
     pub level: Option<u32>,
@@ -19,11 +20,33 @@ pub struct Refusal {
 /// What a number means and what to ask the holder for.
 #[derive(Clone, Copy, Debug, PartialEq, Eq)]
 pub struct Explanation {
-    /// From 1 to 33.
+    /// From 1 to 33; 20 is retired.
     pub number: u32,
     /// What was found.
     pub sentence: &'static str,
     /// What to ask the holder for, or where to look.
+    pub ask: &'static str,
+}
+
+/// A number whose question is no longer asked. It is given to no other question, so that it never means two things.
+///
+/// ```
+/// use dequmlo::{Explanation, Refusal, Retired};
+///
+/// assert_eq!(Retired::of(20).unwrap().since, "0.7.0");
+/// assert_eq!(Explanation::of(20), None);
+/// let named = Refusal { number: 20, level: Some(3) };
+/// assert_eq!(named.sentence(), Retired::of(20).unwrap().sentence);
+/// ```
+#[derive(Clone, Copy, Debug, PartialEq, Eq)]
+pub struct Retired {
+    /// The number, which no [`Explanation`] has.
+    pub number: u32,
+    /// The first version of the library, the bindings and the program that does not ask its question.
+    pub since: &'static str,
+    /// That it is retired and since when, and what it asked.
+    pub sentence: &'static str,
+    /// What to do where a report names it.
     pub ask: &'static str,
 }
 
@@ -48,13 +71,22 @@ impl Refusal {
     /// What was found, as a sentence without its number.
     #[must_use]
     pub fn sentence(&self) -> &'static str {
-        Explanation::of(self.number).map_or("no question has this number", |e| e.sentence)
+        self.words()
+            .map_or("no question has this number", |(sentence, _)| sentence)
     }
 
     /// What to ask the holder for.
     #[must_use]
     pub fn ask(&self) -> &'static str {
-        Explanation::of(self.number).map_or("", |e| e.ask)
+        self.words().map_or("", |(_, ask)| ask)
+    }
+
+    /// The sentence and what to ask for. No call gives a retired number, but a refusal may be made of what some report says.
+    fn words(&self) -> Option<(&'static str, &'static str)> {
+        let retired = || Retired::of(self.number).map(|r| (r.sentence, r.ask));
+        Explanation::of(self.number)
+            .map(|e| (e.sentence, e.ask))
+            .or_else(retired)
     }
 }
 
@@ -70,7 +102,7 @@ impl fmt::Display for Refusal {
 impl std::error::Error for Refusal {}
 
 impl Explanation {
-    /// The explanation of a number from 1 to 33.
+    /// The explanation of a number from 1 to 33; none of 20, which is retired.
     #[must_use]
     pub fn of(number: u32) -> Option<&'static Explanation> {
         EXPLANATIONS.iter().find(|e| e.number == number)
@@ -79,7 +111,15 @@ impl Explanation {
     /// Whether nothing that a holder sends can lead to this number: it is an answer to a program that calls the library.
     #[must_use]
     pub fn no_holder_can_cause(&self) -> bool {
-        matches!(self.number, 1 | 2 | 3 | 6 | 8 | 9 | 10 | 12 | 13 | 20)
+        matches!(self.number, 1 | 2 | 3 | 6 | 8 | 9 | 10 | 12 | 13)
+    }
+}
+
+impl Retired {
+    /// What a retired number was; none where the number is not retired.
+    #[must_use]
+    pub fn of(number: u32) -> Option<&'static Retired> {
+        RETIRED.iter().find(|r| r.number == number)
     }
 }
 
@@ -104,8 +144,8 @@ const OTHER_GROUPS: &str =
 const PARAMETERS: &str =
     "Look at the seal's parameters.txt, or at --k and --domain: no deposit has these parameters.";
 
-/// Every number, in order.
-pub const EXPLANATIONS: [Explanation; 33] = [
+/// Every number that a call can give, in order: 1 to 33 but 20, which is retired. So a number is no place in this list; [`Explanation::of`] finds it.
+pub const EXPLANATIONS: [Explanation; 32] = [
     explained(1, "the word to invert is 0, which has no inverse", PROGRAM),
     explained(2, "the number of bytes to pack is not a multiple of 128", PROGRAM),
     explained(3, "a byte to pack is neither 0 nor 1", PROGRAM),
@@ -151,7 +191,6 @@ pub const EXPLANATIONS: [Explanation; 33] = [
          deposited. At another level ask for the roots again too.",
     ),
     explained(19, "the group of a does not have a at its place", AGAIN),
-    explained(20, "a and b are not in one group", "Nothing from the holder: this cannot happen. Please report it."),
     explained(21, "the group of a does not have b at its place", AGAIN),
     explained(22, "the group of c does not have the number of words that a group of the next level has", OTHER_SIZE),
     explained(23, "the path of c does not have the length that a path of the next level has", OTHER_SIZE),
@@ -186,3 +225,13 @@ pub const EXPLANATIONS: [Explanation; 33] = [
     ),
     explained(33, "the two records are the same", "Nothing: this is the good result."),
 ];
+
+/// Every retired number. Each is given to nothing else, in no later version.
+pub const RETIRED: [Retired; 1] = [Retired {
+    number: 20,
+    since: "0.7.0",
+    // A level that a record shows a pair of has groups of two words at least, and a pair begins at an even place.
+    sentence: "retired since version 0.7.0: it asked whether a and b are in one group, and they always are",
+    ask: "Ask which program wrote the report that names this number, and check the record again: no version of the library or of the program seal ever \
+          gave it.",
+}];

@@ -1,9 +1,10 @@
-//! `seal explain`: what a number means, and what to ask the holder for; which seals `--older` is for; and what the sets of widths are.
+//! `seal explain`: what a number means, and what to ask the holder for, or that it is retired; which seals `--older` is for; and what the sets of widths
+//! are.
 
 use crate::json::Json;
 use crate::options::Options;
 use crate::outcome::{texts, Failure, Outcome, Verdict};
-use dequmlo::{Explanation, EXPLANATIONS};
+use dequmlo::{Explanation, Retired, EXPLANATIONS, RETIRED};
 
 /// Which seals `--older` is for, and why none that was made before stops being accepted.
 const OLDER: [&str; 4] = [
@@ -41,14 +42,18 @@ pub fn run(options: &Options) -> Result<Outcome, Failure> {
         "widths" => return Ok(widths()),
         _ => (),
     }
-    let found = text.parse().ok().and_then(Explanation::of);
-    let explanation = found.ok_or_else(|| {
-        Failure(format!(
-            "`{text}` is no refusal's number; they go from 1 to 33; `seal explain older` says which seals --older is for, and `seal explain widths` what the sets of widths are"
-        ))
-    })?;
-    let outcome = Outcome::new(Verdict::Done, explanation.sentence).lines(lines(explanation));
-    Ok(outcome.found("explanations", json(&[explanation])))
+    let number = text.parse().ok();
+    if let Some(e) = number.and_then(Explanation::of) {
+        let outcome = Outcome::new(Verdict::Done, e.sentence).lines(explained(e));
+        return Ok(found(outcome, &[e], &[]));
+    }
+    if let Some(r) = number.and_then(Retired::of) {
+        let outcome = Outcome::new(Verdict::Done, r.sentence).lines(retired(r));
+        return Ok(found(outcome, &[], &[r]));
+    }
+    Err(Failure(format!(
+        "`{text}` is no refusal's number; they go from 1 to 33; `seal explain older` says which seals --older is for, and `seal explain widths` what the sets of widths are"
+    )))
 }
 
 fn older() -> Outcome {
@@ -67,37 +72,59 @@ fn widths() -> Outcome {
         .found("widths", texts(&WIDTHS))
 }
 
-/// Every number: first those that a holder can cause, then those that only a program can.
+/// Every number: first those that a holder can cause, then those that only a program can, then those that are retired.
 fn all() -> Outcome {
     let (programs, holders): (Vec<_>, Vec<_>) =
         EXPLANATIONS.iter().partition(|e| e.no_holder_can_cause());
-    let sentence = "Numbers of refusals, those that no holder can cause at the end:";
-    Outcome::new(Verdict::Done, sentence)
+    let gone: Vec<_> = RETIRED.iter().collect();
+    let sentence = "Numbers of refusals, those that no holder can cause and those that are retired at the end:";
+    let outcome = Outcome::new(Verdict::Done, sentence)
         .say()
-        .lines(holders.iter().copied().flat_map(lines))
+        .lines(holders.iter().copied().flat_map(explained))
         .lines(["Numbers that no holder can cause:".to_string()])
-        .lines(programs.iter().copied().flat_map(lines))
+        .lines(programs.iter().copied().flat_map(explained))
+        .lines(["Retired numbers:".to_string()])
+        .lines(gone.iter().copied().flat_map(retired))
         .lines([
             "`seal explain older` says which seals --older is for.".to_string(),
             "`seal explain widths` says what the sets of widths are.".to_string(),
-        ])
-        .found("explanations", json(&[holders, programs].concat()))
+        ]);
+    found(outcome, &[holders, programs].concat(), &gone)
 }
 
-fn lines(e: &Explanation) -> [String; 2] {
-    [
-        format!("{}: {}", e.number, e.sentence),
-        format!("  {}", e.ask),
-    ]
+fn explained(e: &Explanation) -> [String; 2] {
+    lines(e.number, e.sentence, e.ask)
 }
 
-fn json(explanations: &[&Explanation]) -> Json {
-    let one = |e: &&Explanation| {
+fn retired(r: &Retired) -> [String; 2] {
+    lines(r.number, r.sentence, r.ask)
+}
+
+fn lines(number: u32, sentence: &str, ask: &str) -> [String; 2] {
+    [format!("{number}: {sentence}"), format!("  {ask}")]
+}
+
+/// For programs: both lists, whichever has the number that was asked for.
+fn found(outcome: Outcome, explanations: &[&Explanation], retired: &[&Retired]) -> Outcome {
+    let explanation = |e: &&Explanation| {
         Json::object([
             ("number", Json::number(e.number)),
             ("sentence", Json::text(e.sentence)),
             ("ask", Json::text(e.ask)),
         ])
     };
-    Json::List(explanations.iter().map(one).collect())
+    let gone = |r: &&Retired| {
+        Json::object([
+            ("number", Json::number(r.number)),
+            ("since", Json::text(r.since)),
+            ("sentence", Json::text(r.sentence)),
+            ("ask", Json::text(r.ask)),
+        ])
+    };
+    outcome
+        .found(
+            "explanations",
+            Json::List(explanations.iter().map(explanation).collect()),
+        )
+        .found("retired", Json::List(retired.iter().map(gone).collect()))
 }

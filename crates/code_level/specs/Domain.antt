@@ -15,8 +15,11 @@ unfoldable pub domainNumber : List ℕ → ℕ → ℕ → ℕ
 domainNumber base l out = firstNo (domainQuestions base l out)
 
 -- its length: 4 and 7
+abbrev pub lengthQuestions : List ℕ → ℕ → List Question
+lengthQuestions base l = (4 asks leb l 20) ∷ (7 asks leb (length base) 200) ∷ []
+
 unfoldable pub lengthNumber : List ℕ → ℕ → ℕ
-lengthNumber base l = firstNo ((4 asks leb l 20) ∷ (7 asks leb (length base) 200) ∷ [])
+lengthNumber base l = firstNo (lengthQuestions base l)
 
 abbrev pub domainLengthOf : List ℕ → ℕ → DomainLength
 domainLengthOf base l =

@@ -35,8 +35,11 @@ unfoldable pub sizeNumber : ℕ → ℕ → ℕ → ℕ
 sizeNumber n k len = firstNo (sizeQuestions n k len)
 
 -- before that, 5 for 0 or 1 byte
+abbrev pub tailQuestions : List ℕ → List Question
+tailQuestions s = (5 asks leb 2 (length s)) ∷ sizeQuestions (at s 0) (at s 1) (length s)
+
 unfoldable pub tailNumber : List ℕ → ℕ
-tailNumber s = firstNo ((5 asks leb 2 (length s)) ∷ sizeQuestions (at s 0) (at s 1) (length s))
+tailNumber s = firstNo (tailQuestions s)
 
 -- the codeword of the table, under the gammas
 unfoldable pub codewordOf : ℕ → ℕ → List ℕ → List ℕ

@@ -1,6 +1,6 @@
 -- The groups of a level: the words that they hold, and the numbers of the questions put to them.
 use Prim.Native.Nat.{ℕ, _+_, _*_, _%_, _<_, _≤_}
-use mathlib.Core.Path.{_≡_, refl, sym, _∙_, ap, ap₂}
+use mathlib.Core.Path.{_≡_, refl, sym, _∙_, ap}
 use mathlib.Core.Bool.{Bool, true, false, not}
 use mathlib.Core.List.{List}
 use native.Mathlib.Omega.{arith}
@@ -9,7 +9,6 @@ use lib.Dec.{eqb}
 use lib.ListN.{length, drop}
 use Rattle.theory_laws.specs.Questions.{pick, Question, firstNo}
 use Rattle.theory_laws.specs.Lists.{part, leValue}
-use Rattle.theory_merkle.specs.Tree.{groupOf}
 use Rattle.theory_record.specs.Format.{runCount}
 use Rattle.theory_record.specs.Query.{valueAt}
 use Rattle.theory_record.proofs.Reading.{value-at}
@@ -77,22 +76,15 @@ module _ (S : Scheme) (l q : ℕ) (values : List ℕ) (path : List (List ℕ)) (
     pub no-a : not h ≡ true → 19 ≡ aNumber S l q values path root a b
     no-a f = a-passes w 19 z ew (rw (a-held, not-true h f))
 
-    module _ (f : not h ≡ false) (second : ℕ) (es : second ≡ 2 * q + 1) (t : Bool) (et : t ≡ eqb (groupOf second w) (groupOf first w)) where
-      one-group : eqb (groupOf (2 * q + 1) w) (groupOf (2 * q) w) ≡ t
-      one-group = sym (et ∙ ap₂ (λ (p r : ℕ). eqb (groupOf p w) (groupOf r w)) es ef)
+    module _ (f : not h ≡ false) (second : ℕ) (es : second ≡ 2 * q + 1) (h′ : Bool) (eh′ : h′ ≡ eqb (valueAt w second values) b) where
+      b-held : eqb (valueAt w (2 * q + 1) values) b ≡ h′
+      b-held = sym (eh′ ∙ ap (λ (p : ℕ). eqb (valueAt w p values) b) es)
 
-      pub two-groups : not t ≡ true → 20 ≡ aNumber S l q values path root a b
-      two-groups g = a-passes w 20 z ew (rw (a-held, not-false h f, one-group, not-true t g))
+      pub no-b : not h′ ≡ true → 21 ≡ aNumber S l q values path root a b
+      no-b f′ = a-passes w 21 z ew (rw (a-held, not-false h f, b-held, not-true h′ f′))
 
-      module _ (g : not t ≡ false) (h′ : Bool) (eh′ : h′ ≡ eqb (valueAt w second values) b) where
-        b-held : eqb (valueAt w (2 * q + 1) values) b ≡ h′
-        b-held = sym (eh′ ∙ ap (λ (p : ℕ). eqb (valueAt w p values) b) es)
-
-        pub no-b : not h′ ≡ true → 21 ≡ aNumber S l q values path root a b
-        no-b f′ = a-passes w 21 z ew (rw (a-held, not-false h f, one-group, not-false t g, b-held, not-true h′ f′))
-
-        pub both-held : not h′ ≡ false → 0 ≡ aNumber S l q values path root a b
-        both-held f′ = a-passes w 0 z ew (rw (a-held, not-false h f, one-group, not-false t g, b-held, not-false h′ f′))
+      pub both-held : not h′ ≡ false → 0 ≡ aNumber S l q values path root a b
+      both-held f′ = a-passes w 0 z ew (rw (a-held, not-false h f, b-held, not-false h′ f′))
 
 -- ---- 22 to 25
 

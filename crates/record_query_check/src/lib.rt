@@ -18,7 +18,6 @@ use record_reader::word_at;
 use theory_record::WidthSet;
 use tree_place::Place;
 use tree_place::in_group;
-use tree_place::same_group;
 ghost use mathlib.Core.Path.{_≡_};
 ghost use Prim.Native.Nat.{_<_};
 ghost use lib.Dec.{eqb};
@@ -65,7 +64,7 @@ fn holds(s: &[u8], group_at: usize, width: usize, place: Place, w: Word) -> bool
     same_word(v, w)
 }
 
-// 16 to 21: the group of a and b, at places 2q and 2q + 1 of level l. It may be known from the level before, whose c it holds.
+// 16 to 19 and 21: the group of a and b, at places 2q and 2q + 1 of level l. It may be known from the level before, whose c it holds.
 fn a_number(
     base: &[u8],
     set: WidthSet,
@@ -107,9 +106,6 @@ fn a_number(
         return 19;
     }
     let second = q.second_of_pair();
-    if !same_group(second, first, w) {
-        return 20;
-    }
     if !holds(s, group_at, w, second, b) {
         return 21;
     }

@@ -17,5 +17,8 @@ unfoldable pub partialNumber : ℕ → ℕ → ℕ → ℕ → ℕ
 partialNumber n packed eq out = firstNo (partialQuestions n packed eq out)
 
 -- the 128 partials
+abbrev pub foldQuestions : ℕ → List Question
+foldQuestions s = (5 asks eqb s 256) ∷ []
+
 unfoldable pub foldNumber : ℕ → ℕ
-foldNumber s = firstNo ((5 asks eqb s 256) ∷ [])
+foldNumber s = firstNo (foldQuestions s)

@@ -145,8 +145,8 @@ module _ (S : Scheme) (sized : (m : List ℕ) → length (S .digest m) ≡ 32) (
         let few = hu .ranges .sizes .n-most in
         let ex : length xs ≡ n = length-recordItems levelForm n u in
         let ey : length ys ≡ n = length-recordItems levelForm n v in
-        let dx = accepted-held S p position challenges roots u bu hu in
-        let dy = accepted-held S p position challenges roots v bv hv in
+        let dx = accepted-held S position challenges roots u bu hu in
+        let dy = accepted-held S position challenges roots v bv hv in
         so-tells H (AllSame xs ys) (u ≡ v) (NearestFrom S position 0 xs ys) (levelsFound S position 0 xs ys)
         (λ e. query-settled S position challenges roots u v bu bv hu hv e)
         (levels-tell 0 xs ys (omega arith) (ex ∙ sym ey) dx dy (hu .levels-hold) (hv .levels-hold))

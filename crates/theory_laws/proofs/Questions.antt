@@ -1,6 +1,6 @@
 -- Questions in order, in the form in which a chain of `if .. { return NUMBER; }` asks for them: `search asks depth D fits F`.
 use Prim.Native.Nat.{ℕ, _<_, _≤_}
-use mathlib.Core.Path.{_≡_, refl, sym, _∙_}
+use mathlib.Core.Path.{_≡_, refl, sym, _∙_, ap}
 use mathlib.Core.Bool.{Bool, true, false, not}
 use mathlib.Core.List.{List, [], _∷_, _++_}
 use native.Mathlib.Omega.{arith}
@@ -9,7 +9,7 @@ use mathlib.Core.Logic.{_⊎_, inl, inr}
 use lib.Dec.{T, leb, ltb, eqb}
 use Rattle.theory_laws.specs.Questions.{pick, both, Question, firstNo, onDone}
 use Rattle.theory_laws.specs.Lists.{same}
-use Rattle.theory_laws.proofs.Lists.{same-refl}
+use Rattle.theory_laws.proofs.Lists.{same-refl, both-true}
 
 -- the questions, one after the other, applied backwards
 module _ {A : Type 0} (r x y : A) where
@@ -109,6 +109,11 @@ pub yes-all : (qs : List Question) → AllYes qs → firstNo qs ≡ 0
 yes-all [] h = refl
 yes-all (q ∷ qs) h = rw (h .0) (yes-all qs (h .1))
 
+-- a question that says yes can be left out
+pub left-out : (xs ys : List Question) (q : Question) → q .yes? ≡ true → firstNo (xs ++ ys) ≡ firstNo (xs ++ q ∷ ys)
+left-out [] ys q h = rw h
+left-out (x ∷ xs) ys q h = ap (λ (r : ℕ). pick (x .yes?) r (x .number)) (left-out xs ys q h)
+
 -- all of a list in two parts
 pub yes-append : (xs ys : List Question) → AllYes xs → AllYes ys → AllYes (xs ++ ys)
 yes-append [] ys h k = k
@@ -118,25 +123,31 @@ pub append-yes : (xs ys : List Question) → AllYes (xs ++ ys) → AllYes xs × 
 append-yes [] ys h = (tt, h)
 append-yes (x ∷ xs) ys h = let r = append-yes xs ys (h .1) in ((h .0, r .0), r .1)
 
--- P where the test holds
-abbrev pub Where : Bool → Type 0 → Type 0
-Where true P = P
-Where false P = Unit
+pub true-both : (a b : Bool) → a ≡ true → b ≡ true → both a b ≡ true
+true-both a b e f = rw (e, f)
 
--- every question of number m says yes
-abbrev pub YesAt : ℕ → List Question → Type 0
-YesAt m [] = Unit
-YesAt m (q ∷ qs) = Where (eqb (q .number) m) (q .yes? ≡ true) × YesAt m qs
+-- ---- a test of numbers that every question's number passes
 
--- then m is not the answer
-pub never-no : (m : ℕ) (qs : List Question) → (m ≡ 0 → ⊥) → YesAt m qs → firstNo qs ≡ m → ⊥
-never-no m [] z h e = z (sym e)
-never-no m (q ∷ qs) z h e = go (q .yes?) (eqb (q .number) m) refl refl (h .0) e (never-no m qs z (h .1))
+abbrev pub numbersPass : (ℕ → Bool) → List Question → Bool
+numbersPass t [] = true
+numbersPass t (q ∷ qs) = both (t (q .number)) (numbersPass t qs)
+
+pub pass-append : (t : ℕ → Bool) (xs ys : List Question) → numbersPass t xs ≡ true → numbersPass t ys ≡ true → numbersPass t (xs ++ ys) ≡ true
+pass-append t [] ys h k = k
+pass-append t (q ∷ xs) ys h k =
+    let a = both-true (t (q .number)) (numbersPass t xs) h in
+    true-both (t (q .number)) (numbersPass t (xs ++ ys)) (a .0) (pass-append t xs ys (a .1) k)
+
+-- where 0 passes it, so does the answer
+pub answer-passes : (t : ℕ → Bool) → t 0 ≡ true → (qs : List Question) → numbersPass t qs ≡ true → t (firstNo qs) ≡ true
+answer-passes t z [] h = z
+answer-passes t z (q ∷ qs) h =
+    let a = both-true (t (q .number)) (numbersPass t qs) h in
+    go (q .yes?) (a .0) (answer-passes t z qs (a .1))
   where
-    go : (b t : Bool) → q .yes? ≡ b → eqb (q .number) m ≡ t → Where t (q .yes? ≡ true) → pick b (firstNo qs) (q .number) ≡ m → (firstNo qs ≡ m → ⊥) → ⊥
-    go true t x y u f rest = rest f
-    go false true x y u f rest = let w : _≡_ {A = ℕ} 0 1 = cc in omega arith
-    go false false x y u f rest = eqb-false (q .number) m y f
+    go : (b : Bool) → t (q .number) ≡ true → t (firstNo qs) ≡ true → t (pick b (firstNo qs) (q .number)) ≡ true
+    go true h rest = rest
+    go false h rest = h
 
 -- ---- tests
 
@@ -147,9 +158,6 @@ eqb-iff a b c d f g = go (eqb a b) refl
     go : (t : Bool) → eqb a b ≡ t → eqb a b ≡ eqb c d
     go true e = e ∙ sym (eq-eqb c d (f (eqb-true a b e)))
     go false e = e ∙ sym (ne-eqb c d (λ z. eqb-false a b e (g z)))
-
-pub true-both : (a b : Bool) → a ≡ true → b ≡ true → both a b ≡ true
-true-both a b e f = rw (e, f)
 
 pub same-yes : (a b : List ℕ) → a ≡ b → same a b ≡ true
 same-yes a b e = rw e (same-refl b)

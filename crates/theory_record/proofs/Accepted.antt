@@ -97,7 +97,6 @@ module _ (S : Scheme) where
             a-path = g .0 .depth;
             a-root = leads-at l (2 * q) (omega arith) (omega arith);
             has-a = value-of-group w (2 * q) (levelValues n k ws l) pos;
-            one-group = one;
             has-b = rw (← one) (value-of-group w (2 * q + 1) (levelValues n k ws l) pos);
             c-width = g .1 .width;
             c-path = g .1 .depth;

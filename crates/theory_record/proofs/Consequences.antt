@@ -1,73 +1,67 @@
--- What follows of the check of query records: 20 is never its answer, an accepted record has the size that n, k and the widths fix, and
--- two accepted records with the same groups and paths are the same bytes.
-use Prim.Native.Nat.{ℕ, suc, _+_, _*_, _<_, _≤_}
+-- What follows of the check of query records: its answer's number is 0 or that of a question it puts, an accepted record has the size that n, k
+-- and the widths fix, and two accepted records with the same groups and paths are the same bytes.
+use Prim.Native.Nat.{ℕ, suc, _+_, _*_}
 use mathlib.Core.Path.{_≡_, refl, sym, _∙_, ap, ap₂}
 use mathlib.Core.Bool.{Bool, true, false}
 use mathlib.Core.List.{List, [], _∷_}
-use native.Mathlib.Omega.{arith}
-use borrow.Author.Tests.{eq-eqb}
 use lib.Dec.{eqb}
 use lib.ListN.{length}
 use Rattle.theory_laws.specs.Table.{at}
 use Rattle.theory_laws.specs.Questions.{pick}
 use Rattle.theory_laws.proofs.Lists.{Bytes}
 use Rattle.theory_field.specs.Words.{words}
-use Rattle.theory_merkle.specs.Tree.{groupOf}
 pub use Rattle.theory_record.specs.Accepted.{SameOpenings}
-use Rattle.theory_record.specs.Widths.{Widths, levelWidth}
+use Rattle.theory_record.specs.Widths.{levelWidth}
 use Rattle.theory_record.specs.Format.{LevelRecord, levelForm, recordItems, recordBytes}
 use Rattle.theory_record.specs.Sizes.{querySize}
-use Rattle.theory_record.specs.Query.{refused, pairOf, valueAt, rootAt, levelQuestions, levelNumber, checkLevels, queryQuestions, queryNumber, checkQuery}
-use Rattle.theory_record.proofs.Widths.{PowersOfTwo, level-shape, width-pos, width-even, pair-group}
+use Rattle.theory_record.specs.Query.{Answer, refused, pairOf, valueAt, rootAt, levelQuestions, levelNumber, checkLevels, queryQuestions, queryNumber, checkQuery}
 use Rattle.theory_record.proofs.Records.{All, record-read, record-held, record-settles, length-recordItems}
 use Rattle.theory_record.proofs.Format.{LevelHeld, level-faithful}
 use Rattle.theory_record.proofs.Sizes.{LevelsShaped, query-fills}
 use Rattle.theory_record.proofs.Query.{LevelHolds, AllHold, QueryAccepted}
-use Rattle.theory_laws.proofs.Questions.{never-no}
+use Rattle.theory_laws.proofs.Questions.{numbersPass, answer-passes}
 use Rattle.theory_record.specs.Scheme.{Scheme}
 
--- ---- 20 cannot happen (SPECIFICATION 8.6)
+-- ---- the numbers that it answers: a test that 0 and every question's number pass is passed by the answer
 
--- the pair of any level that is queried is inside one group
-pub pair-in-one-group : (s : Widths) (n k l q : ℕ) → PowersOfTwo s → l < n + k → groupOf (2 * q + 1) (levelWidth s n k l) ≡ groupOf (2 * q) (levelWidth s n k l)
-pair-in-one-group s n k l q p h =
-    let z = level-shape s n k l p in
-    pair-group (levelWidth s n k l) q (width-pos s n k l z) (width-even s n k l z h)
+module _ (S : Scheme) (position : ℕ) (challenges roots : List ℕ) (t : ℕ → Bool) (zero-passes : t 0 ≡ true)
+    (levels-asked : (l : ℕ) (x : LevelRecord) → numbersPass t (levelQuestions S position challenges roots l x) ≡ true) where
+  open Scheme S using (n)
 
-module _ (S : Scheme) (p : PowersOfTwo (S .widths)) (position : ℕ) (challenges roots : List ℕ) where
-  open Scheme S using (widths as s, base, n, k)
-
-  pub level-never-20 : (l : ℕ) (x : LevelRecord) → l < n + k → levelNumber S position challenges roots l x ≡ 20 → ⊥
-  unfolding levelNumber
-  level-never-20 l x h =
-      never-no 20 (levelQuestions S position challenges roots l x) (λ z. omega arith)
-      (tt, (tt, (tt, (tt, (eq-eqb _ _ (pair-in-one-group s n k l (pairOf position l) p h), (tt, (tt, (tt, (tt, (tt, (tt, tt)))))))))))
-
-  levels-never-20 : (l : ℕ) (xs : List LevelRecord) → l + length xs ≤ n → checkLevels S position challenges roots l xs .number ≡ 20 → ⊥
-  unfolding checkLevels
-  levels-never-20 l [] h e = omega arith
-  levels-never-20 l (x ∷ xs) h e = go (eqb number 0) e (levels-never-20 (suc l) xs (omega arith))
+  levels-pass : (l : ℕ) (xs : List LevelRecord) → t (checkLevels S position challenges roots l xs .number) ≡ true
+  unfolding checkLevels levelNumber
+  levels-pass l [] = zero-passes
+  levels-pass l (x ∷ xs) = go (eqb number 0) (levels-pass (suc l) xs)
     where
       number : ℕ
       number = levelNumber S position challenges roots l x
 
-      go : (b : Bool) → pick b (checkLevels S position challenges roots (suc l) xs) (record { number = number; level = l }) .number ≡ 20
-          → (checkLevels S position challenges roots (suc l) xs .number ≡ 20 → ⊥) → ⊥
-      go true f rest = rest f
-      go false f rest = level-never-20 l x (omega arith) f
+      rest : Answer
+      rest = checkLevels S position challenges roots (suc l) xs
 
-  pub query-never-20 : (bytes : List ℕ) → checkQuery S position challenges roots bytes .number ≡ 20 → ⊥
+      go : (b : Bool) → t (rest .number) ≡ true → t (pick b rest (record { number = number; level = l }) .number) ≡ true
+      go true h = h
+      go false h = answer-passes t zero-passes (levelQuestions S position challenges roots l x) (levels-asked l x)
+
+  pub query-passes : (bytes : List ℕ) → numbersPass t (queryQuestions S position challenges roots bytes) ≡ true
+      → t (checkQuery S position challenges roots bytes .number) ≡ true
   unfolding checkQuery queryNumber
-  query-never-20 bytes e = go (eqb number 0) e
+  query-passes bytes asked = go (eqb number 0)
     where
       number : ℕ
       number = queryNumber S position challenges roots bytes
 
-      go : (b : Bool) → pick b (checkLevels S position challenges roots 0 (recordItems levelForm n bytes)) (refused number) .number ≡ 20 → ⊥
-      go true f = levels-never-20 0 (recordItems levelForm n bytes) (omega (arith, length-recordItems levelForm n bytes)) f
-      go false f = never-no 20 (queryQuestions S position challenges roots bytes) (λ z. omega arith) (tt, (tt, (tt, (tt, (tt, (tt, (tt, (tt, (tt, tt))))))))) f
+      rest : Answer
+      rest = checkLevels S position challenges roots 0 (recordItems levelForm n bytes)
 
-  -- ---- the size of an accepted record (SPECIFICATION 7.6)
+      go : (b : Bool) → t (pick b rest (refused number) .number) ≡ true
+      go true = levels-pass 0 (recordItems levelForm n bytes)
+      go false = answer-passes t zero-passes (queryQuestions S position challenges roots bytes) asked
+
+-- ---- the size of an accepted record (SPECIFICATION 7.6)
+
+module _ (S : Scheme) (position : ℕ) (challenges roots : List ℕ) where
+  open Scheme S using (widths as s, n, k)
 
   hold-shaped : (l : ℕ) (xs : List LevelRecord) → AllHold S position challenges roots l xs → All LevelHeld xs → LevelsShaped s n k l xs
   hold-shaped l [] h held = tt

@@ -17,5 +17,6 @@ pub mod Accepted
 pub mod Chain
 pub mod Committed
 pub mod Consequences
+pub mod Retired
 pub mod LevelTree
 pub mod Exactly

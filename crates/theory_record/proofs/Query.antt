@@ -26,13 +26,12 @@ module _ (S : Scheme) (l q r : ℕ) (ra rc : List ℕ) (x : LevelRecord) where
         a-path = eqb-true _ _ (y .1 .0);
         a-root = same-true _ _ (y .1 .1 .0);
         has-a = eqb-true _ _ (y .1 .1 .1 .0);
-        one-group = eqb-true _ _ (y .1 .1 .1 .1 .0);
-        has-b = eqb-true _ _ (y .1 .1 .1 .1 .1 .0);
-        c-width = eqb-true _ _ (y .1 .1 .1 .1 .1 .1 .0);
-        c-path = eqb-true _ _ (y .1 .1 .1 .1 .1 .1 .1 .0);
-        c-root = same-true _ _ (y .1 .1 .1 .1 .1 .1 .1 .1 .0);
-        has-c = eqb-true _ _ (y .1 .1 .1 .1 .1 .1 .1 .1 .1 .0);
-        folds = eqb-true _ _ (y .1 .1 .1 .1 .1 .1 .1 .1 .1 .1 .0);
+        has-b = eqb-true _ _ (y .1 .1 .1 .1 .0);
+        c-width = eqb-true _ _ (y .1 .1 .1 .1 .1 .0);
+        c-path = eqb-true _ _ (y .1 .1 .1 .1 .1 .1 .0);
+        c-root = same-true _ _ (y .1 .1 .1 .1 .1 .1 .1 .0);
+        has-c = eqb-true _ _ (y .1 .1 .1 .1 .1 .1 .1 .1 .0);
+        folds = eqb-true _ _ (y .1 .1 .1 .1 .1 .1 .1 .1 .1 .0);
       }
 
   pub holds-level : LevelHolds S l q r ra rc x → firstNo (pairQuestions S l q r ra rc x) ≡ 0
@@ -46,19 +45,16 @@ module _ (S : Scheme) (l q r : ℕ) (ra rc : List ℕ) (x : LevelRecord) where
             (
               eq-eqb _ _ (h .has-a),
               (
-                eq-eqb _ _ (h .one-group),
+                eq-eqb _ _ (h .has-b),
                 (
-                  eq-eqb _ _ (h .has-b),
+                  eq-eqb _ _ (h .c-width),
                   (
-                    eq-eqb _ _ (h .c-width),
+                    eq-eqb _ _ (h .c-path),
                     (
-                      eq-eqb _ _ (h .c-path),
+                      same-yes _ _ (h .c-root),
                       (
-                        same-yes _ _ (h .c-root),
-                        (
-                          eq-eqb _ _ (h .has-c),
-                          (eq-eqb _ _ (h .folds), tt),
-                        ),
+                        eq-eqb _ _ (h .has-c),
+                        (eq-eqb _ _ (h .folds), tt),
                       ),
                     ),
                   ),

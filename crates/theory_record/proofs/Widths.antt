@@ -212,7 +212,7 @@ module _ (s : Widths) (n k l : ℕ) (z : LevelShape s n k l) where
       even-power zero g = absurd (omega arith)
       even-power (suc i) g = omega arith
 
--- ---- a pair in a group of even width: 20 cannot happen (SPECIFICATION 8.6), and b stands behind a
+-- ---- a pair in a group of even width: both are in one group (SPECIFICATION 8.6), and b stands behind a
 
 split-place : (w x g r : ℕ) → x ≡ g * w + r → r < w → (x / w ≡ g) × (x % w ≡ r)
 split-place w x g r e h = rw e (digits-div g h, digits-mod g h)

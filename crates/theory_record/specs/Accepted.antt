@@ -10,7 +10,6 @@ use Rattle.theory_laws.specs.Table.{at}
 use Rattle.theory_laws.specs.Lists.{All, AllLong}
 use Rattle.theory_field.specs.Field.{_⊗_}
 use Rattle.theory_field.specs.Words.{words}
-use Rattle.theory_merkle.specs.Tree.{groupOf}
 use Rattle.theory_record.specs.Widths.{levelWidth, levelDepth, levelGroups}
 use Rattle.theory_record.specs.Trees.{leadsTo}
 use Rattle.theory_record.specs.Format.{LevelRecord, TailGroup, levelForm, tailForm, recordBytes}
@@ -72,7 +71,6 @@ module _ (S : Scheme) where
     pub a-path : length (x .aPath) ≡ levelDepth s n k l
     pub a-root : leadsTo S l (2 * q) (x .aGroup) (x .aPath) ≡ ra
     pub has-a : valueAt (levelWidth s n k l) (2 * q) (x .aGroup) ≡ x .a
-    pub one-group : groupOf (2 * q + 1) (levelWidth s n k l) ≡ groupOf (2 * q) (levelWidth s n k l)
     pub has-b : valueAt (levelWidth s n k l) (2 * q + 1) (x .aGroup) ≡ x .b
     pub c-width : length (x .cGroup) ≡ levelWidth s n k (suc l)
     pub c-path : length (x .cPath) ≡ levelDepth s n k (suc l)

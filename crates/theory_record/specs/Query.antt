@@ -10,7 +10,6 @@ use Rattle.theory_laws.specs.Questions.{pick, Question, _asks_, firstNo}
 use Rattle.theory_laws.specs.Lists.{part, same}
 use Rattle.theory_field.specs.Field.{_⊗_}
 use Rattle.theory_field.specs.Words.{words}
-use Rattle.theory_merkle.specs.Tree.{groupOf}
 use Rattle.theory_record.specs.Widths.{levelWidth, levelDepth}
 use Rattle.theory_record.specs.Trees.{leadsTo}
 use Rattle.theory_record.specs.Format.{LevelRecord, levelForm, runCount, recordWhole, recordItems}
@@ -52,7 +51,7 @@ sizeQuestions n k = (4 asks leb n 20) ∷ (4 asks leb k 4) ∷ (4 asks leb 1 n) 
 module _ (S : Scheme) where
   open Scheme S using (widths as s, base, n, k)
 
-  -- 16 to 26: what is put to level l, of which q is the pair, r the challenge, ra the root and rc the next level's root
+  -- 16 to 26, of which 20 is retired: what is put to level l, of which q is the pair, r the challenge, ra the root and rc the next level's root
   abbrev pub pairQuestions : ℕ → ℕ → ℕ → List ℕ → List ℕ → LevelRecord → List Question
   pairQuestions l q r ra rc x =
       let w = levelWidth s n k l in
@@ -61,7 +60,6 @@ module _ (S : Scheme) where
       (17 asks eqb (length (x .aPath)) (levelDepth s n k l)) ∷
       (18 asks same (leadsTo S l (2 * q) (x .aGroup) (x .aPath)) ra) ∷
       (19 asks eqb (valueAt w (2 * q) (x .aGroup)) (x .a)) ∷
-      (20 asks eqb (groupOf (2 * q + 1) w) (groupOf (2 * q) w)) ∷
       (21 asks eqb (valueAt w (2 * q + 1) (x .aGroup)) (x .b)) ∷
       (22 asks eqb (length (x .cGroup)) wc) ∷
       (23 asks eqb (length (x .cPath)) (levelDepth s n k (suc l))) ∷

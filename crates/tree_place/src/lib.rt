@@ -129,14 +129,6 @@ pub fn in_group(place: Place, width: usize) -> usize
     place.0 % width
 }
 
-// Are the values at two places in one group?
-pub fn same_group(a: Place, b: Place, width: usize) -> bool
-    requires { ⌜ 0 < width ⌝ }
-    ensures { λ r. ⌜ r ≡ eqb (groupOf (index a) width) (groupOf (index b) width) ⌝ }
-{
-    a.0 / width == b.0 / width
-}
-
 // Is x a power of two up to top, which is 2^m?
 fn is_power(x: usize, top: usize, m: usize) -> bool
     requires { ⌜ top ≡ 2 ^ m ⌝ }

@@ -1,7 +1,7 @@
 -- `record_query_check::a_number` meets its contract.
 use Rattle.theory_record.proofs.Widths.{powers}
 use Rattle.record_query_check.specs.helpers.Level.{WideGroup}
-use Rattle.record_query_check.proofs.Groups.{opened-wide, a-stops, no-a, two-groups, no-b, both-held}
+use Rattle.record_query_check.proofs.Groups.{opened-wide, a-stops, no-a, no-b, both-held}
 use denote.Ref.{now}
 use native.Mathlib.Omega.{arith}
 use borrow.Author.Needs.{needs}
@@ -40,24 +40,16 @@ returns-2 c = search no-a
 second-of-pair-requires : tie.Need-second-of-pair-requires
 second-of-pair-requires c κs = search needs
 
-same-group-requires : tie.Need-same-group-requires
-same-group-requires c κs =
-    let width : tie.After-level-width = search in
-    wide width .filled
-
-returns-3 : tie.Need-returns-3
-returns-3 c = search two-groups
-
 holds-requires-2 : tie.Need-holds-requires-2
 holds-requires-2 c κs =
     let width : tie.After-level-width = search in
     wide width
 
-returns-4 : tie.Need-returns-4
-returns-4 c = search no-b
+returns-3 : tie.Need-returns-3
+returns-3 c = search no-b
 
-returns-5 : tie.Need-returns-5
-returns-5 c = search both-held
+returns-4 : tie.Need-returns-4
+returns-4 c = search both-held
 
 pub a-number-spec : {M : Type 1} → statement M
 a-number-spec =
@@ -70,8 +62,6 @@ a-number-spec =
     holds-requires
     returns-2
     second-of-pair-requires
-    same-group-requires
-    returns-3
     holds-requires-2
-    returns-4
-    returns-5)
+    returns-3
+    returns-4)

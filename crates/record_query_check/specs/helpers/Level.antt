@@ -1,4 +1,4 @@
--- The questions put to a level of a query record in three parts: 16 to 21, 22 to 25, and 26, and what code needs to put them. Rests on the
+-- The questions put to a level of a query record in three parts: 16 to 21, of which 20 is retired, 22 to 25, and 26, and what code needs to put them. Rests on the
 -- three questions put to a group and its path.
 use Prim.Native.Nat.{ℕ, _+_, _*_, _^_, _≤_, _<_}
 use mathlib.Core.Path.{_≡_}
@@ -7,7 +7,6 @@ use lib.Dec.{eqb}
 use mathlib.Core.Bool.{true}
 use lib.ListN.{length, drop}
 use Rattle.theory_laws.specs.Questions.{Question, _asks_, firstNo}
-use Rattle.theory_merkle.specs.Tree.{groupOf}
 use Rattle.theory_record.specs.Format.{runCount, runFits, levelForm, levelRead, recordWhole, recordItems}
 use Rattle.theory_record.specs.Query.{Answer, pairOf, valueAt, rootAt, levelNumber, checkLevels, queryNumber}
 use Rattle.record_reader.specs.declared.Level.{Level}
@@ -21,11 +20,10 @@ use Rattle.theory_record.specs.Scheme.{Scheme, scheme, widthAt}
 abbrev pub BeforeLevels : List ℕ → ℕ → ℕ → ℕ → List ℕ → List ℕ → List ℕ → ℕ → Type 0
 BeforeLevels base n k position challenges roots s r = (set : WidthSet) → r ≡ queryNumber (scheme set base n k) position challenges roots s
 
--- 19 to 21
+-- 19 and 21
 abbrev pub pairHeld : ℕ → ℕ → List ℕ → ℕ → ℕ → List Question
 pairHeld w q values a b =
     (19 asks eqb (valueAt w (2 * q) values) a) ∷
-    (20 asks eqb (groupOf (2 * q + 1) w) (groupOf (2 * q) w)) ∷
     (21 asks eqb (valueAt w (2 * q + 1) values) b) ∷
     []
 
