@@ -4,7 +4,7 @@ use mathlib.Core.Path.{_≡_, refl}
 use mathlib.Core.Bool.{Bool, true, false}
 use mathlib.Core.List.{List, [], _∷_, _++_}
 use native.Mathlib.Omega.{arith}
-use lib.Dec.{leb}
+use lib.Dec.{leb, eqb}
 use lib.ListN.{length}
 use Rattle.theory_laws.specs.Questions.{pick, Question, firstNo}
 use Rattle.theory_laws.proofs.Questions.{numbersPass, pass-append, answer-passes}
@@ -27,8 +27,10 @@ use Rattle.theory_merkle.specs.Numbers.{leafNumber, nodeNumber, buildNumber, op
 use Rattle.theory_merkle.specs.PartQuestions.{leavesQuestions, leavesNumber, parentsQuestions, parentsNumber}
 use Rattle.theory_code.specs.Questions as code
 use Rattle.theory_code.specs.PartQuestions.{blockQuestions, blockNumber, halfQuestions, halfNumber, foldPartQuestions, foldPartNumber}
+use Rattle.code_codeword.specs.declared.Folded.{Folded}
 use Rattle.theory_claim.specs.Commit.{commitQuestions, commitNumber}
 use Rattle.code_level.specs.Sizes.{sizeNumber}
+use Rattle.code_level.specs.declared.domain.DomainLength.{DomainLength}
 use Rattle.code_level.specs.Domain.{lengthQuestions, lengthNumber, domainQuestions, domainNumber}
 use Rattle.code_commit.specs.Level.{levelQuestions, levelTreeNumber}
 use Rattle.code_level_parts.specs.Numbers as levelPart
@@ -36,10 +38,12 @@ use Rattle.code_fold_levels.specs.Levels.{lentQuestions, foldLevelsNumber}
 use Rattle.theory_record.specs.Build.{buildQueryQuestions, buildQueryNumber, buildTailQuestions, buildTailNumber}
 use Rattle.theory_record.specs.Query.{sizeQuestions}
 use Rattle.theory_record.specs.Tail.{groupsQuestions, tailQuestions, checkTail}
-use Rattle.theory_compare.specs.Compare.{compareQuestions, compareNumber}
+use Rattle.theory_compare.specs.Compare.{Comparison, compareQuestions, compareNumber, compared}
 use Rattle.claim_run_parts.specs.Questions as run
 use Rattle.export_tail_entries.specs.Tail as list
 use Rattle.export_dequmlo.specs.Sets.{setOf, withSet}
+use Rattle.export_dequmlo.specs.Sizes.{sizesNumber}
+use Rattle.export_dequmlo.specs.declared.sizes.Sizes.{Sizes}
 use Rattle.export_numbers.specs.Numbers.{among, known, Known}
 use Rattle.export_numbers.specs.Entries.{EveryEntry}
 
@@ -63,13 +67,15 @@ module _ (S : Scheme) (root : List ℕ) where
       pass-append known (groupsQuestions S root 0 (recordItems tailForm (levelGroups s n k n) bytes)) _
       (groups-known 0 (recordItems tailForm (levelGroups s n k n) bytes)) refl
 
-number-known : (widths : ℕ) (number : WidthSet → ℕ) → ((set : WidthSet) → Known (number set)) → Known (withSet widths number 4)
-unfolding known among
-number-known widths number h = go (leb widths 1)
-  where
-    go : (b : Bool) → Known (pick b (number (setOf widths)) 4)
-    go true = h (setOf widths)
-    go false = refl
+-- one of two answers
+module _ {A : Type 0} (number : A → ℕ) where
+  either-known : (b : Bool) (x y : A) → Known (number x) → Known (number y) → Known (number (pick b x y))
+  either-known true x y h k = h
+  either-known false x y h k = k
+
+  set-known : (widths : ℕ) (made : WidthSet → A) (instead : A) → ((set : WidthSet) → Known (number (made set))) → Known (number instead)
+      → Known (number (withSet widths made instead))
+  set-known widths made instead h k = either-known (leb widths 1) (made (setOf widths)) instead (h (setOf widths)) k
 
 pub every-entry : EveryEntry
 unfolding known among
@@ -79,7 +85,7 @@ unfolding known among
     code.deriveNumber code.shiftNumber code.encodeNumber code.foldNumber blockNumber halfNumber foldPartNumber
     commitNumber sizeNumber lengthNumber domainNumber levelTreeNumber
     levelPart.nextPartNumber levelPart.levelLeavesNumber levelPart.levelParentsNumber foldLevelsNumber
-    buildQueryNumber buildTailNumber checkTail compareNumber run.runNumber list.tailNumber
+    buildQueryNumber buildTailNumber checkTail compared compareNumber sizesNumber run.runNumber list.tailNumber
 every-entry =
     record {
       inv = λ a. asked (inverseQuestions a) refl;
@@ -106,11 +112,15 @@ every-entry =
       encode = λ n k table gammas out. asked (code.encodeQuestions n k table gammas out) refl;
       block = λ n k eps table gammas out. asked (blockQuestions n k eps table gammas out) refl;
       half = λ n k half table gammas out. asked (halfQuestions n k half table gammas out) refl;
-      fold = λ n k var src out. asked (code.foldQuestions n k var src out) refl;
+      fold = λ n k var src out.
+          either-known (λ (r : Folded). r .number) (eqb (code.foldNumber n k var src out) 0) _ _ refl (asked (code.foldQuestions n k var src out) refl);
       fold-part = λ n k var first src out. asked (foldPartQuestions n k var first src out) refl;
       commit = λ s n k base table gammas codeword tree. asked (commitQuestions s n k base table gammas codeword tree) refl;
-      sizes = λ n k. asked (sizeQuestions n k) refl;
-      domain-length = λ base l. asked (lengthQuestions base l) refl;
+      sizes = λ widths n k.
+          either-known (λ (r : Sizes). r .number) (eqb (sizesNumber widths n k) 0) _ _ refl
+          (set-known (λ x. x) widths (λ _. sizeNumber n k) 4 (λ _. asked (sizeQuestions n k) refl) refl);
+      domain-length = λ base l.
+          either-known (λ (r : DomainLength). r .number) (eqb (lengthNumber base l) 0) _ _ refl (asked (lengthQuestions base l) refl);
       domain = λ base l out. asked (domainQuestions base l out) refl;
       level-tree = λ s n k l base values tree. asked (sizeQuestions n k ++ levelQuestions s n k l base values tree) refl;
       next-part = λ n k l first values out. asked (levelPart.nextPartQuestions n k l first values out) refl;
@@ -122,11 +132,13 @@ every-entry =
       check-query = λ S position challenges roots bytes. query-passes S position challenges roots known refl (λ l x. refl) bytes refl;
       build-tail = λ s n k level tree out. asked (buildTailQuestions s n k level tree out) refl;
       check-tail = λ S root claim bytes. asked (tailQuestions S root claim bytes) (tail-known S root claim bytes);
-      compare = λ S position challenges roots first second old old′. asked (compareQuestions S position challenges roots first second old old′) refl;
+      compare = λ S position challenges roots first second old old′.
+          either-known (λ (r : Comparison). r .number) (eqb (compareNumber S position challenges roots first second old old′) 0) _ _ refl
+          (asked (compareQuestions S position challenges roots first second old old′) refl);
       whole-run = λ s n k position base table calls challenges gammas levels half kept trees roots query tail one two.
           asked (run.runQuestions s n k position base table calls challenges gammas levels half kept trees roots query tail one two) refl;
       tail-list = λ input. asked (list.tailQuestions input) refl;
-      by-number = number-known;
+      by-number = set-known;
     }
 
 -- the retired number is no answer

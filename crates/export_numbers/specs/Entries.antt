@@ -1,5 +1,5 @@
--- Every entry that puts questions (SPECIFICATION 8.4, in its order) answers 0 or the number of a question: a fact for each, of the number that its contract
--- names, whatever it is given. A comment has the entry's row. Rests on the questions of all entries.
+-- Every entry that puts questions (SPECIFICATION 8.4) answers 0 or the number of a question: a fact for each, of the number that its contract names, whatever
+-- it is given. The comment over a fact has the first column of the entry's row, or of two rows whose entries put the same questions. Rests on the questions of all entries.
 use Prim.Native.Nat.{ℕ}
 use mathlib.Core.List.{List}
 use Rattle.theory_record.specs.declared.WidthSet.{WidthSet}
@@ -19,22 +19,23 @@ use Rattle.theory_merkle.specs.Numbers.{leafNumber, nodeNumber, buildNumber, op
 use Rattle.theory_merkle.specs.PartQuestions.{leavesNumber, parentsNumber}
 use Rattle.theory_code.specs.Questions.{deriveNumber, shiftNumber, encodeNumber, foldNumber}
 use Rattle.theory_code.specs.PartQuestions.{blockNumber, halfNumber, foldPartNumber}
+use Rattle.code_codeword.specs.Answers.{foldedOf}
 use Rattle.theory_claim.specs.Commit.{commitNumber}
-use Rattle.code_level.specs.Sizes.{sizeNumber}
-use Rattle.code_level.specs.Domain.{lengthNumber, domainNumber}
+use Rattle.code_level.specs.Domain.{domainLengthOf, domainNumber}
 use Rattle.code_commit.specs.Level.{levelTreeNumber}
 use Rattle.code_level_parts.specs.Numbers.{nextPartNumber, levelLeavesNumber, levelParentsNumber}
 use Rattle.code_fold_levels.specs.Levels.{foldLevelsNumber}
 use Rattle.theory_record.specs.Build.{buildQueryNumber, buildTailNumber}
 use Rattle.theory_record.specs.Query.{checkQuery}
 use Rattle.theory_record.specs.Tail.{checkTail}
-use Rattle.theory_compare.specs.Compare.{compareNumber}
+use Rattle.theory_compare.specs.Compare.{compared}
 use Rattle.claim_run_parts.specs.Questions as run
 use Rattle.export_tail_entries.specs.Tail.{tailNumber}
 use Rattle.export_dequmlo.specs.Sets.{withSet}
+use Rattle.export_dequmlo.specs.Sizes.{sizesOf}
 use Rattle.export_numbers.specs.Numbers.{Known}
 
-pub record EveryEntry : Type 0 where
+pub record EveryEntry : Type 1 where
   -- inv
   pub inv : (a : ℕ) → Known (inverseOf a .0)
   -- import_run; export_run
@@ -83,15 +84,15 @@ pub record EveryEntry : Type 0 where
   -- half a block of the codeword
   pub half : (n k half table gammas out : ℕ) → Known (halfNumber n k half table gammas out)
   -- fold
-  pub fold : (n k var src out : ℕ) → Known (foldNumber n k var src out)
+  pub fold : (n k var src out : ℕ) → Known (foldedOf n (foldNumber n k var src out) .number)
   -- a fold, in part
   pub fold-part : (n k var first src out : ℕ) → Known (foldPartNumber n k var first src out)
   -- commit
   pub commit : (s : Widths) (n k base table gammas codeword tree : ℕ) → Known (commitNumber s n k base table gammas codeword tree)
   -- sizes
-  pub sizes : (n k : ℕ) → Known (sizeNumber n k)
+  pub sizes : (widths n k : ℕ) → Known (sizesOf widths n k .number)
   -- length of a level's domain
-  pub domain-length : (base : List ℕ) (l : ℕ) → Known (lengthNumber base l)
+  pub domain-length : (base : List ℕ) (l : ℕ) → Known (domainLengthOf base l .number)
   -- a level's domain
   pub domain : (base : List ℕ) (l out : ℕ) → Known (domainNumber base l out)
   -- a level's tree
@@ -114,11 +115,13 @@ pub record EveryEntry : Type 0 where
   pub check-tail : (S : Scheme) (root : List ℕ) (claim : ℕ) (bytes : List ℕ) → Known (checkTail S root claim bytes)
   -- compare two query records
   pub compare : (S : Scheme) (position : ℕ) (challenges roots first second old old′ : List ℕ)
-      → Known (compareNumber S position challenges roots first second old old′)
+      → Known (compared S position challenges roots first second old old′ .number)
   -- the whole run (10.4)
   pub whole-run : (s : Widths) (n k position base table calls challenges gammas levels half kept trees roots query tail one two : ℕ)
       → Known (run.runNumber s n k position base table calls challenges gammas levels half kept trees roots query tail one two)
   -- the program tail-list
   pub tail-list : (input : List ℕ) → Known (tailNumber input)
-  -- an exported function that is given the number of a set of widths: what its entry answers under the set, or 4
-  pub by-number : (widths : ℕ) (number : WidthSet → ℕ) → ((set : WidthSet) → Known (number set)) → Known (withSet widths number 4)
+  -- an exported function that is given the number of a set of widths: where the entry's answer under each set has such a number, and so has the one that is
+  -- given instead (4), then what it answers has
+  pub by-number : {A : Type 0} (number : A → ℕ) (widths : ℕ) (made : WidthSet → A) (instead : A) → ((set : WidthSet) → Known (number (made set)))
+      → Known (number instead) → Known (number (withSet widths made instead))

@@ -62,14 +62,14 @@ module _ (S : Scheme) where
   open Scheme S using (widths as s, n, k)
 
   -- 20: are the places of a and b, the pair q of level l, in one group?
-  abbrev pub asked20 : ℕ → ℕ → Question
-  asked20 l q = let w = levelWidth s n k l in 20 asks eqb (groupOf (2 * q + 1) w) (groupOf (2 * q) w)
+  abbrev pub question20 : ℕ → ℕ → Question
+  question20 l q = let w = levelWidth s n k l in 20 asks eqb (groupOf (2 * q + 1) w) (groupOf (2 * q) w)
 
   -- 16 to 26: today's questions, and 20 behind the first four of them
   abbrev pub oldPairQuestions : ℕ → ℕ → ℕ → List ℕ → List ℕ → LevelRecord → List Question
   oldPairQuestions l q r ra rc x =
       let today = pairQuestions S l q r ra rc x in
-      take 4 today ++ asked20 l q ∷ drop 4 today
+      take 4 today ++ question20 l q ∷ drop 4 today
 
   -- its numbers in order, and today's: the others kept theirs, and their order
   pub old-numbers : (l q r : ℕ) (ra rc : List ℕ) (x : LevelRecord) → numbersOf (oldPairQuestions l q r ra rc x)
@@ -105,7 +105,7 @@ module _ (S : Scheme) (p : PowersOfTwo (S .widths)) (position : ℕ) (challenges
   level-as-before l x h =
       let today : List Question = levelQuestions S position challenges roots l x in
       let yes = eq-eqb _ _ (in-one-group s p n k l (pairOf position l) h .one-group) in
-      left-out (take 4 today) (drop 4 today) (asked20 S l (pairOf position l)) yes
+      left-out (take 4 today) (drop 4 today) (question20 S l (pairOf position l)) yes
 
   levels-as-before : (l : ℕ) (xs : List LevelRecord) → l + length xs ≤ n
       → checkLevels S position challenges roots l xs ≡ oldCheckLevels S position challenges roots l xs
