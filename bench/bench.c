@@ -76,6 +76,53 @@ static void products(void) {
     line("inverse", "inv", ours, plain);
 }
 
+/* A word with 8 bits set, one in each 16 of its bits. */
+static word eight_bits(void) {
+    uint64_t halves[2] = {0, 0}, places = next();
+    for (int i = 0; i < 8; i++) halves[i / 4] |= (uint64_t)1 << (16 * (i % 4) + (int)(places >> 4 * i & 15));
+    return (word){halves[0], halves[1]};
+}
+
+/* The sum of phi over words, each in a call of its own. */
+enum { WORDS = 1 << 12 };
+static word sum_of(word phi(word, coefficients), const word *s, const coefficients *c) {
+    word sum = {0, 0};
+    for (size_t v = 0; v < WORDS; v++) {
+        word p = phi(s[v], *c);
+        sum = (word){sum.lo ^ p.lo, sum.hi ^ p.hi};
+    }
+    return sum;
+}
+
+static void phi_of(const char *what, const char *rust, const word *s, const coefficients *c) {
+    double ours, plain;
+    word sum, other;
+    BEST(ours, 1, sum = sum_of(dequmlo_test_phi_c, s, c));
+    BEST(plain, 1, other = sum_of(plain_phi, s, c));
+    must(same(sum, other), what);
+    line(what, rust, ours / WORDS, plain / WORDS);
+}
+
+/* phi of a word by its set bits, by tables that are filled for it, and by tables that are filled once for all. */
+static void phi(void) {
+    double ours;
+    word *s = (word *)words(WORDS), *few = (word *)words(WORDS), sum;
+    coefficients c;
+    for (size_t i = 0; i < 128; i++) c.words[i] = next_word();
+    for (size_t v = 0; v < WORDS; v++) few[v] = eight_bits();
+    word plain = sum_of(plain_phi, s, &c);
+    phi_of("phi of a word", "phi_c", s, &c);
+    phi_of("phi of a word with 8 bits set", "phi_c_8_bits", few, &c);
+    BEST(ours, 1, sum = sum_of(dequmlo_test_phi_tab, s, &c));
+    must(same(sum, plain), "phi by tables, filled for it");
+    alone("phi of a word by tables, filled for it", "phi_tab_filled", ours / WORDS);
+    BEST(ours, 1, sum = dequmlo_test_phi_tab_sum((const uint64_t *)s, 2 * WORDS, c));
+    must(same(sum, plain), "phi by tables, once filled");
+    alone("phi of a word by tables, once filled", "phi_tab_apply", ours / WORDS);
+    free(s);
+    free(few);
+}
+
 static void runs(void) {
     enum { N = 1 << 16 };
     double ours, plain;
@@ -194,6 +241,7 @@ int main(int count, char **arguments) {
     products();
     runs();
     equality();
+    phi();
     ghash();
     long_digest();
     double leaf = messages(253, "message of 253 bytes", "the same, four at once", "leaf_width8_domain20");

@@ -43,9 +43,11 @@ typedef struct {
     size_t n;
 } folded;
 
-typedef struct {
-    word words[128];
-} coefficients;
+word dequmlo_test_phi_c(word w, coefficients c);
+word dequmlo_test_phi_tab(word w, coefficients c);
+
+/* The sum of phi over the words of a run, by tables that are filled once. */
+word dequmlo_test_phi_tab_sum(const uint64_t *s, size_t length, coefficients c);
 
 uint32_t dequmlo_test_derive(size_t n, size_t k, const uint8_t *domain, size_t domain_length, uint64_t *out, size_t out_length);
 uint32_t dequmlo_test_encode(size_t n, size_t k, const uint64_t *table, size_t table_length, const uint64_t *gammas, size_t gammas_length, uint64_t *out, size_t out_length);

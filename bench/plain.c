@@ -114,6 +114,19 @@ void plain_eq_table(size_t n, const uint64_t *point, uint64_t *out) {
     }
 }
 
+/* A coefficient that is not chosen is added too, under a mask of zeros. */
+static word masked(word sum, uint64_t half, const word *c) {
+    for (int b = 0; b < 64; b++) {
+        uint64_t mask = 0 - (half >> b & 1);
+        sum = add(sum, (word){c[b].lo & mask, c[b].hi & mask});
+    }
+    return sum;
+}
+
+word plain_phi(word w, coefficients c) {
+    return masked(masked((word){0, 0}, w.lo, c.words), w.hi, c.words + 64);
+}
+
 /* ---- GHASH by Shoup's tables of four bits. A block is two numbers here, its bits read from left to right: the coefficient of x^127 is bit 0 of `lo`. */
 
 static uint64_t from_left(const uint8_t *s) {

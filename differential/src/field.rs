@@ -89,10 +89,13 @@ fn pack_table(ours: &Field, case: u64, random: &mut Random) -> Verdict {
     same_words(&rust::pack_table(&bits), &words, input)
 }
 
-/// A power of x, each in turn, then any word; any coefficients.
+/// A power of x, each in turn, then any word, every fourth with few bits set; any coefficients.
 fn phi_input(case: u64, random: &mut Random) -> (Word, [Word; 128]) {
     let p = match case {
         0..128 => power(case),
+        _ if case % 4 == 0 => {
+            Word(random.word().0 & random.word().0 & random.word().0 & random.word().0)
+        }
         _ => random.word(),
     };
     (p, random.array())

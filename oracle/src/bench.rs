@@ -1,6 +1,6 @@
 //! The Rust's own times, best of several: `name<TAB>ns`. On one thread; and what it divides over its threads, on more.
 
-use magnetar_field::{avx, eq, gf128};
+use magnetar_field::{avx, eq, gf128, pack};
 use magnetar_hash::MerkleTree;
 use magnetar_pcs::code::{CodeParams, Codeword};
 use oracle::query::{self, Claim, Levels, Prepared};
@@ -15,6 +15,7 @@ const DOMAIN: &str = "magnetar/pcs/default";
 pub fn run(kind: &str, large: bool) {
     println!("# kind {kind}, one thread, best of several, ns an operation");
     words();
+    phi();
     hashes();
     commitment(16, 1, 7);
     commitment(18, 2, 5);
@@ -116,6 +117,33 @@ fn words() {
             eq::eq_build_fused_into(point, black_box(&mut a), &mut b);
         }),
     );
+}
+
+/// Words with 8 bits set, one in each 16 of their bits.
+fn eight_bits(words: &[Word]) -> Vec<Word> {
+    let place = |w: &Word, i: usize| 16 * i + (w.0 >> (4 * i)) as usize % 16;
+    words
+        .iter()
+        .map(|w| Word((0..8).map(|i| 1 << place(w, i)).sum()))
+        .collect()
+}
+
+/// The time of a word in the sum of phi over the words.
+fn print_phi(name: &str, words: &[Word], phi: impl Fn(Word) -> Word) {
+    let sum = || words.iter().fold(gf128::ZERO, |sum, &w| sum + phi(w));
+    print(name, best(20, words.len(), || black_box(sum())));
+}
+
+fn phi() {
+    let (words, others) = (some_words(1 << 12), some_words(256));
+    let c: &[Word; 128] = others[128..].try_into().expect("128 words");
+    print_phi("phi_c", &words, |w| pack::phi_c(w, c));
+    print_phi("phi_c_8_bits", &eight_bits(&words), |w| pack::phi_c(w, c));
+    let filled = pack::PhiTab::build(c);
+    print_phi("phi_tab_apply", &words, |w| filled.apply(w));
+    print_phi("phi_tab_filled", &words, |w| {
+        pack::PhiTab::build(black_box(c)).apply(w)
+    });
 }
 
 fn hashes() {

@@ -1,3 +1,4 @@
 pub mod Groups
 pub mod Numbers
+pub mod SetBits
 pub mod Windows

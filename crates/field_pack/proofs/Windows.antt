@@ -1,4 +1,4 @@
--- Bits and nibbles of a word by its halves, a value chosen by a bit, and phi by tables of nibbles. Rests on the windows of an additive
+-- Nibbles of a word by its halves, a value chosen by a bit, and phi by tables of nibbles. Rests on the windows of an additive
 -- map (laws, Windows) and on phi's laws in `multilinear`.
 use mathlib.Core.Path.{_≡_, refl, sym, ap, ap₂, _∙_}
 use mathlib.Core.List.{List}
@@ -32,15 +32,6 @@ low-window h l b k hb hl = sym (field (joined h l) k b) ∙ ap (λ (x : ℕ). x 
 
 pub high-window : (h l b k : ℕ) → l < 2 ^ 64 → joined h l / 2 ^ (64 + b) % 2 ^ k ≡ h / 2 ^ b % 2 ^ k
 high-window h l b k hl = ap (λ (x : ℕ). x % 2 ^ k) (sym (shr-shr (joined h l) 64 b) ∙ ap (λ (x : ℕ). x / 2 ^ b) (high h 64 hl))
-
--- a bit as code reads it
-pub low-bit-of : (h l b : ℕ) → b < 64 → l < 2 ^ 64 → bitAnd (l / 2 ^ b) 1 ≡ bit b (joined h l)
-low-bit-of h l b hb hl = and-mask (l / 2 ^ b) 1 ∙ sym (low-window h l b 1 (omega arith) hl)
-
-pub high-bit-of : (h l b : ℕ) → 64 ≤ b → l < 2 ^ 64 → bitAnd (h / 2 ^ (b - 64)) 1 ≡ bit b (joined h l)
-high-bit-of h l b hb hl =
-    let e : 64 + (b - 64) ≡ b = omega arith in
-    and-mask (h / 2 ^ (b - 64)) 1 ∙ sym (high-window h l (b - 64) 1 hl) ∙ ap (λ (n : ℕ). joined h l / 2 ^ n % 2) e
 
 -- bit i of a number below 2^64 that code shifts down
 pub bit-of-number : (k i : ℕ) → bitAnd (k / 2 ^ i) 1 ≡ bit i k

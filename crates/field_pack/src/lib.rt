@@ -3,7 +3,7 @@ ghost use mathlib.Core.Path.{_≡_};
 ghost use Prim.Native.Nat.{ℕ, _+_, _*_, _/_, _%_, _^_, _≤_, _<_};
 ghost use mathlib.Core.Bool.{true};
 ghost use lib.ListN.{length};
-ghost use Rattle.theory_laws.specs.Xor.{bit, sel};
+ghost use Rattle.theory_laws.specs.Xor.{sel};
 ghost use Rattle.theory_laws.specs.Sum.{sum};
 ghost use Rattle.theory_laws.specs.Table.{at};
 ghost use Rattle.theory_laws.specs.Questions.{onDone};
@@ -107,27 +107,23 @@ pub fn pack_table(bytes: &[u8], out: &mut [u64]) -> u32
     0
 }
 
-// Bit b of a word.
-fn bit_of(w: Word, b: usize) -> u64
-    requires { ⌜ b < 128 ⌝ }
-    ensures { λ r. ⌜ r ≡ bit b (word w) ⌝ }
-{
-    if b < 64 {
-        return (w.lo >> b) & 1;
-    }
-    (w.hi >> (b - 64)) & 1
-}
-
-// phi of one word under row coefficients c: the sum of c[b] over the set bits b. Fills no table.
+// phi of one word under row coefficients c: the sum of c[b] over the set bits b. Fills no table. Of a sum of two words it is the sum of both, and of
+// the word x^b it is c[b] (`PhiLaws`, where phi is defined). Only set bits cost: of each half the lowest one that is left goes, until none is.
 pub fn phi_c(w: Word, c: [Word; 128]) -> Word
     ensures { λ r. ⌜ word r ≡ phi (coefficients c) (word w) ⌝ }
 {
     let mut acc = Word { lo: 0, hi: 0 };
-    let mut b: usize = 0;
-    while b < 128 {
-        let x = c[b];
-        acc = field_gf128::add(acc, select(bit_of(w, b), x));
-        b += 1;
+    let mut lo = w.lo;
+    while lo != 0 {
+        let x = c[u64::trailing_zeros(lo) as usize];
+        acc = field_gf128::add(acc, x);
+        lo = lo & (lo - 1);
+    }
+    let mut hi = w.hi;
+    while hi != 0 {
+        let x = c[64 + u64::trailing_zeros(hi) as usize];
+        acc = field_gf128::add(acc, x);
+        hi = hi & (hi - 1);
     }
     acc
 }

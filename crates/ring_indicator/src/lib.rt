@@ -1,6 +1,7 @@
 // The indicator of ring switching, after `RingEqInd` of ring.rs (SPECIFICATION 3.3 and 3.4): its table, and its value at a point.
 ghost use mathlib.Core.Path.{_≡_};
 ghost use Prim.Native.Nat.{_*_, _^_};
+ghost use mathlib.Core.List.{[]};
 ghost use lib.ListN.{length};
 ghost use Rattle.theory_laws.specs.Table.{tab, at};
 ghost use Rattle.theory_laws.specs.Questions.{onDone};
@@ -13,21 +14,50 @@ ghost use Rattle.field_equality.specs.Eq.{eqNumber};
 ghost use Rattle.field_pack.specs.Phi.{coefficients};
 ghost use Rattle.ring_indicator.specs.Numbers.{evalNumber};
 ghost use Rattle.ring_indicator.specs.Answers.{indicatorOf};
-ghost use Rattle.ring_indicator.specs.helpers.Steps.{PhiOfEach, joinParts};
+ghost use Rattle.ring_indicator.specs.helpers.Steps.{phiOfEach, PhiByTables, joinParts};
 use field_gf128::Word;
 use ring_partials::Answer;
 use ring_partials::sums;
 
-// phi of each of m words in place, by the tables that `field_pack::phi_tab` makes.
-fn phi_each(t: &[u64; 1024], m: usize, out: &mut [u64])
+// phi of each of m words in place, one by one.
+fn phi_each(rb: [Word; 128], m: usize, out: &mut [u64])
     requires { ⌜ length (now out) ≡ 2 * m ⌝ }
-    ensures { λ _. ⌜ PhiOfEach m (now (t .entry)) (now (out .entry)) (now (out .exit)) ⌝ }
+    ensures { λ _. ⌜ words (now (out .exit)) ≡ phiOfEach (coefficients rb) m (words (now (out .entry))) ⌝ }
+{
+    let mut v: usize = 0;
+    while v < m {
+        let w = field_pack::phi_c(field_words::get(out, v), rb);
+        field_words::put(out, v, w);
+        v += 1;
+    }
+}
+
+// The same by the tables that `field_pack::phi_tab` makes.
+fn phi_each_by_tables(t: &[u64; 1024], m: usize, out: &mut [u64])
+    requires { ⌜ length (now out) ≡ 2 * m ⌝ }
+    ensures { λ _. ⌜ PhiByTables m (now (t .entry)) (now (out .entry)) (now (out .exit)) ⌝ }
 {
     let mut v: usize = 0;
     while v < m {
         let w = field_pack::phi_tab_apply(t, field_words::get(out, v));
         field_words::put(out, v, w);
         v += 1;
+    }
+}
+
+// The number of words from which on it is quicker to fill tables for them than to take them one by one (docs/DECISIONS.md, 77).
+const MANY: usize = 32;
+
+// phi of each of m words in place, under the row coefficients rb: tables are filled only for many.
+fn phi_all(rb: [Word; 128], m: usize, out: &mut [u64])
+    requires { ⌜ length (now out) ≡ 2 * m ⌝ }
+    ensures { λ _. ⌜ words (now (out .exit)) ≡ phiOfEach (coefficients rb) m (words (now (out .entry))) ⌝ }
+{
+    if m < MANY {
+        phi_each(rb, m, out);
+    } else {
+        let t = field_pack::phi_tab(rb);
+        phi_each_by_tables(&t, m, out);
     }
 }
 
@@ -42,8 +72,7 @@ pub fn materialize(n: usize, z: &[u64], rb: [Word; 128], out: &mut [u64]) -> u32
     if number != 0 {
         return number;
     }
-    let t = field_pack::phi_tab(rb);
-    phi_each(&t, out.len() / 2, out);
+    phi_all(rb, out.len() / 2, out);
     0
 }
 
@@ -103,6 +132,13 @@ fn tensor_eval(n: usize, z: &[u64], rb: [Word; 128], point: &[u64]) -> Word
     sums::fold(&t, rb)
 }
 
+// The indicator where there are no coordinates: phi of one word, the equality table's only entry.
+fn empty_eval(rb: [Word; 128]) -> Word
+    ensures { λ r. ⌜ word r ≡ indicatorOf rb [] [] ⌝ }
+{
+    field_pack::phi_c(Word { lo: 1, hi: 0 }, rb)
+}
+
 // The number that the questions give for n and lent lengths in u64.
 fn eval_number(n: usize, z: usize, point: usize) -> u32
     ensures { λ r. ⌜ r ≡ evalNumber n z point ⌝ }
@@ -130,6 +166,12 @@ pub fn eval_at(n: usize, z: &[u64], rb: [Word; 128], point: &[u64]) -> Answer
         return Answer {
             number: number,
             word: Word { lo: 0, hi: 0 },
+        };
+    }
+    if n == 0 {
+        return Answer {
+            number: 0,
+            word: empty_eval(rb),
         };
     }
     Answer {

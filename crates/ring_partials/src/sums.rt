@@ -74,7 +74,8 @@ pub fn partials(m: usize, ws: &[u64], es: &[u64], out: &mut [u64])
     }
 }
 
-// The fold of 128 words: the sum over j of x^j times phi of s_j, from the highest j down.
+// The fold of 128 words: the sum over j of x^j times phi of s_j, from the highest j down. These are many words under one set of coefficients, so
+// tables of phi are filled for them.
 pub fn fold(s: &[u64], rb: [Word; 128]) -> Word
     requires { ⌜ length (now s) ≡ 256 ⌝ }
     ensures { λ r. ⌜ word r ≡ foldPartials (at (words (now (s .entry)))) (coefficients rb) ⌝ }

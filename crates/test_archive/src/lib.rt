@@ -79,6 +79,20 @@ pub extern "C" fn dequmlo_test_phi_tab(p: Word, c: Coefficients) -> Word {
     field_pack::phi_tab_apply(&t, p)
 }
 
+// The sum of phi over the words of a run, by tables that are filled once.
+#[no_mangle]
+pub extern "C" fn dequmlo_test_phi_tab_sum(s: &[u64], c: Coefficients) -> Word {
+    let words = c.words;
+    let t = field_pack::phi_tab(words);
+    let mut sum = Word { lo: 0, hi: 0 };
+    let mut v: usize = 0;
+    while v < s.len() / 2 {
+        sum = field_gf128::add(sum, field_pack::phi_tab_apply(&t, field_words::get(s, v)));
+        v += 1;
+    }
+    sum
+}
+
 #[no_mangle]
 pub extern "C" fn dequmlo_test_eq_coefficients(r: Point7) -> Coefficients {
     let point = r.words;

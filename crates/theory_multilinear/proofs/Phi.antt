@@ -1,16 +1,18 @@
--- phi_c is additive, and of x^b it is c[b]; a product with a word goes by the word's bits.
-use mathlib.Core.Path.{_≡_, refl, ap, _∙_, fun-ext}
-use Prim.Native.Nat.{ℕ, zero, suc, _^_, _<_}
+-- phi_c is the linear map with the values c, and no other function of words is; a product with a word goes by the word's bits.
+use mathlib.Core.Path.{_≡_, refl, sym, ap, _∙_, fun-ext}
+use Prim.Native.Nat.{ℕ, zero, suc, _%_, _^_, _<_}
+use native.Mathlib.Nat.{mod-lt, mod-eq-of-lt}
 use lib.Dec.{lit<}
+use lib.Pow.{pow-lt, pow-pos}
 use Rattle.theory_laws.specs.Xor.{_⊕_, bit, sel}
 use Rattle.theory_laws.specs.Sum.{sum}
-use Rattle.theory_laws.proofs.Xor.{sel-bit, sel-lt}
+use Rattle.theory_laws.proofs.Xor.{⊕-mod, sel-bit, sel-lt}
 use Rattle.theory_laws.proofs.Sum.{sum-⊕, sum-map, sum-at, sum-lt, word-bits}
 use Rattle.theory_laws.proofs.Parity.{bit-same, bit-other}
-use Rattle.theory_laws.proofs.Linear.{at-zero}
+use Rattle.theory_laws.proofs.Linear.{Additive, at-zero, ext}
 use Rattle.theory_field.specs.Field.{_⊗_}
 use Rattle.theory_field.proofs.Product.{⊕-⊗, ⊗-comm, ⊗-sel}
-use Rattle.theory_multilinear.specs.Phi.{phi}
+use Rattle.theory_multilinear.specs.Phi.{phi, LinearMap, PhiLaws}
 
 -- of a sum of two words it is the sum of both (SPECIFICATION 2.5)
 pub phi-add : (c : ℕ → ℕ) (a b : ℕ) → phi c (a ⊕ b) ≡ phi c a ⊕ phi c b
@@ -22,6 +24,24 @@ pub phi-power : (c : ℕ → ℕ) (b : ℕ) → b < 128 → phi c (2 ^ b) ≡ c 
 unfolding phi sel
 phi-power c b h =
     sum-at _ b (λ i. sel (bit i (2 ^ b)) (c i)) h (λ i a. ap (λ x. sel x (c i)) (bit-other i b a)) ∙ ap (λ x. sel x (c b)) (bit-same b)
+
+-- both laws, of words
+phi-linear : (c : ℕ → ℕ) → LinearMap c (phi c)
+phi-linear c = record { of-sum = λ v w h k. phi-add c v w; of-power = phi-power c }
+
+-- nothing else has them: two additive maps that agree on the powers of x agree, and what f is past the words is not asked
+phi-no-other : (c f : ℕ → ℕ) → LinearMap c f → (w : ℕ) → w < 2 ^ 128 → f w ≡ phi c w
+phi-no-other c f m w h =
+    ap f (sym (mod-eq-of-lt h))
+    ∙ ext 128 (λ x. f (x % 2 ^ 128)) (phi c) sums (phi-add c)
+    (λ b k. ap f (mod-eq-of-lt (pow-lt {i = b} {j = 128} k)) ∙ m .of-power b k ∙ sym (phi-power c b k)) w h
+  where
+    sums : Additive (λ x. f (x % 2 ^ 128))
+    sums v w =
+        ap f (⊕-mod v w 128) ∙ m .of-sum (v % 2 ^ 128) (w % 2 ^ 128) (mod-lt v (pow-pos 128)) (mod-lt w (pow-pos 128))
+
+pub phi-laws : PhiLaws
+phi-laws = record { linear = phi-linear; no-other = phi-no-other }
 
 pub phi-one : (c : ℕ → ℕ) → phi c 1 ≡ c 0
 phi-one c = phi-power c 0 (lit< tt)

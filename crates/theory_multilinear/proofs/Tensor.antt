@@ -138,10 +138,10 @@ module _ (rb : ℕ → ℕ) where
         foldPartials-phi (tensorRun zs qs unit) rb ∙ kept-run zs qs unit unit-lt h
         ∙ mle-ext qs (λ v k. kept-unit (eqAt zs v) (eq-lt zs v) ∙ sym (materialize-at rb zs v (rw h k)))
 
-    -- of empty points it is rb[0]
-    pub indicator-nil : indicator rb [] [] ≡ rb 0
-    unfolding indicator
-    indicator-nil = mle-nil (at (materialize rb [])) (rw entry (hr 0)) ∙ entry
-      where
-        entry : at (materialize rb []) 0 ≡ rb 0
-        entry = materialize-at rb [] 0 (lit< tt) ∙ ap (phi rb) (eq-nil 0) ∙ phi-one rb
+  -- of empty points it is rb[0]
+  pub indicator-nil : rb 0 < 2 ^ 128 → indicator rb [] [] ≡ rb 0
+  unfolding indicator
+  indicator-nil h = mle-nil (at (materialize rb [])) (rw entry h) ∙ entry
+    where
+      entry : at (materialize rb []) 0 ≡ rb 0
+      entry = materialize-at rb [] 0 (lit< tt) ∙ ap (phi rb) (eq-nil 0) ∙ phi-one rb

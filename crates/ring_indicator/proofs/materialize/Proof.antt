@@ -32,13 +32,10 @@ returns c =
     let no = c .if1 .taken in
     (e .ensures .0, e .ensures .1 ∙ on-refused (e .result) _ _ no ∙ sym (on-refused (e .result) _ _ no))
 
-phi-tab-requires : tie.Need-phi-tab-requires
-phi-tab-requires c κs = search needs
-
-phi-each-requires : tie.Need-phi-each-requires
-phi-each-requires c κs =
+phi-all-requires : tie.Need-phi-all-requires
+phi-all-requires c κs =
     let e : tie.After-eq-table = search in
-    let known = lent e (c .before .before .before .if1 .left) in
+    let known = lent e (c .before .if1 .left) in
     omega (arith, known .of-table, e .eq-table .kept .1 .1 .0)
 
 same-length-2 : tie.Need-same-length-2
@@ -47,15 +44,15 @@ same-length-2 c = search needs
 returns-2 : tie.Need-returns-2
 returns-2 c =
     let p = c .before .before in
-    let f = p .before .before .before in
-    let e = f .before .before .before .before in
+    let q = p .before .before in
+    let e = q .before .before .before in
     let a = e .before .before .before .before .args in
-    let z = f .before .if1 .left in
+    let z = q .if1 .left in
     let known = lent e z in
     let n : length (words (a .z .now)) ≡ a .n = length-words-even (a .z .now) (a .n) (known .of-point) in
     let m : length (e .eq-table .last .1 .1 .0) / 2 ≡ 2 ^ a .n = omega (arith, known .of-table, e .eq-table .kept .1 .1 .0) in (
       sym z ∙ e .eq-table .ensures .0,
-      p .phi-each .ensures (coefficients (a .rb)) (f .phi-tab .ensures)
+      p .phi-all .ensures
           ∙ materialized (coefficients (a .rb)) (words (a .z .now)) (words (e .eq-table .last .1 .1 .0)) (length (e .eq-table .last .1 .1 .0) / 2)
           (rw z at (e .eq-table .ensures .1)) (m ∙ ap (λ k. 2 ^ k) (sym n)),
     )
@@ -67,7 +64,6 @@ materialize-spec =
     eq-table-requires
     same-length
     returns
-    phi-tab-requires
-    phi-each-requires
+    phi-all-requires
     same-length-2
     returns-2)

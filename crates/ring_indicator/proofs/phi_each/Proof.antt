@@ -1,34 +1,34 @@
 -- `ring_indicator::phi_each` meets its contract: the words so far are phi of what stood there.
-use mathlib.Core.Path.{_≡_, refl, ap, _∙_}
-use Prim.Native.Nat.{ℕ, _-_, _≤_}
+use mathlib.Core.Path.{_≡_, refl}
+use Prim.Native.Nat.{_-_, _≤_}
 use native.Mathlib.Omega.{arith}
 use borrow.Author.Needs.{needs}
 use lib.ListN.{length}
-use Rattle.theory_laws.proofs.Updates.{updated, updated-read, updated-turn, updated-end}
+use Rattle.theory_laws.proofs.Updates.{updated, updated-end}
 use Rattle.theory_field.specs.Words.{words}
 use Rattle.theory_field.proofs.Words.{length-words-even}
 use Rattle.field_gf128.specs.Word.{word}
 use Rattle.theory_multilinear.specs.Phi.{phi}
-use Rattle.field_pack.specs.Phi.{phiTab}
+use Rattle.field_pack.specs.Phi.{coefficients}
+use Rattle.ring_indicator.proofs.Materialized.{each-turn}
 use Rattle.ring_indicator.proofs.phi_each.Statement.{statement}
 use Rattle.ring_indicator.proofs.phi_each.Tie as tie
 
 abbrev Inv-loop : tie.InvT-loop
-Inv-loop t m out₀ v₀ out v =
-    (v ≤ m) × (length out ≡ length out₀) × ((c : ℕ → ℕ) → words t ≡ phiTab c → words out ≡ updated v (λ i. phi c) (words out₀))
+Inv-loop rb m out₀ v₀ out v = (v ≤ m) × (length out ≡ length out₀) × (words out ≡ updated v (λ i. phi (coefficients rb)) (words out₀))
 
 abbrev μ-loop : tie.MeasureT-loop
-μ-loop t m out₀ v₀ out v = m - v
+μ-loop rb m out₀ v₀ out v = m - v
 
 loop-holds : tie.Need-loop-holds Inv-loop μ-loop
 unfolding updated
-loop-holds c = (omega arith, refl, λ f h. refl)
+loop-holds c = (omega arith, refl, refl)
 
 get-requires : tie.Need-get-requires Inv-loop μ-loop
 get-requires c κs = search needs
 
-phi-tab-apply-requires : tie.Need-phi-tab-apply-requires Inv-loop μ-loop
-phi-tab-apply-requires c κs = search needs
+phi-c-requires : tie.Need-phi-c-requires Inv-loop μ-loop
+phi-c-requires c κs = search needs
 
 put-requires : tie.Need-put-requires Inv-loop μ-loop
 put-requires c κs = search needs
@@ -42,29 +42,28 @@ loop-less c = search needs
 loop-again : tie.Need-loop-again Inv-loop μ-loop
 loop-again c =
     let after-put = c .before .before in
-    let after-phi-tab-apply = after-put .before .before in
-    let after-get = after-phi-tab-apply .before in
+    let after-phi-c = after-put .before .before in
+    let after-get = after-phi-c .before in
     let at-loop = after-get .before .before .before in
     let start = at-loop .before .before in
     let l = at-loop .loop in
     let a = start .args in (
       omega arith,
       omega (arith, after-put .put .kept .0),
-      λ f h. after-put .put .ensures
-          ∙ updated-turn (l .v) (λ i. phi f) (words (a .out .now)) (words (l .out)) (word (after-phi-tab-apply .phi-tab-apply .result)) (l .inv .2 f h)
-          (after-phi-tab-apply .phi-tab-apply .ensures .1 f h
-          ∙ ap (phi f) (after-get .get .ensures ∙ updated-read (l .v) (λ i. phi f) (words (a .out .now)) (words (l .out)) (l .inv .2 f h))),
+      each-turn (phi (coefficients (a .rb))) (l .v) (word (after-get .get .result)) (word (after-phi-c .phi-c .result)) (words (a .out .now))
+          (words (l .out)) (words (after-put .put .last .0)) (l .inv .2) (after-get .get .ensures) (after-phi-c .phi-c .ensures)
+          (after-put .put .ensures),
     )
 
 same-length : tie.Need-same-length Inv-loop μ-loop
 same-length c = search needs
 
 returns : tie.Need-returns Inv-loop μ-loop
-returns c f h =
+returns c =
     let l = c .before .loop in
     let a = c .before .before .before .args in
-    updated-end (λ i. phi f) (l .v) (a .m) (words (a .out .now)) (words (l .out))
-    (length-words-even (a .out .now) (a .m) (c .before .before .before .pre)) (omega arith) (l .inv .2 f h)
+    updated-end (λ i. phi (coefficients (a .rb))) (l .v) (a .m) (words (a .out .now)) (words (l .out))
+    (length-words-even (a .out .now) (a .m) (c .before .before .before .pre)) (omega arith) (l .inv .2)
 
 pub phi-each-spec : {M : Type 1} → statement M
 phi-each-spec =
@@ -74,7 +73,7 @@ phi-each-spec =
     μ-loop
     loop-holds
     get-requires
-    phi-tab-apply-requires
+    phi-c-requires
     put-requires
     add-v
     loop-less

@@ -9,9 +9,13 @@ use Rattle.theory_field.specs.Words.{words}
 use Rattle.theory_multilinear.specs.Phi.{phi}
 use Rattle.field_pack.specs.Phi.{phiTab}
 
--- `new` holds phi of each of the m words of `old`, under any coefficients whose tables are t
-abbrev pub PhiOfEach : ℕ → List ℕ → List ℕ → List ℕ → Type 0
-PhiOfEach m t old new = (c : ℕ → ℕ) → words t ≡ phiTab c → words new ≡ tab m (λ v. phi c (at (words old) v))
+-- phi of each of the first m words of a list
+abbrev pub phiOfEach : (ℕ → ℕ) → ℕ → List ℕ → List ℕ
+phiOfEach c m ws = tab m (λ v. phi c (at ws v))
+
+-- `new` is that of `old`, under any coefficients whose tables are t
+abbrev pub PhiByTables : ℕ → List ℕ → List ℕ → List ℕ → Type 0
+PhiByTables m t old new = (c : ℕ → ℕ) → words t ≡ phiTab c → words new ≡ phiOfEach c m (words old)
 
 -- word k after a step, where e stood before it: the vertical part, e + e × z, and the horizontal part
 abbrev pub joinParts : ℕ → (ℕ → ℕ) → ℕ → ℕ → ℕ
