@@ -8,6 +8,7 @@ use native.Mathlib.Omega.{arith}
 use lib.Pow.{pow-pos, pow-lt, mod-pow-add}
 use Rattle.theory_laws.specs.Xor.{_⊕_, bit, sel}
 use Rattle.theory_laws.specs.Sum.{sum}
+use Rattle.theory_laws.proofs.Numbers.{lt-pow}
 use Rattle.theory_laws.proofs.Parity.{bit-same, bit-other}
 use Rattle.theory_laws.proofs.Xor.{zero-⊕, ⊕-zero, ⊕-self, ⊕-assoc, ⊕-comm, ⊕-swap, ⊕-lt, ⊕-bit, ⊕-parts, sel-⊕, ⊕-cancel}
 
@@ -109,6 +110,12 @@ sum-bits (suc k) w =
 
 pub word-bits : (k w : ℕ) → w < 2 ^ k → w ≡ sum k (λ j. sel (bit j w) (2 ^ j))
 word-bits k w h = sym (sum-bits k w ∙ mod-eq-of-lt h)
+
+-- two numbers with the same bits are one
+pub same-bits : (a b : ℕ) → ((j : ℕ) → bit j a ≡ bit j b) → a ≡ b
+same-bits a b h =
+    word-bits (a + b) a (omega (arith, lt-pow (a + b)))
+    ∙ sum-ext (a + b) (λ j k. ap (λ (c : ℕ). sel c (2 ^ j)) (h j)) ∙ sym (word-bits (a + b) b (omega (arith, lt-pow (a + b))))
 
 -- ---- the number whose bit j is b j
 
