@@ -5,18 +5,18 @@ use mathlib.Core.Bool.{Bool, _&&_}
 use mathlib.Core.List.{List}
 use mathlib.Core.Logic.{⊎-elim}
 use Prim.Native.Nat.{ℕ, zero, suc, _+_, _*_, _/_, _%_, _^_, _≤_, _<_}
-use native.Mathlib.Nat.{zero-add, suc-add, mul-one, mul-assoc, mul-comm, div-one, zero-div, div-eq-of-lt, lt-of-lt-of-le}
+use native.Mathlib.Nat.{zero-add, suc-add, mul-one, mul-assoc, mul-comm, div-one, zero-div}
 use native.Mathlib.Omega.{arith}
 use lib.Arith.{lt-one}
 use lib.Dec.{T, eqb, ltb, eqb→eq, ltb→lt}
 use lib.ListN.{length}
-use lib.Pow.{pow-add, pow-lt, pow-mono, shr-shr, high}
+use lib.Pow.{pow-add, pow-lt, shr-shr, high}
 use Rattle.theory_laws.specs.Table.{tab, at}
 use Rattle.theory_laws.specs.Xor.{_⊕_, bit}
 use Rattle.theory_laws.proofs.Linear.{ext, allBelow, below, and-l, and-r, then-additive}
 use Rattle.theory_laws.proofs.Numbers.{lt-or-le}
 use Rattle.theory_laws.proofs.Parity.{by-parity, low-bit, low-half, high-half}
-use Rattle.theory_laws.proofs.Sum.{same-bits}
+use Rattle.theory_laws.proofs.Sum.{bit-past, same-bits}
 use Rattle.theory_laws.proofs.Table.{is-tab}
 use Rattle.theory_laws.proofs.Xor.{zero-⊕, ⊕-zero, ⊕-assoc, ⊕-comm, ⊕-parts, ⊕-shl}
 use Rattle.theory_field.specs.Field.{sq}
@@ -34,10 +34,6 @@ spread-parts n v = ⊕-comm (v % 2) (spread n (v / 2) * 2 ^ 2) ∙ ⊕-parts (sp
 -- bits of a quarter
 quarter-bit : (j e : ℕ) → bit (2 + j) e ≡ bit j (e / 2 ^ 2)
 quarter-bit j e = ap (λ (x : ℕ). x % 2) (sym (shr-shr e 2 j))
-
--- bits past the last one
-no-bit : (n j e : ℕ) → e < 2 ^ n → n ≤ j → bit j e ≡ 0
-no-bit n j e h l = ap (λ (x : ℕ). x % 2) (div-eq-of-lt (lt-of-lt-of-le h (pow-mono l)))
 
 next-apart : (v s : ℕ) → SpreadApart (v / 2) s → SpreadApart v (s * 2 ^ 2 + v % 2)
 next-apart v s r = record { even = even; odd = odd }
@@ -64,7 +60,7 @@ spread-rule : (n v : ℕ) → v < 2 ^ n → SpreadApart v (spread n v)
 unfolding spread
 spread-rule zero v h =
     record {
-      even = λ i. ap (λ (x : ℕ). x % 2) (zero-div (2 ^ (2 * i))) ∙ sym (no-bit 0 i v h (omega arith));
+      even = λ i. ap (λ (x : ℕ). x % 2) (zero-div (2 ^ (2 * i))) ∙ sym (bit-past 0 i v h (omega arith));
       odd = λ i. ap (λ (x : ℕ). x % 2) (zero-div (2 ^ (2 * i + 1)));
     }
 spread-rule (suc n) v h = subst (SpreadApart v) (sym (spread-parts n v)) (next-apart v (spread n (v / 2)) (spread-rule n (v / 2) (omega arith)))
@@ -103,13 +99,13 @@ test-rule n v e h t = record { even = even; odd = odd }
     even i =
         ⊎-elim
         (λ (k : i < n). eqb→eq (bit (2 * i) e) (bit i v) (and-l (eqb (bit (2 * i) e) (bit i v)) (eqb (bit (2 * i + 1) e) 0) (each i k)))
-        (λ (k : n ≤ i). no-bit (2 * n) (2 * i) e short (omega arith) ∙ sym (no-bit n i v h k)) (lt-or-le i n)
+        (λ (k : n ≤ i). bit-past (2 * n) (2 * i) e short (omega arith) ∙ sym (bit-past n i v h k)) (lt-or-le i n)
 
     odd : (i : ℕ) → bit (2 * i + 1) e ≡ 0
     odd i =
         ⊎-elim
         (λ (k : i < n). eqb→eq (bit (2 * i + 1) e) 0 (and-r (eqb (bit (2 * i) e) (bit i v)) (eqb (bit (2 * i + 1) e) 0) (each i k)))
-        (λ (k : n ≤ i). no-bit (2 * n) (2 * i + 1) e short (omega arith)) (lt-or-le i n)
+        (λ (k : n ≤ i). bit-past (2 * n) (2 * i + 1) e short (omega arith)) (lt-or-le i n)
 
 -- a table's rule, carried from one test over all entries to each of them
 pub tested-rule : (n : ℕ) (t : List ℕ) → T (allBelow (2 ^ n) (λ v. spreadTest n v (at t v))) → (v : ℕ) → v < 2 ^ n → SpreadApart v (at t v)
