@@ -61,6 +61,7 @@ static void products(void) {
         word x = next_word(), y = next_word();
         must(same(dequmlo_test_mul(x, y), plain_mul(x, y)), "product");
         must(same(dequmlo_test_square(x), plain_square(x)), "square");
+        must(same(dequmlo_test_square_by_table(x), plain_square_by_table(x)), "square by the table");
     }
     BEST(ours, 100000, a = dequmlo_test_mul(a, b));
     BEST(plain, 100000, c = plain_mul(c, b));
@@ -69,11 +70,19 @@ static void products(void) {
     BEST(ours, 100000, a = dequmlo_test_square(a));
     BEST(plain, 100000, c = plain_square(c));
     must(same(a, c), "chain of squares");
-    line("square", "-", ours, plain);
+    line("square", "square_chain", ours, plain);
+    BEST(ours, 100000, a = dequmlo_test_square_by_table(a));
+    BEST(plain, 100000, c = plain_square_by_table(c));
+    must(same(a, c), "chain of squares by the table");
+    line("square by the table", "square_chain", ours, plain);
     BEST(ours, 2000, a = dequmlo_test_inv(a).word);
-    BEST(plain, 2000, c = plain_inv(c));
+    BEST(plain, 2000, c = plain_inv_by_table(c));
     must(same(a, c), "chain of inverses");
     line("inverse", "inv", ours, plain);
+    BEST(ours, 2000, a = dequmlo_test_inv_by_masks(a));
+    BEST(plain, 2000, c = plain_inv(c));
+    must(same(a, c), "chain of inverses by masks");
+    line("inverse, its squares by masks", "inv", ours, plain);
 }
 
 /* A word with 8 bits set, one in each 16 of its bits. */

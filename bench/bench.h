@@ -14,7 +14,9 @@ typedef struct {
 
 word dequmlo_test_mul(word a, word b);
 word dequmlo_test_square(word a);
+word dequmlo_test_square_by_table(word a);
 answer dequmlo_test_inv(word a);
+word dequmlo_test_inv_by_masks(word a);
 void dequmlo_test_scale(uint64_t *s, size_t length, word r);
 uint32_t dequmlo_test_eq_table(size_t n, const uint64_t *point, size_t point_length, uint64_t *out, size_t out_length);
 

@@ -51,21 +51,45 @@ word plain_square(word a) {
     return reduced((word){spread(a.lo & 0xffffffff), spread(a.lo >> 32)}, (word){spread(a.hi & 0xffffffff), spread(a.hi >> 32)});
 }
 
-static word squares(word a, int n) {
-    while (n-- > 0) a = plain_square(a);
-    return a;
+/* Entry v has bit 2i set where v has bit i. */
+#define ENTRY(v) ((v & 1) | (v & 2) << 1 | (v & 4) << 2 | (v & 8) << 3 | (v & 16) << 4 | (v & 32) << 5 | (v & 64) << 6 | (v & 128) << 7)
+#define FOUR(v) ENTRY(v), ENTRY((v + 1)), ENTRY((v + 2)), ENTRY((v + 3))
+#define SIXTEEN(v) FOUR(v), FOUR((v + 4)), FOUR((v + 8)), FOUR((v + 12))
+#define ROW(v) SIXTEEN(v), SIXTEEN((v + 16)), SIXTEEN((v + 32)), SIXTEEN((v + 48))
+static const uint16_t spread_bytes[256] = {ROW(0), ROW(64), ROW(128), ROW(192)};
+
+static uint64_t spread_by_table(uint64_t x) {
+    const uint16_t *t = spread_bytes;
+    uint64_t low = t[x & 255] ^ (uint64_t)t[x >> 8 & 255] << 16;
+    uint64_t high = t[x >> 16 & 255] ^ (uint64_t)t[x >> 24 & 255] << 16;
+    return low ^ high << 32;
 }
 
-/* a^(2^128 - 2) by the chain 1, 2, 3, 6, 7, 14, 15, 30, 31, 62, 63, 126, 127 of exponents 2^n - 1. */
+word plain_square_by_table(word a) {
+    return reduced((word){spread_by_table(a.lo), spread_by_table(a.lo >> 32)}, (word){spread_by_table(a.hi), spread_by_table(a.hi >> 32)});
+}
+
+/* a times b squared n times. */
+static inline word mul_squares(int by_table, word a, word b, int n) {
+    while (n-- > 0) b = by_table ? plain_square_by_table(b) : plain_square(b);
+    return plain_mul(a, b);
+}
+
+/* a^(2^128 - 2) by the chain 1, 2, 3, 6, 12, 24, 48, 96, 120, 126, 127 of exponents 2^n - 1. */
+static inline word inverse(int by_table, word a) {
+    word a2 = mul_squares(by_table, a, a, 1), a3 = mul_squares(by_table, a, a2, 1), a6 = mul_squares(by_table, a3, a3, 3);
+    word a12 = mul_squares(by_table, a6, a6, 6), a24 = mul_squares(by_table, a12, a12, 12), a48 = mul_squares(by_table, a24, a24, 24);
+    word a96 = mul_squares(by_table, a48, a48, 48), a120 = mul_squares(by_table, a24, a96, 24), a126 = mul_squares(by_table, a6, a120, 6);
+    word a127 = mul_squares(by_table, a, a126, 1);
+    return by_table ? plain_square_by_table(a127) : plain_square(a127);
+}
+
 word plain_inv(word a) {
-    word p = a;
-    for (int n = 1, bit = 5; bit >= 0; bit--) {
-        p = plain_mul(squares(p, n), p);
-        n *= 2;
-        p = plain_mul(plain_square(p), a);
-        n += 1;
-    }
-    return plain_square(p);
+    return inverse(0, a);
+}
+
+word plain_inv_by_table(word a) {
+    return inverse(1, a);
 }
 
 /* 16 rows of 256: entry v of row j is r times the byte v at place j. */

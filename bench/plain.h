@@ -10,7 +10,9 @@ typedef struct {
 
 word plain_mul(word a, word b);
 word plain_square(word a);
+word plain_square_by_table(word a);
 word plain_inv(word a);
+word plain_inv_by_table(word a);
 void plain_scale(uint64_t *s, size_t words, word r);
 void plain_eq_table(size_t n, const uint64_t *point, uint64_t *out);
 

@@ -122,6 +122,9 @@ def square(a, _):
     return done(0, packed([mul(ints(a)[0], ints(a)[0])]))
 
 
+OPERATIONS["square_by_table"] = square
+
+
 @operation
 def inv(a, _):
     (a,) = ints(a)

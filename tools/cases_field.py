@@ -30,6 +30,12 @@ def small():
     yield from ["encode 1 1 5,9 7 8", "fold 1 1 0 2 5,9,21,2d 4"]
     yield "# the length of a gamma's message: a domain of 1 byte, and the longest"
     yield from ["gamma_message 1 1 61 0 0", "gamma_message 20 4 61x200 3 19"]
+    yield "square_by_table %s" % top
+
+
+def each_byte():
+    """Words that have every byte at every place."""
+    return [int.from_bytes(bytes((v + 17 * place) % 256 for place in range(16)), "little") for v in range(256)]
 
 
 def words(some):
@@ -44,6 +50,7 @@ def words(some):
         yield "phi_tab %x ~w%dx128" % (a, 2000 + i)
     points = [some(7) for _ in range(8)] + [[0] * 7, [1] * 7, [ONES] * 7, [2, 4, 8, 16, 32, 64, 128]]
     yield from ("eq_coefficients " + hex_words(r) for r in points)
+    yield from ("square_by_table %x" % a for a in singles + each_byte())
 
 
 def packings(bits):

@@ -53,6 +53,7 @@ def field():
         yield from ("%s %s %s" % (name, words(case, 0, 1), words(case, 1, 128)) for case in range(150))
     yield from ("eq_coefficients " + words(case, 0, 7) for case in range(100))
     yield from ("eq_table %d %s %d" % (case % 9, words(case, 0, case % 9), 2 << case % 9) for case in range(90))
+    yield from ("square_by_table " + words(case, 0, 1) for case in range(200))
 
 
 def runs():

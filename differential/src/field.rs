@@ -11,6 +11,7 @@ use oracle::{field as rust, Word};
 pub struct Field {
     pub mul: fn(Word, Word) -> Word,
     pub square: fn(Word) -> Word,
+    pub square_by_table: fn(Word) -> Word,
     pub inv: fn(Word) -> (u64, Word),
     pub pack_table: fn(&[u8]) -> (u64, Vec<Word>),
     pub phi_c: fn(Word, &[Word; 128]) -> Word,
@@ -26,6 +27,7 @@ pub struct Field {
 pub const COMPARISONS: &[Comparison<Field>] = &[
     Comparison::of("mul", 128 * 128 + 20_000, mul),
     Comparison::of("square", 128 * 128 + 10_000, square),
+    Comparison::of("square_by_table", 16 * 256 + 10_000, square_by_table),
     Comparison::of("inv", 128 + 4_000, inv),
     Comparison::of("pack_table", 128 + 1_000, pack_table),
     Comparison::of("phi_c", 128 + 5_000, phi_c),
@@ -59,6 +61,17 @@ fn square(ours: &Field, case: u64, random: &mut Random) -> Verdict {
     };
     same_word(rust::square(a), (ours.square)(a), || {
         format!("square {}", hex(a))
+    })
+}
+
+/// First every byte at every place alone, then any.
+fn square_by_table(ours: &Field, case: u64, random: &mut Random) -> Verdict {
+    let a = match case {
+        0..4_096 => Word(u128::from(case % 256) << (8 * (case / 256))),
+        _ => random.word(),
+    };
+    same_word(rust::square(a), (ours.square_by_table)(a), || {
+        format!("square_by_table {}", hex(a))
     })
 }
 

@@ -92,6 +92,12 @@ fn words() {
         }),
     );
     print(
+        "square_chain",
+        best(20, count, || {
+            black_box((0..count).fold(r, |square, _| gf128::square(square)));
+        }),
+    );
+    print(
         "inv",
         best(20, 256, || {
             black_box(src[..256].iter().map(|&w| gf128::inv(w).0).max());

@@ -81,6 +81,12 @@ const REQUESTS: &[Request] = &[
         call: |args| Ok(one(field::square(args.word("a")?))),
     },
     Request {
+        name: "square_by_table",
+        arguments: "a:word",
+        answer: "0, word: the Rust's one square",
+        call: |args| Ok(one(field::square(args.word("a")?))),
+    },
+    Request {
         name: "inv",
         arguments: "a:word",
         answer: "0, word",

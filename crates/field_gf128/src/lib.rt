@@ -6,9 +6,11 @@ ghost use Rattle.theory_laws.specs.Table.{tab};
 ghost use Rattle.theory_field.specs.Field.{xtime, _⊗_, sq, frob, inverse};
 ghost use Rattle.theory_field.specs.LongProduct.{long};
 ghost use Rattle.theory_field.proofs.LongProduct.{red};
-ghost use Rattle.theory_field.proofs.Square.{spread};
+ghost use Rattle.theory_field.specs.Spread.{spread, spreadTable};
 ghost use Rattle.field_gf128.specs.Word.{word, wide};
 ghost use Rattle.field_gf128.specs.Inverse.{answer, inverseOf};
+
+mod table;
 
 // A word: bit i of `lo` is the coefficient of x^i, and bit i of `hi` that of x^(64 + i).
 #[repr(C)]
@@ -171,7 +173,7 @@ pub fn mul(a: Word, b: Word) -> Word
     reduce256(clmul128(a, b))
 }
 
-// The bits of a number below 2^32 spread out, each with a zero above it.
+// The bits of a number below 2^32 spread apart, each with a zero above it.
 fn spread32(x: u64) -> u64
     requires { ⌜ x < 2 ^ 32 ⌝ }
     ensures { λ r. ⌜ r ≡ spread 32 x ⌝ }
@@ -183,65 +185,85 @@ fn spread32(x: u64) -> u64
     (by2 ^ (by2 << 1)) & 0x5555_5555_5555_5555
 }
 
-// The carry-less square of a word: its bits spread out, since no two of them have a product of their own.
-fn spread128(a: Word) -> Wide
-    ensures { λ r. ⌜ wide r ≡ spread 128 (word a) ⌝ }
+// A half spread apart: a word.
+fn spread64(x: u64) -> Word
+    ensures { λ r. ⌜ word r ≡ spread 64 x ⌝ }
 {
-    Wide {
-        lo: Word {
-            lo: spread32(a.lo & 0xffff_ffff),
-            hi: spread32(a.lo >> 32),
-        },
-        hi: Word {
-            lo: spread32(a.hi & 0xffff_ffff),
-            hi: spread32(a.hi >> 32),
-        },
+    Word {
+        lo: spread32(x & 0xffff_ffff),
+        hi: spread32(x >> 32),
     }
 }
 
-// The square.
+// The square. The carry-less square of a word is its bits spread apart, since no two of them have a product of their own.
 pub fn square(a: Word) -> Word
     ensures { λ r. ⌜ word r ≡ sq (word a) ⌝ }
 {
-    reduce256(spread128(a))
+    reduce256(Wide {
+        lo: spread64(a.lo),
+        hi: spread64(a.hi),
+    })
+}
+
+// The square, its bits spread apart through the table.
+fn square_by(t: &[u16; 256], a: Word) -> Word
+    requires { ⌜ now t ≡ spreadTable ⌝ }
+    ensures { λ r. ⌜ word r ≡ sq (word a) ⌝ }
+{
+    reduce256(Wide {
+        lo: table::spread64(t, a.lo),
+        hi: table::spread64(t, a.hi),
+    })
 }
 
 // The word squared n times: its power 2^n.
-fn squares(a: Word, n: u64) -> Word
+fn squares(t: &[u16; 256], a: Word, n: u64) -> Word
+    requires { ⌜ now t ≡ spreadTable ⌝ }
     ensures { λ r. ⌜ word r ≡ frob n (word a) ⌝ }
 {
     let mut w = a;
     let mut i: u64 = 0;
     while i < n {
-        w = square(w);
+        w = square_by(t, w);
         i += 1;
     }
     w
 }
 
+// The square through the table of bytes. The table is built anew for it, so that one square is quicker without (`square`); `inv` builds it
+// once for 127.
+pub fn square_by_table(a: Word) -> Word
+    ensures { λ r. ⌜ word r ≡ sq (word a) ⌝ }
+{
+    let t = table::spread_table();
+    squares(&t, a, 1)
+}
+
 // a times b squared n times.
-fn mul_squares(a: Word, b: Word, n: u64) -> Word
+fn mul_squares(t: &[u16; 256], a: Word, b: Word, n: u64) -> Word
+    requires { ⌜ now t ≡ spreadTable ⌝ }
     ensures { λ r. ⌜ word r ≡ word a ⊗ frob n (word b) ⌝ }
 {
-    mul(a, squares(b, n))
+    mul(a, squares(t, b, n))
 }
 
 // The power 2^128 - 2. With a_n for the power 2^n - 1, a_(m + n) is a_m times a_n squared m times (Itoh and Tsujii), and the
 // square of a_127 is that power: 10 products and 127 squares.
-fn power(a: Word) -> Word
+fn power(t: &[u16; 256], a: Word) -> Word
+    requires { ⌜ now t ≡ spreadTable ⌝ }
     ensures { λ r. ⌜ word r ≡ inverse (word a) ⌝ }
 {
-    let a2 = mul_squares(a, a, 1);
-    let a3 = mul_squares(a, a2, 1);
-    let a6 = mul_squares(a3, a3, 3);
-    let a12 = mul_squares(a6, a6, 6);
-    let a24 = mul_squares(a12, a12, 12);
-    let a48 = mul_squares(a24, a24, 24);
-    let a96 = mul_squares(a48, a48, 48);
-    let a120 = mul_squares(a24, a96, 24);
-    let a126 = mul_squares(a6, a120, 6);
-    let a127 = mul_squares(a, a126, 1);
-    square(a127)
+    let a2 = mul_squares(t, a, a, 1);
+    let a3 = mul_squares(t, a, a2, 1);
+    let a6 = mul_squares(t, a3, a3, 3);
+    let a12 = mul_squares(t, a6, a6, 6);
+    let a24 = mul_squares(t, a12, a12, 12);
+    let a48 = mul_squares(t, a24, a24, 24);
+    let a96 = mul_squares(t, a48, a48, 48);
+    let a120 = mul_squares(t, a24, a96, 24);
+    let a126 = mul_squares(t, a6, a120, 6);
+    let a127 = mul_squares(t, a, a126, 1);
+    squares(t, a127, 1)
 }
 
 // The inverse. Question 1 (SPECIFICATION 8.2): the word 0 has none, and is refused with 1.
@@ -254,8 +276,9 @@ pub fn inv(a: Word) -> Inverse
             word: Word { lo: 0, hi: 0 },
         };
     }
+    let t = table::spread_table();
     Inverse {
         number: 0,
-        word: power(a),
+        word: power(&t, a),
     }
 }

@@ -1,18 +1,16 @@
 -- The tensor's steps as the code takes them: the products with powers of x, a step on 128 words in place, and the steps in order.
 use mathlib.Core.Path.{_≡_, refl, sym, ap, ap₂, _∙_, fun-ext}
 use mathlib.Core.List.{List, _∷_}
-use Prim.Native.Nat.{ℕ, zero, suc, _+_, _%_, _^_, _≤_, _<_}
-use native.Mathlib.Nat.{div-eq-of-lt, lt-of-lt-of-le}
+use Prim.Native.Nat.{ℕ, zero, suc, _+_, _^_, _≤_, _<_}
 use native.Mathlib.Numerals.{add-one}
 use native.Mathlib.Decide.{decLt}
 use native.Mathlib.Omega.{arith}
 use lib.ListN.{length, drop, replicate, drop-of-length-le, List·getD-eq-default}
-use lib.Pow.{pow-mono}
 use lib.Seq.{drop-cons}
 use Rattle.theory_laws.specs.Xor.{_⊕_, bit, sel}
 use Rattle.theory_laws.specs.Table.{tab, at}
 use Rattle.theory_laws.proofs.Xor.{⊕-self}
-use Rattle.theory_laws.proofs.Sum.{sum-ext, sum-none}
+use Rattle.theory_laws.proofs.Sum.{sum-ext, sum-none, bit-past}
 use Rattle.theory_laws.proofs.Table.{length-tab, at-tab, tab-ext}
 use Rattle.theory_field.specs.Field.{xtime, _⊗_}
 use Rattle.theory_field.specs.Words.{words}
@@ -48,7 +46,7 @@ unfolding tensorStep sel
 step-past z q t k h e =
     ap₂ _⊕_ (ap (λ x. x ⊕ x ⊗ z) e ∙ ap (λ x. 0 ⊕ x) (zero-⊗ z) ∙ ⊕-self 0)
     (sum-none 128 (λ j. sel (bit k (2 ^ j ⊗ q)) (t j))
-    (λ j i. ap (λ x. sel (x % 2) (t j)) (div-eq-of-lt (lt-of-lt-of-le (⊗-lt (2 ^ j) q) (pow-mono {i = 128} {j = k} h)))))
+    (λ j i. ap (λ x. sel x (t j)) (bit-past 128 k (2 ^ j ⊗ q) (⊗-lt (2 ^ j) q) h)))
     ∙ ⊕-self 0
 
 pub step-words : (z q : ℕ) (us ts : List ℕ) → length ts ≡ 128 → us ≡ tab 128 (tensorStep z q (at ts)) → at us ≡ tensorStep z q (at ts)

@@ -3,20 +3,20 @@ use mathlib.Core.Path.{_≡_, sym, ap, ap₂, _∙_}
 use mathlib.Core.List.{List}
 use mathlib.Core.Logic.{_≢_}
 use Prim.Native.Nat.{ℕ, suc, _+_, _-_, _*_, _/_, _%_, _^_, _≤_, _<_}
-use native.Mathlib.Nat.{div-eq-of-lt, lt-of-lt-of-le, mod-eq-of-lt, mul-assoc, mul-one}
+use native.Mathlib.Nat.{mod-eq-of-lt, mul-assoc, mul-one}
 use native.Mathlib.Numerals.{add-one}
 use native.Mathlib.Decide.{decLt}
 use native.Mathlib.Omega.{arith}
 use lib.Bits.{shifted-even}
 use lib.ListN.{length, set, replicate}
-use lib.Pow.{pow-add, pow-mono, shl-lt, shl-shr, shr-shr}
+use lib.Pow.{pow-add, shl-lt, shl-shr, shr-shr}
 use lib.Seq.{getD-set-same, getD-set-other}
 use Rattle.theory_laws.specs.Xor.{_⊕_, bit, sel}
 use Rattle.theory_laws.specs.Sum.{sum}
 use Rattle.theory_laws.specs.Table.{at}
 use Rattle.theory_laws.proofs.Xor.{⊕-zero, ⊕-comm, ⊕-assoc, ⊕-cancel, ⊕-parts, sel-zero, sel-⊕, sel-bit}
 use Rattle.theory_laws.proofs.Linear.{Additive, then-additive, shl-additive}
-use Rattle.theory_laws.proofs.Sum.{sum-ext, sum-none, sum-changed}
+use Rattle.theory_laws.proofs.Sum.{sum-ext, sum-none, sum-changed, bit-past}
 use Rattle.theory_field.specs.Words.{joined, words}
 use Rattle.theory_multilinear.specs.Partials.{partial}
 use Rattle.ring_partials.specs.helpers.Buckets.{gathered}
@@ -34,8 +34,7 @@ below-row b k x h =
     ∙ shifted-even x (4 * k - suc b)
 
 above-row : (b k x : ℕ) → x < 16 → 4 * k + 4 ≤ b → bit b (x * 2 ^ (4 * k)) ≡ 0
-above-row b k x hx h =
-    ap (λ y. y % 2) (div-eq-of-lt (lt-of-lt-of-le (shl-lt 4 (4 * k) hx) (pow-mono {i = 4 + 4 * k} {j = b} (omega arith))))
+above-row b k x hx h = bit-past (4 + 4 * k) b (x * 2 ^ (4 * k)) (shl-lt 4 (4 * k) hx) (omega arith)
 
 in-row : (b k x : ℕ) → b / 4 ≡ k → bit b (x * 2 ^ (4 * k)) ≡ bit (b % 4) x
 in-row b k x e =

@@ -34,8 +34,40 @@ pub extern "C" fn dequmlo_test_square(a: Word) -> Word {
 }
 
 #[no_mangle]
+pub extern "C" fn dequmlo_test_square_by_table(a: Word) -> Word {
+    field_gf128::square_by_table(a)
+}
+
+#[no_mangle]
 pub extern "C" fn dequmlo_test_inv(a: Word) -> Inverse {
     field_gf128::inv(a)
+}
+
+// a times b squared n times, each square by masks.
+fn mul_squares(a: Word, b: Word, n: u64) -> Word {
+    let mut w = b;
+    let mut i: u64 = 0;
+    while i < n {
+        w = field_gf128::square(w);
+        i += 1;
+    }
+    field_gf128::mul(a, w)
+}
+
+// The power 2^128 - 2, by the chain of `inv` with every square by masks: what `inv` is timed beside.
+#[no_mangle]
+pub extern "C" fn dequmlo_test_inv_by_masks(a: Word) -> Word {
+    let a2 = mul_squares(a, a, 1);
+    let a3 = mul_squares(a, a2, 1);
+    let a6 = mul_squares(a3, a3, 3);
+    let a12 = mul_squares(a6, a6, 6);
+    let a24 = mul_squares(a12, a12, 12);
+    let a48 = mul_squares(a24, a24, 24);
+    let a96 = mul_squares(a48, a48, 48);
+    let a120 = mul_squares(a24, a96, 24);
+    let a126 = mul_squares(a6, a120, 6);
+    let a127 = mul_squares(a, a126, 1);
+    field_gf128::square(a127)
 }
 
 #[no_mangle]

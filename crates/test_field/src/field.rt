@@ -34,7 +34,7 @@ fn eq_coefficients(a: &[u64], w: &mut [u64]) -> Answer {
     one(0)
 }
 
-// The operations that answer a word; the last answers 128.
+// The operations that answer a word; `eq_coefficients` answers 128.
 pub fn word(place: usize, a: &[u64], b: &[u64], w: &mut [u64]) -> Answer {
     let p = first(a);
     let q = first(b);
@@ -46,6 +46,7 @@ pub fn word(place: usize, a: &[u64], b: &[u64], w: &mut [u64]) -> Answer {
         4 => done(w, field_pack::phi_c(p, coefficients(b))),
         5 => phi_tab(p, b, w),
         6 => eq_coefficients(a, w),
+        7 => done(w, field_gf128::square_by_table(p)),
         _ => no_room(),
     }
 }

@@ -77,7 +77,7 @@ inv wo
 phi_c wwo
 phi_tab wwo
 eq_coefficients wc
-none n
+square_by_table wo
 pack_table bW
 eq_table nwW
 mul_run wwW

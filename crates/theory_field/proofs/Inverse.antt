@@ -15,8 +15,9 @@ use Rattle.theory_laws.proofs.Xor.{bit-cases, ⊕-self, ⊕-dbl, ⊕-half}
 use Rattle.theory_laws.proofs.Linear.{Additive, at-zero, ext, allBelow, below, sum-additive, linear, linear-additive}
 use Rattle.theory_field.specs.Field.{reduction, xtime, _⊗_, sq, frob, ladder, inverse}
 use Rattle.theory_field.specs.LongProduct.{long}
+use Rattle.theory_field.specs.Spread.{spread}
 use Rattle.theory_field.proofs.Product.{times, times-one, times-xtime, one-⊗, ⊗-one, pow-⊗, ⊗-lt, ⊗-comm, ⊗-assoc, zero-⊗, ⊗-zero}
-use Rattle.theory_field.proofs.Square.{sq-lt, sq-⊕, sq-⊗, sqFast, sqFast-⊕, sq-fast, spread, reduceOnce, byReduction}
+use Rattle.theory_field.proofs.Square.{sq-lt, sq-⊕, sq-⊗, sqFast, sqFast-⊕, sq-fast, reduceOnce, byReduction}
 
 -- ---- repeated squaring
 
@@ -48,6 +49,10 @@ frob-suc n a = refl
 pub frob-zero : (a : ℕ) → frob 0 a ≡ a
 unfolding frob
 frob-zero a = refl
+
+pub frob-once : (a : ℕ) → frob 1 a ≡ sq a
+unfolding frob
+frob-once a = refl
 
 fast : ℕ → ℕ → ℕ
 fast zero a = a

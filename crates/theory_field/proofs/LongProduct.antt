@@ -14,6 +14,7 @@ use Rattle.theory_laws.specs.Xor.{_⊕_, sel}
 use Rattle.theory_laws.proofs.Xor.{zero-⊕, ⊕-zero, ⊕-self, ⊕-dbl, ⊕-mod, ⊕-shr, ⊕-shl, ⊕-half, ⊕-swap, ⊕-lt}
 use Rattle.theory_laws.proofs.Xor.{⊕-assoc, ⊕-comm, ⊕-left-comm, ⊕-cancel, ⊕-parts, sel-⊕, sel-odd, sel-lt}
 use Rattle.theory_laws.proofs.Linear.{Additive, at-zero, ext, allBelow, below}
+use Rattle.theory_laws.proofs.Numbers.{lt-pow}
 use Rattle.theory_field.specs.Field.{reduction, xtime, mulBits, _⊗_}
 use Rattle.theory_field.specs.LongProduct.{long, _·_}
 use Rattle.theory_field.proofs.Product.{times, times-xtime, times-times, times-one, times-⊕, ⊗-⊕, ⊗-pow}
@@ -108,10 +109,6 @@ long-comm m n a b ha hb =
     ext n (long n a) (λ x. long m x a) (long-⊕ n a) (λ x y. ⊕-long m x y a) (λ i k. long-pow n i a k ∙ sym (pow-long m i a ha)) b hb
 
 -- ---- of any two numbers: commutative, additive on both sides, and x^i times x^j is x^(i + j)
-
-pub lt-pow : (n : ℕ) → n < 2 ^ n
-lt-pow zero = zero-lt-suc 0
-lt-pow (suc n) = omega (arith, lt-pow n)
 
 -- over any number of bits that holds b
 pub ·-long : (n a b : ℕ) → b < 2 ^ n → a · b ≡ long n a b

@@ -12,11 +12,11 @@ use lib.Dec.{lit<}
 use Rattle.theory_laws.specs.Xor.{_⊕_, bit, sel}
 use Rattle.theory_laws.proofs.Xor.{zero-⊕, ⊕-zero, ⊕-lt, ⊕-shr, ⊕-assoc, ⊕-left-comm, ⊕-comm, ⊕-cancel, ⊕-self, ⊕-inj, ⊕-eq, ⊕-parts, sel-⊕, sel-times}
 use Rattle.theory_laws.proofs.Linear.{at-zero}
-use Rattle.theory_laws.proofs.Numbers.{lt-or-le}
+use Rattle.theory_laws.proofs.Numbers.{lt-or-le, lt-pow}
 use Rattle.theory_field.specs.Field.{reduction, xtime, mulBits, _⊗_}
 use Rattle.theory_field.specs.LongProduct.{long, _·_, modulus, Division}
 use Rattle.theory_field.proofs.Product.{xtime-lt, ⊗-lt, ⊗-bits}
-use Rattle.theory_field.proofs.LongProduct.{red, ⊕-long, long-lt, long-more, long-split, long-pow, pow-long, lt-pow, ·-long, ·-comm, ⊕-·, pow-·}
+use Rattle.theory_field.proofs.LongProduct.{red, ⊕-long, long-lt, long-more, long-split, long-pow, pow-long, ·-long, ·-comm, ⊕-·, pow-·}
 
 -- the reduction is the modulus without x^128
 modulus-parts : modulus ≡ 2 ^ 128 ⊕ reduction

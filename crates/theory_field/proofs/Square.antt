@@ -1,4 +1,4 @@
--- Squaring is additive: the bits spread out, each with a zero above it, and reduced. `sqFast` computes it that way.
+-- Squaring is additive: the bits spread apart, each with a zero above it, and reduced. `sqFast` computes it that way.
 use mathlib.Core.Path.{_≡_, sym, ap, ap₂, _∙_}
 use mathlib.Core.Bool.{Bool}
 use Prim.Native.Nat.{ℕ, zero, suc, _*_, _/_, _%_, _^_, _<_}
@@ -9,6 +9,7 @@ use Rattle.theory_laws.proofs.Xor.{⊕-self, ⊕-mod, ⊕-shr, ⊕-shl, ⊕-hal
 use Rattle.theory_laws.proofs.Linear.{Additive, ext, allBelow, below, sum-additive}
 use Rattle.theory_field.specs.Field.{reduction, xtime, _⊗_, sq}
 use Rattle.theory_field.specs.LongProduct.{long}
+use Rattle.theory_field.specs.Spread.{spread}
 use Rattle.theory_field.proofs.Product.{times, ⊗-pow, ⊗-lt, ring}
 use Rattle.theory_field.proofs.LongProduct.{⊕-long}
 
@@ -25,11 +26,6 @@ unfolding sq
 sq-⊗ a b = simp ring
 
 -- ---- a square that computes fast
-
--- the n low bits, bit i moved to bit 2i
-unfoldable pub spread : ℕ → ℕ → ℕ
-spread zero v = 0
-spread (suc n) v = v % 2 ⊕ spread n (v / 2) * 2 ^ 2
 
 -- h times x^7 + x^2 + x + 1
 unfoldable pub byReduction : ℕ → ℕ

@@ -1,3 +1,4 @@
 pub mod Field
 pub mod LongProduct
+pub mod Spread
 pub mod Words

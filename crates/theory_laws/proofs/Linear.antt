@@ -43,11 +43,11 @@ abbrev pub allBelow : ℕ → (ℕ → Bool) → Bool
 allBelow zero p = true
 allBelow (suc n) p = p n && allBelow n p
 
-and-l : (a b : Bool) → T (a && b) → T a
+pub and-l : (a b : Bool) → T (a && b) → T a
 and-l true b t = tt
 and-l false b t = absurd t
 
-and-r : (a b : Bool) → T (a && b) → T b
+pub and-r : (a b : Bool) → T (a && b) → T b
 and-r true b t = t
 and-r false b t = absurd t
 

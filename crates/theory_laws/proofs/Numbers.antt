@@ -16,6 +16,11 @@ lt-or-le a b = go (decLe b a)
     go (yes h) = inr h
     go (no f) = inl (lt-of-not-le f)
 
+-- a number is below the power of two that it names
+pub lt-pow : (n : ℕ) → n < 2 ^ n
+lt-pow zero = omega arith
+lt-pow (suc n) = omega (arith, lt-pow n)
+
 pub pow-two : (k : ℕ) → 2 ^ suc k ≡ 2 * 2 ^ k
 pow-two k = omega (arith, pow-suc 2 k)
 

@@ -1,13 +1,14 @@
 -- Finite sums: additive, split, swapped, by pairs, with one term; and a number is the sum of its bits.
 use mathlib.Core.Path.{_≡_, refl, sym, ap, ap₂, _∙_}
 use mathlib.Core.Logic.{_≢_, ⊎-elim}
-use Prim.Native.Nat.{ℕ, zero, suc, _+_, _-_, _*_, _%_, _^_, _<_}
-use native.Mathlib.Nat.{suc-mul, eq-or-lt-of-le, add-suc, add-zero, zero-mul, mod-one, mod-lt, mod-eq-of-lt, div-eq-of-lt, zero-div}
+use Prim.Native.Nat.{ℕ, zero, suc, _+_, _-_, _*_, _%_, _^_, _≤_, _<_}
+use native.Mathlib.Nat.{suc-mul, lt-of-lt-of-le, eq-or-lt-of-le, add-suc, add-zero, zero-mul, mod-one, mod-lt, mod-eq-of-lt, div-eq-of-lt, zero-div}
 use native.Mathlib.Numerals.{add-one, one-add}
 use native.Mathlib.Omega.{arith}
-use lib.Pow.{pow-pos, pow-lt, mod-pow-add}
+use lib.Pow.{pow-pos, pow-lt, pow-mono, mod-pow-add}
 use Rattle.theory_laws.specs.Xor.{_⊕_, bit, sel}
 use Rattle.theory_laws.specs.Sum.{sum}
+use Rattle.theory_laws.proofs.Numbers.{lt-pow}
 use Rattle.theory_laws.proofs.Parity.{bit-same, bit-other}
 use Rattle.theory_laws.proofs.Xor.{zero-⊕, ⊕-zero, ⊕-self, ⊕-assoc, ⊕-comm, ⊕-swap, ⊕-lt, ⊕-bit, ⊕-parts, sel-⊕, ⊕-cancel}
 
@@ -109,6 +110,16 @@ sum-bits (suc k) w =
 
 pub word-bits : (k w : ℕ) → w < 2 ^ k → w ≡ sum k (λ j. sel (bit j w) (2 ^ j))
 word-bits k w h = sym (sum-bits k w ∙ mod-eq-of-lt h)
+
+-- past its last bit a number has none
+pub bit-past : (n j v : ℕ) → v < 2 ^ n → n ≤ j → bit j v ≡ 0
+bit-past n j v h l = ap (λ (x : ℕ). x % 2) (div-eq-of-lt (lt-of-lt-of-le h (pow-mono l)))
+
+-- two numbers with the same bits are one
+pub same-bits : (a b : ℕ) → ((j : ℕ) → bit j a ≡ bit j b) → a ≡ b
+same-bits a b h =
+    word-bits (a + b) a (omega (arith, lt-pow (a + b)))
+    ∙ sum-ext (a + b) (λ j k. ap (λ (c : ℕ). sel c (2 ^ j)) (h j)) ∙ sym (word-bits (a + b) b (omega (arith, lt-pow (a + b))))
 
 -- ---- the number whose bit j is b j
 

@@ -10,6 +10,7 @@ use borrow.Author.Tests.{eqb-true, eqb-false, eq-eqb, le-leb, lt-leb}
 use lib.Dec.{eqb, leb}
 use lib.Pow.{pow-pos, pow-mono, pow-lt, pow-add, shl-shr}
 use Rattle.theory_laws.specs.Questions.{pick}
+use Rattle.theory_laws.proofs.Numbers.{lt-pow}
 use Rattle.theory_merkle.specs.Tree.{groupOf, halvings, log2, depthOf, treeSize}
 use Rattle.theory_merkle.specs.Shape.{Shape}
 use Rattle.theory_merkle.specs.Questions.{isPow}
@@ -60,10 +61,6 @@ halvings-pow (suc n) (suc h) k =
     let p : 1 ≤ 2 ^ h = pow-pos h in
     let e : 2 ^ suc h / 2 ≡ 2 ^ h = omega arith in
     rw (lt-leb (2 ^ suc h) 1 (omega arith), e) (ap suc (halvings-pow n h (omega arith)))
-
-lt-pow : (h : ℕ) → h < 2 ^ h
-lt-pow zero = omega arith
-lt-pow (suc h) = omega (arith, lt-pow h)
 
 pub log2-pow : (h : ℕ) → log2 (2 ^ h) ≡ h
 unfolding log2

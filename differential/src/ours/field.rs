@@ -13,6 +13,7 @@ struct Point7 {
 extern "C" {
     fn dequmlo_test_mul(a: Pair, b: Pair) -> Pair;
     fn dequmlo_test_square(a: Pair) -> Pair;
+    fn dequmlo_test_square_by_table(a: Pair) -> Pair;
     fn dequmlo_test_inv(a: Pair) -> Answer;
     fn dequmlo_test_pack_table(
         bytes: *const u8,
@@ -39,6 +40,7 @@ extern "C" {
 pub const FIELD: Field = Field {
     mul,
     square,
+    square_by_table,
     inv,
     pack_table,
     phi_c,
@@ -57,6 +59,11 @@ fn mul(a: Word, b: Word) -> Word {
 fn square(a: Word) -> Word {
     // SAFETY: a word by value; nothing is lent.
     word(unsafe { dequmlo_test_square(pair(a)) })
+}
+
+fn square_by_table(a: Word) -> Word {
+    // SAFETY: a word by value; nothing is lent.
+    word(unsafe { dequmlo_test_square_by_table(pair(a)) })
 }
 
 fn inv(a: Word) -> (u64, Word) {

@@ -8,6 +8,7 @@ use oracle::Word;
 pub const RIGHT: Field = Field {
     mul,
     square: |a| mul(a, a),
+    square_by_table: |a| mul(a, a),
     inv,
     pack_table,
     phi_c,
@@ -40,6 +41,14 @@ pub const WRONG: &[Wrong<Field>] = &[
         "the modulus with 0x85 for 0x87",
         Field {
             square: |a| product(a, a, 0x85),
+            ..RIGHT
+        },
+    ),
+    (
+        "square_by_table",
+        "a digit off where byte 9 is 255",
+        Field {
+            square_by_table: |a| mul(a, a) + Word(u128::from((a.0 >> 72) as u8 == 255) << 16),
             ..RIGHT
         },
     ),

@@ -14,14 +14,18 @@ returns c =
     let a = c .before .before .args .a in
     rw (or-zero (a .hi) (a .lo) (c .if1 .taken))
 
+spread-table-requires : tie.Need-spread-table-requires
+spread-table-requires c κs = search needs
+
 power-requires : tie.Need-power-requires
-power-requires c κs = search needs
+power-requires c κs = c .before .spread-table .ensures
 
 returns-2 : tie.Need-returns-2
 unfolding answer
 returns-2 c =
-    let a = c .before .before .before .args .a in
-    ap (λ (w : ℕ). (0, w)) (c .power .ensures) ∙ sym (answered (word a) (λ e. c .before .if1 .left (unfold word in zero-or (a .hi) (a .lo) e)))
+    let other = c .before .before .before in
+    let a = other .before .before .args .a in
+    ap (λ (w : ℕ). (0, w)) (c .power .ensures) ∙ sym (answered (word a) (λ e. other .if1 .left (unfold word in zero-or (a .hi) (a .lo) e)))
 
 pub inv-spec : {M : Type 1} → statement M
-inv-spec = tie.close (tie.spec returns power-requires returns-2)
+inv-spec = tie.close (tie.spec returns spread-table-requires power-requires returns-2)

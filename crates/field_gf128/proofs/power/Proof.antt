@@ -2,8 +2,9 @@
 use mathlib.Core.Path.{_≡_, sym, ap, ap₂, _∙_}
 use Prim.Native.Nat.{ℕ, _+_}
 use native.Mathlib.Omega.{arith}
+use borrow.Author.Needs.{needs}
 use Rattle.theory_field.specs.Field.{_⊗_, sq, frob, ladder}
-use Rattle.theory_field.proofs.Inverse.{ladder-one, ladder-add, inverse-sq}
+use Rattle.theory_field.proofs.Inverse.{frob-once, ladder-one, ladder-add, inverse-sq}
 use Rattle.field_gf128.specs.Word.{word}
 use Rattle.field_gf128.proofs.Halves.{word-lt}
 use Rattle.field_gf128.proofs.power.Statement.{statement}
@@ -39,11 +40,14 @@ returns c =
     let a120 = step _ _ a (c120 .mul-squares8 .ensures) a24 a96 in
     let a126 = step _ _ a (c126 .mul-squares9 .ensures) a6 a120 in
     let a127 = step _ _ a (c127 .mul-squares10 .ensures) a1 a126 in
-    c .square .ensures ∙ ap sq a127 ∙ sym (inverse-sq a)
+    c .squares .ensures ∙ frob-once (word _) ∙ ap sq a127 ∙ sym (inverse-sq a)
 
--- no call asks for anything
+squares-requires : tie.Need-squares-requires
+squares-requires c κs = let start : tie.Start = search in start .pre
+
+-- each call asks for the table alone
 pub power-spec : {M : Type 1} → statement M
 power-spec =
     tie.close
-    (tie.spec (λ c κs. tt) (λ c κs. tt) (λ c κs. tt) (λ c κs. tt) (λ c κs. tt) (λ c κs. tt) (λ c κs. tt) (λ c κs. tt) (λ c κs. tt) (λ c κs. tt)
-    (λ c κs. tt) returns)
+    (tie.spec (λ c κs. search needs) (λ c κs. search needs) (λ c κs. search needs) (λ c κs. search needs) (λ c κs. search needs) (λ c κs. search needs)
+    (λ c κs. search needs) (λ c κs. search needs) (λ c κs. search needs) (λ c κs. search needs) squares-requires returns)

@@ -11,16 +11,16 @@ use Rattle.field_gf128.proofs.squares.Statement.{statement}
 use Rattle.field_gf128.proofs.squares.Tie as tie
 
 abbrev Inv-loop : tie.InvT-loop
-Inv-loop n w₀ i₀ w i = (i ≤ n) × (word w ≡ frob i (word w₀))
+Inv-loop t n w₀ i₀ w i = (i ≤ n) × (word w ≡ frob i (word w₀))
 
 abbrev μ-loop : tie.MeasureT-loop
-μ-loop n w₀ i₀ w i = n - i
+μ-loop t n w₀ i₀ w i = n - i
 
 loop-holds : tie.Need-loop-holds Inv-loop μ-loop
 loop-holds c = (omega arith, sym (frob-zero (word (c .args .a))))
 
-square-requires : tie.Need-square-requires Inv-loop μ-loop
-square-requires c κs = search needs
+square-by-requires : tie.Need-square-by-requires Inv-loop μ-loop
+square-by-requires c κs = search needs
 
 add-i : tie.Need-add-i Inv-loop μ-loop
 add-i c = omega arith
@@ -34,7 +34,7 @@ one-more i a = sym (ap (λ (n : ℕ). frob n a) (add-one i) ∙ frob-suc i a ∙
 loop-again : tie.Need-loop-again Inv-loop μ-loop
 loop-again c =
     let l = c .before .before .loop in
-    let a = c .before .before .before .args .a in (omega arith, c .square .ensures ∙ ap sq (l .inv .1) ∙ one-more (l .i) (word a))
+    let a = c .before .before .before .args .a in (omega arith, c .square-by .ensures ∙ ap sq (l .inv .1) ∙ one-more (l .i) (word a))
 
 returns : tie.Need-returns Inv-loop μ-loop
 returns c = c .before .loop .inv .1 ∙ ap (λ (i : ℕ). frob i (word (c .before .before .args .a))) all
@@ -43,4 +43,4 @@ returns c = c .before .loop .inv .1 ∙ ap (λ (i : ℕ). frob i (word (c .befor
     all = omega arith
 
 pub squares-spec : {M : Type 1} → statement M
-squares-spec = tie.close (tie.spec Inv-loop μ-loop loop-holds square-requires add-i loop-less loop-again returns)
+squares-spec = tie.close (tie.spec Inv-loop μ-loop loop-holds square-by-requires add-i loop-less loop-again returns)
