@@ -272,6 +272,7 @@ pub fn spread_table() -> [u16; 256]
     SPREAD
 }
 
+// An entry as a number of 64 bits.
 fn number(x: u16) -> u64
     ensures { λ r. ⌜ r ≡ x ⌝ }
 {

@@ -7,11 +7,10 @@ use mathlib.Core.Logic.{⊎-elim}
 use Prim.Native.Nat.{ℕ, zero, suc, _+_, _*_, _/_, _%_, _^_, _≤_, _<_}
 use native.Mathlib.Nat.{zero-add, suc-add, mul-one, mul-assoc, mul-comm, div-one, zero-div}
 use native.Mathlib.Omega.{arith}
-use lib.Arith.{lt-one}
 use lib.Dec.{T, eqb, ltb, eqb→eq, ltb→lt}
 use lib.ListN.{length}
 use lib.Pow.{pow-add, pow-lt, shr-shr, high}
-use Rattle.theory_laws.specs.Table.{tab, at}
+use Rattle.theory_laws.specs.Table.{at}
 use Rattle.theory_laws.specs.Xor.{_⊕_, bit}
 use Rattle.theory_laws.proofs.Linear.{ext, allBelow, below, and-l, and-r, then-additive}
 use Rattle.theory_laws.proofs.Numbers.{lt-or-le}
