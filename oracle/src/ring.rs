@@ -27,7 +27,9 @@ pub fn extension_sides(packed: &[Word], point: &[Word], row: &[Word; 7]) -> (Wor
     let partials = partial_evals(&field::eq_build(point), packed);
     let left = sum_of_products(&field::eq_coefficients(row), &partials);
     let entries = field::eq_build(&[row, point].concat());
-    let bits = packed.iter().flat_map(|word| (0..128).map(|b| word.0 >> b & 1));
+    let bits = packed
+        .iter()
+        .flat_map(|word| (0..128).map(|b| word.0 >> b & 1));
     let set = entries.iter().zip(bits).filter(|(_, bit)| *bit == 1);
     (left, set.fold(Word(0), |sum, (&entry, _)| sum + entry))
 }

@@ -137,7 +137,11 @@ fn eval_at(z: &[Word], rb: &[Word; 128], point: &[Word]) -> (u64, Word) {
     (u64::from(answer.number), word(answer.word))
 }
 
-fn extension_sides(packed: &[Word], point: &[Word], row: &[Word; 7]) -> (u64, Vec<Word>, [Word; 2]) {
+fn extension_sides(
+    packed: &[Word],
+    point: &[Word],
+    row: &[Word; 7],
+) -> (u64, Vec<Word>, [Word; 2]) {
     let (n, packed, point) = (point.len(), lowered(packed), lowered(point));
     let mut table = vec![0; 2 << n];
     // SAFETY: the three slices are whole, and live through the call.
