@@ -38,7 +38,7 @@ bit-⊗ zero x y h = zero-⊗ (x ⊗ y)
 bit-⊗ (suc zero) x y h = one-⊗-⊗ x y
 bit-⊗ (suc (suc b)) x y h = absurd (omega arith)
 
--- a word under the coefficients first, then the words: for any coefficients c of rows and any entries e of words
+-- row by row or word by word, for any coefficients c of the rows and any entries e of the words
 pub partials-by-words : (rows m : ℕ) (words e c : ℕ → ℕ)
     → sum rows (λ b. partial m words e b ⊗ c b) ≡ sum m (λ v. sum rows (λ b. sel (bit b (words v)) (c b)) ⊗ e v)
 unfolding partial
