@@ -217,6 +217,11 @@ static double messages(size_t n, const char *one, const char *four, const char *
     return lanes / 4 / ours;
 }
 
+/* The two sides of an identity are one word. */
+static void agree(sides s) {
+    must(s.number == 0 && s.left.lo == s.right.lo && s.left.hi == s.right.hi, "identity");
+}
+
 static void ring(void) {
     double ours;
     enum { N = 16, M = 20 };
@@ -227,6 +232,12 @@ static void ring(void) {
     alone("partial evaluations, n = 16", "partial_evals_n16", ours);
     BEST(ours, 1, must(dequmlo_test_eval_at(M, z, 2 * M, rb, point, 2 * M).number == 0, "indicator"));
     alone("indicator at a point, n = 20", "eval_at_n20", ours);
+    point7 row;
+    for (size_t i = 0; i < 7; i++) row.words[i] = next_word();
+    BEST(ours, 1, agree(dequmlo_test_extension_sides(N, packed, (size_t)2 << N, z, 2 * N, row, eq, (size_t)2 << N)));
+    alone("both sides of the first identity, n = 16", "extension_sides_n16", ours);
+    BEST(ours, 1, agree(dequmlo_test_fold_sides(N, packed, (size_t)2 << N, z, 2 * N, rb, eq, (size_t)2 << N)));
+    alone("both sides of the second identity, n = 16", "fold_sides_n16", ours);
     free(packed);
     free(eq);
     free(out);

@@ -57,6 +57,21 @@ folded dequmlo_test_fold(size_t n, size_t k, size_t var, word r, const uint64_t 
 uint32_t dequmlo_test_partial_evals(size_t n, const uint64_t *packed, size_t packed_length, const uint64_t *eq, size_t eq_length, uint64_t *out, size_t out_length);
 answer dequmlo_test_eval_at(size_t n, const uint64_t *z, size_t z_length, coefficients rb, const uint64_t *point, size_t point_length);
 
+/* A point of 7 coordinates by value. */
+typedef struct {
+    word words[7];
+} point7;
+
+/* A number, and both sides of an identity. */
+typedef struct {
+    uint32_t number;
+    word left;
+    word right;
+} sides;
+
+sides dequmlo_test_extension_sides(size_t n, const uint64_t *packed, size_t packed_length, const uint64_t *point, size_t point_length, point7 row, uint64_t *table, size_t table_length);
+sides dequmlo_test_fold_sides(size_t n, const uint64_t *packed, size_t packed_length, const uint64_t *point, size_t point_length, coefficients rb, uint64_t *table, size_t table_length);
+
 typedef struct {
     uint32_t number;
     uint32_t level;

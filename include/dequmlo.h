@@ -299,7 +299,10 @@ dequmlo_compared dequmlo_compare(const uint8_t *base, size_t base_length, uint32
                                  uint8_t *first_message, size_t first_message_length, uint8_t *second_message,
                                  size_t second_message_length);
 
-/* ---- ring switching */
+/* ---- ring switching. Two identities tie these functions together; both are proved (docs/SPECIFICATION.md, 3.5). For the partials s of 2^n
+   words over the equality table of a point z: the sum over b of s_b times row coefficient b of a row point of 7 coordinates is the multilinear
+   extension of the words' 128 * 2^n bits at the row point followed by z; and the fold of s under any row coefficients rb is the sum over v of
+   word v times entry v of the indicator's table for z and rb. */
 
 /* The partial evaluations s_0 to s_127 over 2^n words and a table of 2^n entries: s_b is the sum of the entries of the words whose bit b
    is set. `out` takes 128 words. Refuses: 4 (n), 5 (a length). */

@@ -28,8 +28,8 @@ def answer(reader, letters, line):
     name, *texts = line.split()
     arguments, outputs, texts = [], [], iter(texts)
     for letter in letters:
-        if letter in "ocd":
-            outputs.append((letter != "d", {"o": 16, "c": 2048, "d": 32}[letter]))
+        if letter in "opcd":
+            outputs.append((letter != "d", {"o": 16, "p": 32, "c": 2048, "d": 32}[letter]))
             continue
         text = next(texts)
         if letter in "WB":
@@ -218,6 +218,15 @@ def sum_of(words):
     return total
 
 
+def sum_of_products(words, entries):
+    return sum_of(mul(w, e) for w, e in zip(words, entries))
+
+
+def folded(s, rb):
+    rows = [sum((s[j] >> i & 1) << j for j in range(128)) for i in range(128)]
+    return sum_of_products(rb, rows)
+
+
 @operation
 def partial_evals(n, words, eq, out):
     number = no((4, n <= 20), (5, n <= 20 and halves(words) == halves(eq) == 2 << n and out == 256))
@@ -228,9 +237,7 @@ def partial_evals(n, words, eq, out):
 def fold_partials(s, rb, _):
     if halves(s) != 256:
         return [5], [bytes(16)]
-    s, rb = ints(s), ints(rb)
-    rows = [sum((s[j] >> i & 1) << j for j in range(128)) for i in range(128)]
-    return [0], [packed([sum_of(mul(r, row) for r, row in zip(rb, rows))])]
+    return [0], [packed([folded(ints(s), ints(rb))])]
 
 
 @operation
@@ -246,6 +253,35 @@ def eval_at(n, z, rb, point, _):
         return [number], [bytes(16)]
     table = [phi(entry, ints(rb)) for entry in equality_table(ints(z))]
     return [0], [packed([extension(table, ints(point))])]
+
+
+def sides(n, words, point, out, answered):
+    """What both identities refuse alike; else the room, and the two sides."""
+    number = no((4, n <= 20), (5, n <= 20 and halves(words) == out == 2 << n and halves(point) == 2 * n))
+    if number:
+        return [number], [None, bytes(32)]
+    table, left, right = answered(ints(words), ints(point))
+    return [0], [packed(table), packed([left, right])]
+
+
+@operation
+def extension_sides(n, words, point, row, out, _):
+    def answered(words, point):
+        eq, coefficients = equality_table(point), equality_table(ints(row))
+        bits = [w >> b & 1 for w in words for b in range(128)]
+        return eq, sum_of_products(evals_of(n, words, eq), coefficients), extension(bits, ints(row) + point)
+
+    return sides(n, words, point, out, answered)
+
+
+@operation
+def fold_sides(n, words, point, rb, out, _):
+    def answered(words, point):
+        eq = equality_table(point)
+        table = [phi(entry, ints(rb)) for entry in eq]
+        return table, folded(evals_of(n, words, eq), ints(rb)), sum_of_products(words, table)
+
+    return sides(n, words, point, out, answered)
 
 
 # ---- the code

@@ -108,6 +108,24 @@ def ring(some):
         yield "materialize %d %s ~w6x128 %d" % (n, front(some(3), z), out)
     for n, z, point in [(1, 2, 0), (1, 0, 2), (1, 3, 2), (1, 2, 3), (0, 2, 0), (0, 0, 2), (21, 42, 42), (21, 0, 0), (20, 40, 39)]:
         yield "eval_at %d %s ~w7x128 %s" % (n, front(some(22), z), front(some(22), point))
+    yield from identities()
+
+
+def identities():
+    """Both sides of both identities: every n up to 8, words and points on which bits and places show, then 4 and 5 of each length, alone and together."""
+    for name, rows in [("extension_sides", 7), ("fold_sides", 128)]:
+        for n in range(9):
+            point = "~w%dx%d" % (20 + n, n) if n else "-"
+            yield "%s %d ~w%dx%d %s ~w%dx%d %d" % (name, n, 40 + n, 1 << n, point, 60 + n, rows, 2 << n)
+        for words, point in [("0x8", "~w1x3"), ("%xx8" % ONES, "~w2x3"), ("1,2,4,8,10,20,40,80", "0,1,0"), ("~w3x8", "1,1,1"), ("~w4x8", "0,0,0")]:
+            yield "%s 3 %s %s ~w8x%d 16" % (name, words, point, rows)
+        for row in ("1x%d" % rows, "0x%d" % rows, "%xx%d" % (ONES, rows)):
+            yield "%s 1 ~w5x2 ~w6x1 %s 4" % (name, row)
+        for n, words, point, table in [
+            *((1, 2, 2, 4), (1, 3, 2, 4), (1, 5, 2, 4), (1, 4, 0, 4), (1, 4, 1, 4), (1, 4, 4, 4), (1, 4, 2, 3), (1, 4, 2, 5), (1, 4, 2, 0)),
+            *((0, 0, 0, 2), (0, 2, 2, 2), (0, 2, 0, 4), (0, 4, 0, 2), (20, 4, 2, 4), (21, 4, 2, 4), (21, 0, 0, 0), (64, 2, 0, 2)),
+        ]:
+            yield "%s %d %s %s ~w9x%d %d" % (name, n, front([5, 9, 17], words), front([2, 3], point), rows, table)
 
 
 def code(some):

@@ -74,6 +74,10 @@ def ring():
     for case in range(126):
         n = case % 21
         yield "eval_at %d %s %s %s" % (n, words(case, 0, n), words(case, 1, 128), words(case, 2, n))
+    for name, rows in [("extension_sides", 7), ("fold_sides", 128)]:
+        for case in range(45):
+            n = case % 9
+            yield "%s %d %s %s %s %d" % (name, n, words(case, 0, 1 << n), words(case, 1, n), words(case, 2, rows), 2 << n)
 
 
 def sizes(greatest, most=24):

@@ -285,6 +285,32 @@ fn ring(n: usize, table: &[Word], challenges: &[Word]) {
             black_box(oracle::ring::eval_at(&point, &rb, &point));
         }),
     );
+    let row: [Word; 7] = some_words(7).try_into().expect("7 words");
+    print(
+        &format!("extension_sides_n{n}"),
+        best(7, 1, || {
+            black_box(extension_sides(table, challenges, &row));
+        }),
+    );
+    print(
+        &format!("fold_sides_n{n}"),
+        best(7, 1, || {
+            black_box(oracle::ring::fold_sides(table, challenges, &rb));
+        }),
+    );
+}
+
+/// Both sides of the first identity by the Rust's pieces, the extension word by word, as ours has it.
+fn extension_sides(table: &[Word], point: &[Word], row: &[Word; 7]) -> (Word, Word) {
+    let eq = oracle::field::eq_build(point);
+    let partials = oracle::ring::partial_evals(&eq, table);
+    let c = pack::eq_coefficients(row);
+    let phi = pack::PhiTab::build(&c);
+    let left = c.iter().zip(&partials).map(|(&c, &s)| gf128::mul(c, s));
+    let right = table.iter().zip(&eq);
+    let right = right.map(|(&w, &e)| gf128::mul(phi.apply(w), e));
+    let sum = |sum: Word, product: Word| sum + product;
+    (left.fold(Word(0), sum), right.fold(Word(0), sum))
 }
 
 /// One query record built, and checked by step 5 at a preset position.

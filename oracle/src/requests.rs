@@ -159,6 +159,18 @@ const REQUESTS: &[Request] = &[
         call: eval_at,
     },
     Request {
+        name: "extension_sides",
+        arguments: "n:number packed:words point:words row:7 words room",
+        answer: "0, words: the equality table; two words: the partials summed with eq_coefficients, and the bits' extension",
+        call: extension_sides,
+    },
+    Request {
+        name: "fold_sides",
+        arguments: "n:number packed:words point:words rb:128 words room",
+        answer: "0, words: the indicator's table; two words: the partials' fold, and the words summed with the table",
+        call: fold_sides,
+    },
+    Request {
         name: "derive",
         arguments: "n:number k:number domain room",
         answer: "0, words: the gammas, j outer",
@@ -538,6 +550,36 @@ fn eval_at(args: &mut Args) -> Result<String, Bad> {
     let (n, z, rb) = (args.number("n")?, args.words("z")?, args.array("rb")?);
     want(z.len() == n, "n coordinates")?;
     Ok(one(ring::eval_at(&z, &rb, &args.words("point")?)))
+}
+
+/// What both identities are about: packed words and a point.
+fn words_and_point(args: &mut Args) -> Result<(Vec<Word>, Vec<Word>), Bad> {
+    let n = args.number("n")?;
+    let (packed, point) = (args.words("packed")?, args.words("point")?);
+    want(packed.len() == 1 << n, "2^n words")?;
+    want(point.len() == n, "n coordinates")?;
+    Ok((packed, point))
+}
+
+fn extension_sides(args: &mut Args) -> Result<String, Bad> {
+    let (packed, point) = words_and_point(args)?;
+    let row = args.array("row")?;
+    args.output()?;
+    let sides = ring::extension_sides(&packed, &point, &row);
+    Ok(table_and_sides(&field::eq_build(&point), sides))
+}
+
+fn fold_sides(args: &mut Args) -> Result<String, Bad> {
+    let (packed, point) = words_and_point(args)?;
+    let rb = args.array("rb")?;
+    args.output()?;
+    let sides = ring::fold_sides(&packed, &point, &rb);
+    Ok(table_and_sides(&ring::materialize(&point, &rb), sides))
+}
+
+fn table_and_sides(table: &[Word], (left, right): (Word, Word)) -> String {
+    let sides = protocol::output_words(&[left, right]);
+    format!("{} {sides}", many(table))
 }
 
 fn level_domain(args: &mut Args) -> Result<String, Bad> {

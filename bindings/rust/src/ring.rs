@@ -1,4 +1,8 @@
 //! Ring switching: partial evaluations, their fold, and the indicator.
+//!
+//! Two identities tie these together; both are proved. For the partials s of 2^n words over the equality table of a point z: the sum over b of
+//! s_b times row coefficient b of a row point of 7 coordinates is the multilinear extension of the words' 128 × 2^n bits at the row point
+//! followed by z; and the fold of s under any row coefficients is the sum over v of word v times entry v of the indicator's table.
 
 use crate::raw;
 use crate::refusal::Refusal;

@@ -19,6 +19,7 @@ use Rattle.field_pack.specs.Pack.{packQuestions, packNumber}
 use Rattle.field_equality.specs.Eq.{eqQuestions, eqNumber}
 use Rattle.ring_partials.specs.Numbers as ring
 use Rattle.ring_indicator.specs.Numbers.{evalQuestions, evalNumber}
+use Rattle.ring_identities.specs.Numbers.{sidesQuestions, sidesNumber}
 use Rattle.hash_hasher.specs.Whole.{digestQuestions, digestOf}
 use Rattle.hash_hasher.specs.Hasher as hasher
 use Rattle.hash_serialize_parts.specs.Parts as parts
@@ -79,7 +80,7 @@ module _ {A : Type 0} (number : A → ℕ) where
 
 pub every-entry : EveryEntry
 unfolding known among
-    inverseOf refusal blocks.runNumber blocks.hashNumber packNumber eqNumber ring.partialNumber ring.foldNumber evalNumber
+    inverseOf refusal blocks.runNumber blocks.hashNumber packNumber eqNumber ring.partialNumber ring.foldNumber evalNumber sidesNumber
     digestOf hasher.numberOf hasher.updateOf hasher.finalizeOf parts.numberOf
     leafNumber nodeNumber buildNumber openNumber rootNumber leavesNumber parentsNumber
     code.deriveNumber code.shiftNumber code.encodeNumber code.foldNumber blockNumber halfNumber foldPartNumber
@@ -96,6 +97,7 @@ every-entry =
       partial-evals = λ n packed eq out. asked (ring.partialQuestions n packed eq out) refl;
       fold-partials = λ s. asked (ring.foldQuestions s) refl;
       eval-at = λ n z point. asked (evalQuestions n z point) refl;
+      sides = λ n packed point table. asked (sidesQuestions n packed point table) refl;
       digest = λ key flags input. asked (digestQuestions input) refl;
       update = λ s input. asked (hasher.questions s (length input)) refl;
       finalize = λ s. asked (hasher.questions s 0) refl;

@@ -11,6 +11,7 @@ use Rattle.field_pack.specs.Pack.{packNumber}
 use Rattle.field_equality.specs.Eq.{eqNumber}
 use Rattle.ring_partials.specs.Numbers as ring
 use Rattle.ring_indicator.specs.Numbers.{evalNumber}
+use Rattle.ring_identities.specs.Numbers.{sidesNumber}
 use Rattle.hash_hasher.specs.declared.hasher.Hasher.{Hasher}
 use Rattle.hash_hasher.specs.Whole.{digestOf}
 use Rattle.hash_hasher.specs.Hasher.{updateOf, finalizeOf}
@@ -52,6 +53,8 @@ pub record EveryEntry : Type 1 where
   pub fold-partials : (s : ℕ) → Known (ring.foldNumber s)
   -- eval_at
   pub eval-at : (n z point : ℕ) → Known (evalNumber n z point)
+  -- extension_sides, fold_sides
+  pub sides : (n packed point table : ℕ) → Known (sidesNumber n packed point table)
   -- digest in one call
   pub digest : (key : List ℕ) (flags : ℕ) (input : List ℕ) → Known (digestOf key flags input .number)
   -- hasher: update, finalize

@@ -11,6 +11,7 @@ use Rattle.theory_laws.specs.Xor.{_⊕_, bit, sel}
 use Rattle.theory_laws.proofs.Xor.{⊕-block, ⊕-parts, zero-⊕, sel-times, sel-lt}
 use Rattle.theory_field.specs.Field.{reduction, xtime}
 use Rattle.theory_field.specs.Words.{joined}
+use Rattle.theory_field.proofs.Words.{same-joined}
 use Rattle.field_gf128.specs.declared.Word.{Word}
 use Rattle.field_gf128.specs.Word.{word}
 
@@ -21,6 +22,13 @@ joined-lt h l hh hl = subst (λ (x : ℕ). joined h l < x) (sym (pow-add 2 64 64
 pub word-lt : (w : Word) → w .hi < 2 ^ 64 → w .lo < 2 ^ 64 → word w < 2 ^ 128
 unfolding word
 word-lt w hh hl = joined-lt (w .hi) (w .lo) hh hl
+
+-- two words of the code with one number are one
+pub word-settles : (v w : Word) → v .lo < 2 ^ 64 → w .lo < 2 ^ 64 → word v ≡ word w → v ≡ w
+unfolding word
+word-settles v w hv hw e =
+    let halves = same-joined (v .hi) (v .lo) (w .hi) (w .lo) hv hw e in
+    ap₂ (λ (h l : ℕ). record { lo = l; hi = h }) (halves .0) (halves .1)
 
 pub add-halves : (ah al bh bl : ℕ) → al < 2 ^ 64 → bl < 2 ^ 64
     → joined (bitXor ah bh) (bitXor al bl) ≡ joined ah al ⊕ joined bh bl

@@ -199,7 +199,8 @@ fn double_entries(c: [Word; 128], n: usize, z: Word) -> [Word; 128]
     d
 }
 
-// The row coefficients of 7 coordinates: entry b is the product over j of r[j] where bit j of b is 1, else 1 + r[j].
+// The row coefficients of 7 coordinates: entry b is the product over j of r[j] where bit j of b is 1, else 1 + r[j]. What the partials are, summed with
+// them, is stated in ring_identities (specs/Identities).
 pub fn eq_coefficients(r: [Word; 7]) -> [Word; 128]
     ensures { λ c. ⌜ numbers c ≡ eqTable (numbers r) ⌝ }
 {

@@ -1,4 +1,5 @@
-// The indicator of ring switching, after `RingEqInd` of ring.rs (SPECIFICATION 3.3 and 3.4): its table, and its value at a point.
+// The indicator of ring switching, after `RingEqInd` of ring.rs (SPECIFICATION 3.3 and 3.4): its table, and its value at a point. What ties the table to
+// the partials is stated in ring_identities (specs/Identities).
 ghost use mathlib.Core.Path.{_≡_};
 ghost use Prim.Native.Nat.{_*_, _^_};
 ghost use mathlib.Core.List.{[]};

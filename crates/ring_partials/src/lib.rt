@@ -1,4 +1,5 @@
-// Partial evaluations and their fold, after ring.rs (SPECIFICATION 3.1 and 3.2): a `Vec` becomes a lent slice, a panic a refusal.
+// Partial evaluations and their fold, after ring.rs (SPECIFICATION 3.1 and 3.2): a `Vec` becomes a lent slice, a panic a refusal. What ties them to the
+// words' bits and to the indicator's table is stated in these contracts' terms in ring_identities (specs/Identities).
 ghost use mathlib.Core.Path.{_≡_};
 ghost use Prim.Native.Nat.{_^_};
 ghost use lib.ListN.{length};

@@ -288,6 +288,48 @@ pub extern "C" fn dequmlo_test_eval_at(
     }
 }
 
+// A number, and both sides of an identity.
+#[repr(C)]
+pub struct NumberedSides {
+    pub number: u32,
+    pub left: Word,
+    pub right: Word,
+}
+
+fn numbered(a: ring_identities::Sides) -> NumberedSides {
+    let left = a.left;
+    let right = a.right;
+    NumberedSides {
+        number: a.number,
+        left,
+        right,
+    }
+}
+
+#[no_mangle]
+pub extern "C" fn dequmlo_test_extension_sides(
+    n: usize,
+    packed: &[u64],
+    point: &[u64],
+    row: Point7,
+    table: &mut [u64],
+) -> NumberedSides {
+    let coordinates = row.words;
+    numbered(ring_identities::extension_sides(n, packed, point, coordinates, table))
+}
+
+#[no_mangle]
+pub extern "C" fn dequmlo_test_fold_sides(
+    n: usize,
+    packed: &[u64],
+    point: &[u64],
+    rb: Coefficients,
+    table: &mut [u64],
+) -> NumberedSides {
+    let words = rb.words;
+    numbered(ring_identities::fold_sides(n, packed, point, words, table))
+}
+
 #[no_mangle]
 pub extern "C" fn dequmlo_test_build(
     domain: &[u8],

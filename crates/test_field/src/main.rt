@@ -27,7 +27,14 @@ use test_lines::request::numbers_in;
 use test_lines::request::words_in;
 
 // What a request is answered: the layer by its row of the table, the operation by its place in it.
-fn answer(operation: usize, words: &[u64], bytes: &[u8], w: &mut [u64], y: &mut [u8]) -> Answer {
+fn answer(
+    operation: usize,
+    words: &[u64],
+    bytes: &[u8],
+    w: &mut [u64],
+    x: &mut [u64],
+    y: &mut [u8],
+) -> Answer {
     let place = operation % 8;
     let n = numbers_in(words);
     let a = words_in(words, 0);
@@ -37,7 +44,7 @@ fn answer(operation: usize, words: &[u64], bytes: &[u8], w: &mut [u64], y: &mut 
     match operation / 8 {
         1 => field::word(place, a, b, w),
         2 => field::table(place, n, a, b, c, s, w),
-        3 => ring::answer(place, n, a, b, c, w),
+        3 => ring::answer(place, n, a, b, c, w, x),
         4 => code::answer(place, n, a, b, s, w),
         5 => blocks::answer(place, a, s, bytes_in(words, bytes, 1), w, y),
         _ => no_room(),
@@ -47,15 +54,17 @@ fn answer(operation: usize, words: &[u64], bytes: &[u8], w: &mut [u64], y: &mut 
 // Answers a request and prints the answer; the outputs hold what they hold before they are lent.
 fn respond(line: usize, operation: usize, words: &[u64], bytes: &[u8]) {
     let mut w = [0xa5a5_a5a5_a5a5_a5a5u64; 8192];
+    let mut x = [0xa5a5_a5a5_a5a5_a5a5u64; 4];
     let mut y = [0xa5u8; 8192];
     let a = answer(
         operation,
         words,
         bytes,
         first_halves(&mut w, item(words, OUT_WORDS, 0)),
+        first_halves(&mut x, item(words, OUT_WORDS, 1)),
         first(&mut y, item(words, OUT_BYTES, 0)),
     );
-    print_answer(line, words, a, &w, &[], &y, &[]);
+    print_answer(line, words, a, &w, &x, &y, &[]);
 }
 
 // A line: what it keeps is put after what is kept already, and what it asks is answered. Answers how many bytes are kept.
@@ -90,8 +99,8 @@ partial_evals nwwW
 fold_partials wwo
 materialize nwwW
 eval_at nwwwo
-none n
-none n
+extension_sides nwwwWp
+fold_sides nwwwWp
 none n
 none n
 derive nnbW

@@ -1,6 +1,7 @@
 // A request: the operation that a line names, and what it is lent. A program has a table of its operations, a line for each: its name, and a
 // letter for each argument. `n` is a number; `w` words, `l` a list of numbers, `b` bytes, each put after the last; `W` and `B` are how many
-// halves of words and bytes an output has. With no argument, at the end, `o` is an output of one word, `c` of 128 words, `d` of a digest.
+// halves of words and bytes an output has. With no argument, at the end, `o` is an output of one word, `p` of two words, `c` of 128 words, `d` of a
+// digest.
 //
 // What a request says stands in the head of the buffer of words, in rows of 8 halves: how many items a row has, and then these. They are the
 // numbers; where each input begins and the last one ends, of those that are words and those that are bytes; and the lengths of the outputs.
@@ -99,6 +100,7 @@ fn value(letter: u8, s: &[u8], bytes: &mut [u8], words: &mut [u64]) -> usize {
             put_argument(letter, s, bytes, words, at)
         }
         b'o' => 2,
+        b'p' => 4,
         b'c' => 256,
         b'd' => 32,
         _ => numbers(s).last as usize,

@@ -89,7 +89,7 @@ word-by-halves i t h =
 
 -- ---- the words settle the slice
 
-same-joined : (a b c d : ℕ) → b < 2 ^ 64 → d < 2 ^ 64 → joined a b ≡ joined c d → (a ≡ c) × (b ≡ d)
+pub same-joined : (a b c d : ℕ) → b < 2 ^ 64 → d < 2 ^ 64 → joined a b ≡ joined c d → (a ≡ c) × (b ≡ d)
 same-joined a b c d hb hd e = (
   sym (digits-div a hb) ∙ ap (λ (x : ℕ). x / 2 ^ 64) e ∙ digits-div c hd,
   sym (digits-mod a hb) ∙ ap (λ (x : ℕ). x % 2 ^ 64) e ∙ digits-mod c hd,

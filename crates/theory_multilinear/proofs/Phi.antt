@@ -1,4 +1,4 @@
--- phi_c is the linear map with the values c, and no other function of words is; a product with a word goes by the word's bits.
+-- phi_c is the linear map with the values c, and no other function of words is; a product goes by the bits of its first factor.
 use mathlib.Core.Path.{_≡_, refl, sym, ap, _∙_, fun-ext}
 use Prim.Native.Nat.{ℕ, zero, suc, _%_, _^_, _<_}
 use native.Mathlib.Nat.{mod-lt, mod-eq-of-lt}
@@ -7,11 +7,11 @@ use lib.Pow.{pow-lt, pow-pos}
 use Rattle.theory_laws.specs.Xor.{_⊕_, bit, sel}
 use Rattle.theory_laws.specs.Sum.{sum}
 use Rattle.theory_laws.proofs.Xor.{⊕-mod, sel-bit, sel-lt}
-use Rattle.theory_laws.proofs.Sum.{sum-⊕, sum-map, sum-at, sum-lt, word-bits}
+use Rattle.theory_laws.proofs.Sum.{sum-⊕, sum-map, sum-at, sum-lt, sum-bits}
 use Rattle.theory_laws.proofs.Parity.{bit-same, bit-other}
 use Rattle.theory_laws.proofs.Linear.{Additive, at-zero, ext}
 use Rattle.theory_field.specs.Field.{_⊗_}
-use Rattle.theory_field.proofs.Product.{⊕-⊗, ⊗-comm, ⊗-sel}
+use Rattle.theory_field.proofs.Product.{⊕-⊗, mod-⊗, ⊗-comm, ⊗-sel}
 use Rattle.theory_multilinear.specs.Phi.{phi, LinearMap, PhiLaws}
 
 -- of a sum of two words it is the sum of both (SPECIFICATION 2.5)
@@ -61,9 +61,14 @@ pub phi-lt : (c : ℕ → ℕ) → ((i : ℕ) → c i < 2 ^ 128) → (w : ℕ) �
 unfolding phi
 phi-lt c h w = sum-lt 128 128 (λ i. sel (bit i w) (c i)) (λ i. sel-lt (bit i w) 128 (c i) (h i))
 
--- a product with a word, bit by bit
-pub word-times : (w x : ℕ) → w < 2 ^ 128 → w ⊗ x ≡ sum 128 (λ j. sel (bit j w) (2 ^ j ⊗ x))
-word-times w x h =
-    ap (λ y. y ⊗ x) (word-bits 128 w h)
+-- a choice by a bit goes through a product, from its left too
+pub sel-⊗ : (b x y : ℕ) → sel b x ⊗ y ≡ sel b (x ⊗ y)
+sel-⊗ b x y = ⊗-comm (sel b x) y ∙ ⊗-sel b y x ∙ ap (sel b) (⊗-comm y x)
+
+-- a product, bit by bit of its first factor: only the 128 low bits count
+pub word-times : (w x : ℕ) → w ⊗ x ≡ sum 128 (λ j. sel (bit j w) (2 ^ j ⊗ x))
+word-times w x =
+    sym (mod-⊗ w x)
+    ∙ ap (λ y. y ⊗ x) (sym (sum-bits 128 w))
     ∙ sum-map (λ y. y ⊗ x) (λ a b. ⊕-⊗ a b x) 128 (λ j. sel (bit j w) (2 ^ j))
-    ∙ ap (sum 128) (fun-ext (λ j. ⊗-comm (sel (bit j w) (2 ^ j)) x ∙ ⊗-sel (bit j w) x (2 ^ j) ∙ ap (sel (bit j w)) (⊗-comm x (2 ^ j))))
+    ∙ ap (sum 128) (fun-ext (λ j. sel-⊗ (bit j w) (2 ^ j) x))

@@ -90,7 +90,7 @@ module _ (rb : ℕ → ℕ) where
       ∙ ⊗-sel (bit k (2 ^ j ⊗ q)) (2 ^ k) (phi rb (e ⊗ t j))))))
       ∙ sum-swap 128 128 (λ k j. sel (bit k (2 ^ j ⊗ q)) (2 ^ k ⊗ phi rb (e ⊗ t j)))
       ∙ ap (sum 128) (fun-ext (λ j.
-      sym (word-times (2 ^ j ⊗ q) (phi rb (e ⊗ t j)) (⊗-lt (2 ^ j) q))
+      sym (word-times (2 ^ j ⊗ q) (phi rb (e ⊗ t j)))
       ∙ ap (λ x. x ⊗ phi rb (e ⊗ t j)) (⊗-comm (2 ^ j) q) ∙ ⊗-assoc q (2 ^ j) (phi rb (e ⊗ t j))))
       ∙ sym (sum-map (_⊗_ q) (⊗-⊕ q) 128 (λ j. 2 ^ j ⊗ phi rb (e ⊗ t j)))
 

@@ -1,6 +1,6 @@
 -- Ring switching (SPECIFICATION 3): partial evaluations, their fold, and the indicator. Rests on phi, the equality table and
 -- the multilinear extension.
-use Prim.Native.Nat.{ℕ, _^_}
+use Prim.Native.Nat.{ℕ, _/_, _%_, _^_}
 use mathlib.Core.List.{List}
 use lib.ListN.{length}
 use Rattle.theory_laws.specs.Xor.{bit, sel}
@@ -18,6 +18,10 @@ partial m words e b = sum m (λ v. sel (bit b (words v)) (e v))
 -- `partial_evals` over two lists of 2^n entries: s_0 .. s_127
 unfoldable pub partialEvals : ℕ → List ℕ → List ℕ → List ℕ
 partialEvals n words e = tab 128 (partial (2 ^ n) (at words) (at e))
+
+-- the bits of words, a word's 128 side by side: place x has bit x % 128 of word x / 128
+unfoldable pub bitsOf : (ℕ → ℕ) → ℕ → ℕ
+bitsOf words x = bit (x % 128) (words (x / 128))
 
 -- the word whose bit j is b j
 unfoldable pub wordOf : (ℕ → ℕ) → ℕ

@@ -1,14 +1,9 @@
 //! The field layer of the archive.
 
-use super::{coefficients, lowered, pair, raised, word, Answer, Coefficients, Pair};
+use super::{coefficients, coordinates, lowered, pair, raised, word, Answer};
+use super::{Coefficients, Pair, Point7};
 use crate::field::Field;
 use oracle::Word;
-
-/// 7 coordinates by value.
-#[repr(C)]
-struct Point7 {
-    words: [Pair; 7],
-}
 
 extern "C" {
     fn dequmlo_test_mul(a: Pair, b: Pair) -> Pair;
@@ -92,9 +87,8 @@ fn phi_tab(p: Word, c: &[Word; 128]) -> Word {
 }
 
 fn eq_coefficients(r: &[Word; 7]) -> [Word; 128] {
-    let point = Point7 { words: r.map(pair) };
     // SAFETY: values only; nothing is lent.
-    unsafe { dequmlo_test_eq_coefficients(point) }
+    unsafe { dequmlo_test_eq_coefficients(coordinates(r)) }
         .words
         .map(word)
 }

@@ -29,6 +29,12 @@ struct Answer {
     word: Pair,
 }
 
+/// 7 coordinates by value.
+#[repr(C)]
+struct Point7 {
+    words: [Pair; 7],
+}
+
 /// 128 coefficients by value.
 #[repr(C)]
 struct Coefficients {
@@ -44,6 +50,10 @@ fn pair(word: Word) -> Pair {
 
 fn word(pair: Pair) -> Word {
     Word(u128::from(pair.hi) << 64 | u128::from(pair.lo))
+}
+
+fn coordinates(r: &[Word; 7]) -> Point7 {
+    Point7 { words: r.map(pair) }
 }
 
 fn coefficients(c: &[Word; 128]) -> Coefficients {

@@ -1,6 +1,7 @@
 //! The ring layer of the archive.
 
-use super::{coefficients, lowered, raised, word, Answer, Coefficients};
+use super::{coefficients, coordinates, lowered, raised, word, Answer};
+use super::{Coefficients, Pair, Point7};
 use crate::ring::Ring;
 use oracle::Word;
 
@@ -31,6 +32,42 @@ extern "C" {
         point: *const u64,
         point_length: usize,
     ) -> Answer;
+    fn dequmlo_test_extension_sides(
+        n: usize,
+        packed: *const u64,
+        packed_length: usize,
+        point: *const u64,
+        point_length: usize,
+        row: Point7,
+        table: *mut u64,
+        table_length: usize,
+    ) -> Sides;
+    fn dequmlo_test_fold_sides(
+        n: usize,
+        packed: *const u64,
+        packed_length: usize,
+        point: *const u64,
+        point_length: usize,
+        rb: Coefficients,
+        table: *mut u64,
+        table_length: usize,
+    ) -> Sides;
+}
+
+/// A number, and both sides of an identity.
+#[repr(C)]
+struct Sides {
+    number: u32,
+    left: Pair,
+    right: Pair,
+}
+
+impl Sides {
+    /// With the table that the call left.
+    fn with(self, table: &[u64]) -> (u64, Vec<Word>, [Word; 2]) {
+        let sides = [word(self.left), word(self.right)];
+        (u64::from(self.number), raised(table), sides)
+    }
 }
 
 pub const RING: Ring = Ring {
@@ -38,6 +75,8 @@ pub const RING: Ring = Ring {
     fold_partials,
     materialize,
     eval_at,
+    extension_sides,
+    fold_sides,
 };
 
 fn partial_evals(n: usize, eq: &[Word], packed: &[Word]) -> (u64, Vec<Word>) {
@@ -96,4 +135,46 @@ fn eval_at(z: &[Word], rb: &[Word; 128], point: &[Word]) -> (u64, Word) {
         )
     };
     (u64::from(answer.number), word(answer.word))
+}
+
+fn extension_sides(
+    packed: &[Word],
+    point: &[Word],
+    row: &[Word; 7],
+) -> (u64, Vec<Word>, [Word; 2]) {
+    let (n, packed, point) = (point.len(), lowered(packed), lowered(point));
+    let mut table = vec![0; 2 << n];
+    // SAFETY: the three slices are whole, and live through the call.
+    let sides = unsafe {
+        dequmlo_test_extension_sides(
+            n,
+            packed.as_ptr(),
+            packed.len(),
+            point.as_ptr(),
+            point.len(),
+            coordinates(row),
+            table.as_mut_ptr(),
+            table.len(),
+        )
+    };
+    sides.with(&table)
+}
+
+fn fold_sides(packed: &[Word], point: &[Word], rb: &[Word; 128]) -> (u64, Vec<Word>, [Word; 2]) {
+    let (n, packed, point) = (point.len(), lowered(packed), lowered(point));
+    let mut table = vec![0; 2 << n];
+    // SAFETY: the three slices are whole, and live through the call.
+    let sides = unsafe {
+        dequmlo_test_fold_sides(
+            n,
+            packed.as_ptr(),
+            packed.len(),
+            point.as_ptr(),
+            point.len(),
+            coefficients(rb),
+            table.as_mut_ptr(),
+            table.len(),
+        )
+    };
+    sides.with(&table)
 }

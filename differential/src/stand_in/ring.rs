@@ -13,6 +13,11 @@ pub const RIGHT: Ring = Ring {
     fold_partials: |s, rb| (0, fold_partials(s, rb)),
     materialize: |z, rb| (0, materialize(z, rb)),
     eval_at: |z, rb, point| (0, extension(&materialize(z, rb), point)),
+    extension_sides: |packed, point, row| {
+        let all = [row, point].concat();
+        extension_sides(packed, point, row, &all)
+    },
+    fold_sides: |packed, point, rb| fold_sides(packed, point, rb, &materialize(point, rb)),
 };
 
 pub const WRONG: &[Wrong<Ring>] = &[
@@ -55,6 +60,25 @@ pub const WRONG: &[Wrong<Ring>] = &[
             ..RIGHT
         },
     ),
+    (
+        "extension_sides",
+        "the point's coordinates first",
+        Ring {
+            extension_sides: |packed, point, row| {
+                let all = [point, row].concat();
+                extension_sides(packed, point, row, &all)
+            },
+            ..RIGHT
+        },
+    ),
+    (
+        "fold_sides",
+        "the words summed with the equality table",
+        Ring {
+            fold_sides: |packed, point, rb| fold_sides(packed, point, rb, &eq_table(point)),
+            ..RIGHT
+        },
+    ),
 ];
 
 /// s_b: the sum of the entries of the words whose bit b is set.
@@ -82,4 +106,35 @@ fn fold_partials(s: &[Word; 128], rb: &[Word; 128]) -> Word {
 /// Entry v: phi with the row coefficients of entry v of the equality table.
 fn materialize(z: &[Word], rb: &[Word; 128]) -> Vec<Word> {
     eq_table(z).iter().map(|&e| phi_c(e, rb)).collect()
+}
+
+/// Both sides of the first identity, the bits extended to the point `all`.
+fn extension_sides(
+    packed: &[Word],
+    point: &[Word],
+    row: &[Word; 7],
+    all: &[Word],
+) -> (u64, Vec<Word>, [Word; 2]) {
+    let eq = eq_table(point);
+    let left = extension(&partial_evals(&eq, packed), row);
+    let bit = |word: &Word, b: usize| Word(word.0 >> b & 1);
+    let bits: Vec<Word> = packed
+        .iter()
+        .flat_map(|word| (0..128).map(move |b| bit(word, b)))
+        .collect();
+    (0, eq, [left, extension(&bits, all)])
+}
+
+/// Both sides of the second, the words summed with `table`.
+fn fold_sides(
+    packed: &[Word],
+    point: &[Word],
+    rb: &[Word; 128],
+    table: &[Word],
+) -> (u64, Vec<Word>, [Word; 2]) {
+    let partials = partial_evals(&eq_table(point), packed);
+    let left = fold_partials(&partials.try_into().expect("128 partials"), rb);
+    let products = packed.iter().zip(table).map(|(&w, &e)| mul(w, e));
+    let right = products.fold(Word(0), |sum, product| sum + product);
+    (0, materialize(point, rb), [left, right])
 }

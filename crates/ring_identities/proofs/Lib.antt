@@ -1,0 +1,2 @@
+pub mod Identities
+pub mod Sizes
