@@ -19,7 +19,8 @@ ghost use Rattle.ring_identities.specs.helpers.Sizes.{Sizes};
 use field_gf128::Word;
 use field_words::table_len;
 
-// Both sides of an identity, where the number is 0; else the number of the refusal, and the word 0 twice.
+// Both sides of an identity, where the number is 0: on the left what comes of the partials, on the right what comes of the words and a table. Else the
+// number of the refusal, and the word 0 twice.
 pub struct Sides {
     pub number: u32,
     pub left: Word,
@@ -46,7 +47,7 @@ fn sides_number(n: usize, packed: usize, point: usize, table: usize) -> u32
     0
 }
 
-// Nothing on either side.
+// What is answered where a question says no.
 fn refused(number: u32) -> Sides
     ensures { λ r. ⌜ (r .number ≡ number) × (word (r .left) ≡ 0) × (r .left ≡ r .right) ⌝ }
 {
