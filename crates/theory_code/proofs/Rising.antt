@@ -1,12 +1,12 @@
--- Lists of strictly rising numbers below a bound: what each entry is below, an entry dropped, and all numbers below the bound.
+-- Lists of strictly rising numbers below a bound: their entries, from a lower number on, without the first ones, and numbers that follow each other.
 use Prim.Native.Nat.{ℕ, zero, suc, _+_, _≤_, _<_}
-use mathlib.Core.Path.{_≡_, refl, _∙_, ap}
+use mathlib.Core.Path.{_≡_, refl}
 use mathlib.Core.Bool.{true}
 use mathlib.Core.List.{List, [], _∷_}
 use native.Mathlib.Omega.{arith}
 use borrow.Author.Tests.{leb-true, ltb-true, le-leb, lt-ltb}
 use lib.Dec.{leb, ltb}
-use lib.ListN.{length}
+use lib.ListN.{length, drop}
 use Rattle.theory_laws.specs.Questions.{both}
 use Rattle.theory_laws.specs.Table.{tab, at}
 use Rattle.theory_laws.proofs.Lists.{both-true}
@@ -14,7 +14,7 @@ use Rattle.theory_laws.proofs.Questions.{true-both}
 use Rattle.theory_code.specs.Questions.{rising}
 
 -- its first number and the rest
-rising-parts : (least bound x : ℕ) (xs : List ℕ) → rising least bound (x ∷ xs) ≡ true → (least ≤ x) × (x < bound) × (rising (suc x) bound xs ≡ true)
+pub rising-parts : (least bound x : ℕ) (xs : List ℕ) → rising least bound (x ∷ xs) ≡ true → (least ≤ x) × (x < bound) × (rising (suc x) bound xs ≡ true)
 unfolding rising
 rising-parts least bound x xs e =
     let a = both-true (leb least x) (both (ltb x bound) (rising (suc x) bound xs)) e in
@@ -29,3 +29,27 @@ pub rising-below : (least bound : ℕ) (xs : List ℕ) → rising least bound xs
 rising-below least bound [] e i h = absurd (omega arith)
 rising-below least bound (x ∷ xs) e zero h = rising-parts least bound x xs e .1
 rising-below least bound (x ∷ xs) e (suc i) h = rising-below (suc x) bound xs (rising-parts least bound x xs e .2) i (omega arith)
+
+-- from a lower number on
+pub rising-less : (less least bound : ℕ) (xs : List ℕ) → less ≤ least → rising least bound xs ≡ true → rising less bound xs ≡ true
+unfolding rising
+rising-less less least bound [] h e = refl
+rising-less less least bound (x ∷ xs) h e =
+    let p = rising-parts least bound x xs e in
+    rising-more less bound x xs (omega (arith, p .0)) (p .1) (p .2)
+
+-- without the first ones
+pub rising-behind : (l least bound : ℕ) (xs : List ℕ) → rising least bound xs ≡ true → rising least bound (drop l xs) ≡ true
+rising-behind zero least bound xs e = e
+rising-behind (suc l) least bound [] e = e
+rising-behind (suc l) least bound (x ∷ xs) e =
+    let p = rising-parts least bound x xs e in
+    rising-behind l least bound xs (rising-less least (suc x) bound xs (omega (arith, p .0)) (p .2))
+
+-- m numbers that follow each other
+pub rising-tab : (m least bound : ℕ) (f : ℕ → ℕ) → ((i : ℕ) → i < m → f i ≡ least + i) → least + m ≤ bound → rising least bound (tab m f) ≡ true
+unfolding rising tab
+rising-tab zero least bound f h b = refl
+rising-tab (suc m) least bound f h b =
+    rising-more least bound (f 0) (tab m (λ i. f (suc i))) (omega (arith, h 0 (omega arith))) (omega (arith, h 0 (omega arith)))
+    (rising-tab m (suc (f 0)) bound (λ i. f (suc i)) (λ i g. omega (arith, h 0 (omega arith), h (suc i) (omega arith))) (omega (arith, h 0 (omega arith))))
