@@ -54,6 +54,12 @@ left-done (x ∷ xs) c = go (eqb (callNumber c x) 0) (left-done xs (callFold c x
     go true f s = f
     go false f s = s
 
+-- so the codeword after all done folds is what is left
+pub after-all : (calls : List Call) (c : Codeword) → afterFolds c calls (length (doneFolds c calls)) ≡ leftBy c calls
+after-all calls c =
+    after-done calls c (length (doneFolds c calls)) (omega arith)
+    ∙ ap (λ (fs : List Fold). leftOf fs c) (take-all (length (doneFolds c calls)) (doneFolds c calls) (omega arith)) ∙ sym (left-done calls c)
+
 -- ---- all at variable 0
 
 take-atFirst : (l : ℕ) (r : List ℕ) → take l (atFirst r) ≡ atFirst (take l r)
@@ -86,7 +92,7 @@ module _ (calls : List Call) (c : Codeword) (r : List ℕ) (done : doneFolds c c
 
 -- ---- a done call is at a variable that is still there
 
-fold-there : (n k original var : ℕ) (coordinates : List ℕ) (src out : ℕ) → foldNumber n k original var coordinates src out ≡ 0 → var < length coordinates
+pub fold-there : (n k original var : ℕ) (coordinates : List ℕ) (src out : ℕ) → foldNumber n k original var coordinates src out ≡ 0 → var < length coordinates
 unfolding foldNumber
 fold-there n k original var coordinates src out z =
     let y = all-yes (foldQuestions n k original var coordinates src out) tt z in
@@ -117,6 +123,18 @@ done-folds (x ∷ xs) c = go (eqb (callNumber c x) 0) refl (done-folds xs (callF
         → there (length (leftBy (pick b (callFold c x) c) xs .coordinates)) (pick b (f ∷ doneFolds (callFold c x) xs) (doneFolds c xs))
     go true e hs s = first _ _ (eqb-true _ 0 e) hs
     go false e hs s = s
+
+folds-count : {n m : ℕ} (fs : List Fold) → Folds n m fs → n ≡ length fs + m
+folds-count [] none = omega arith
+folds-count (f ∷ fs) (more h hs) = omega (arith, folds-count fs hs)
+
+-- with no coordinate left none is done
+pub none-done : (calls : List Call) (c : Codeword) → c .coordinates ≡ [] → doneFolds c calls ≡ []
+none-done calls c e = no-folds (doneFolds c calls) (omega (arith, ap length e, folds-count (doneFolds c calls) (done-folds calls c)))
+  where
+    no-folds : (fs : List Fold) → length fs ≡ 0 → fs ≡ []
+    no-folds [] h = refl
+    no-folds (f ∷ fs) h = absurd (omega arith)
 
 -- ---- refused calls change nothing
 
