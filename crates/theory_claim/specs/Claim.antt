@@ -26,7 +26,7 @@ use Rattle.theory_record.specs.Query.{accepted, checkQuery}
 use Rattle.theory_record.specs.Tail.{checkTail}
 use Rattle.theory_record.specs.Accepted.{AcceptedQuery, AcceptedTail}
 use Rattle.theory_record.specs.Build.{levelsLength, treeStart, buildQueryNumber, buildQuery, buildTailNumber, buildTail}
-use Rattle.theory_claim.specs.Commit.{commitNumber, committedCodeword, committedTree}
+use Rattle.theory_claim.specs.Commit.{commitNumber, committedInUse, committedTree}
 use Rattle.theory_compare.specs.Compare.{Comparison, compared, firstMessage, secondMessage, messageBuffer}
 use Rattle.theory_compare.specs.Nearest.{NearestRoot}
 use Rattle.theory_claim.specs.Calls.{Codeword, Call, callNumber, doneFolds, afterFolds, leftBy}
@@ -58,7 +58,7 @@ module _ (set : WidthSet) (n k : ℕ) (base table challenges : List ℕ) where
 
   -- the codeword and its list as `commit` leaves them
   abbrev pub committed : Codeword
-  committed = record { values = committedCodeword base n k (words table); coordinates = allCoordinates n }
+  committed = committedInUse base n k (words table)
 
   -- ---- what a list of calls leaves, and the records after it
 

@@ -8,7 +8,7 @@ use lib.ListN.{length}
 use Rattle.theory_laws.specs.Lists.{flat}
 use Rattle.theory_laws.specs.Questions.{Question, _asks_, firstNo}
 use Rattle.theory_field.specs.Words.{words}
-use Rattle.theory_multilinear.specs.Codeword.{encode}
+use Rattle.theory_multilinear.specs.Codeword.{allCoordinates, encode}
 use Rattle.theory_blake3.specs.Digest.{hash}
 use Rattle.theory_code.specs.Questions.{sized, lent}
 use Rattle.theory_code.specs.Gammas.{gammas}
@@ -16,6 +16,7 @@ use Rattle.theory_record.specs.Widths.{Widths, widthsOf, treeLength}
 use Rattle.theory_record.specs.declared.WidthSet.{WidthSet}
 use Rattle.theory_record.specs.Trees.{treeFor}
 use Rattle.theory_record.specs.Scheme.{Scheme}
+use Rattle.theory_claim.specs.Calls.{Codeword}
 
 -- ---- the questions, in the order of SPECIFICATION 8.4. What is lent comes in by its length: words in halves, two to a word, coordinates in
 -- numbers, trees in bytes
@@ -50,6 +51,10 @@ committedCodeword base n k table = encode n k (gammas hash base n k) table
 -- of a table as it is lent
 abbrev pub codewordOf : List ℕ → ℕ → ℕ → List ℕ → List ℕ
 codewordOf base n k table = committedCodeword base n k (words table)
+
+-- the codeword in use: with all its coordinates
+abbrev pub committedInUse : List ℕ → ℕ → ℕ → List ℕ → Codeword
+committedInUse base n k table = record { values = committedCodeword base n k table; coordinates = allCoordinates n }
 
 -- level 0's tree over the codeword, as it is lent
 unfoldable pub committedTree : Scheme → List ℕ → List ℕ
