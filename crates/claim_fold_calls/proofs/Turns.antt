@@ -51,7 +51,7 @@ unfolding afterFolds tab
 reached-none n k calls levels coordinates kept el ec ek =
     let c : Codeword = first n k levels coordinates in
     let same : c ≡ inUse n k 0 levels coordinates =
-        ap (first n k levels) (sym (take-all (n - 0) coordinates (omega (arith, ec)))) in
+    ap (first n k levels) (sym (take-all (n - 0) coordinates (omega (arith, ec)))) in
     record {
       within = omega arith;
       from= = start-zero n k;

@@ -63,7 +63,8 @@ fn commit_first(
 }
 
 // A table committed, the calls of a lent list on its codeword, and the trees and roots of all levels: how many calls are done. The list that
-// is left stands at the front of `coordinates`, zeros behind it, and the challenges of the done ones are kept; `half` is room for a fold and is left with zeros.
+// is left stands at the front of `coordinates`, zeros behind it, and the challenges of the done ones are kept; `half` is room for a fold and is left
+// with zeros.
 pub fn deposit(
     set: WidthSet,
     n: usize,

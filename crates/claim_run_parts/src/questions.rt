@@ -136,7 +136,8 @@ pub fn run_number(
     one: usize,
     two: usize,
 ) -> u32
-    ensures { λ r. ⌜ r ≡ runNumber (widthsOf set) n k position base table calls challenges gammas levels coordinates half kept trees roots query tail one two ⌝ }
+    ensures { λ r. ⌜ r ≡ runNumber (widthsOf set) n k position base table calls challenges gammas levels coordinates half kept trees roots
+        query tail one two ⌝ }
 {
     let a = size_number(n, k);
     if a != 0 {
@@ -146,7 +147,18 @@ pub fn run_number(
     if b != 0 {
         return b;
     }
-    let c = deposit_number(set, n, k, gammas, levels, coordinates, half, kept, trees, roots);
+    let c = deposit_number(
+        set,
+        n,
+        k,
+        gammas,
+        levels,
+        coordinates,
+        half,
+        kept,
+        trees,
+        roots,
+    );
     if c != 0 {
         return c;
     }

@@ -49,7 +49,8 @@ fn made(
     one: &mut [u8],
     two: &mut [u8],
 ) -> Answers
-    requires { ⌜ DepositLent set n k base table calls challenges gammas levels coordinates half kept trees roots × RecordLent set n k position query tail one two ⌝ }
+    requires { ⌜ DepositLent set n k base table calls challenges gammas levels coordinates half kept trees roots
+        × RecordLent set n k position query tail one two ⌝ }
     ensures { λ r. ⌜ RunDone (given set n k position (word claim) base table calls challenges first second)
         (buffers gammas levels coordinates half kept trees roots query tail one two) r ⌝ }
 {
@@ -93,9 +94,9 @@ fn made(
     }
 }
 
-// The whole run under one set of widths: a table committed, the calls of a lent list on its codeword with its list of coordinates, the levels' trees and roots, the query record
-// at a position and the tail record, built and checked, the tail's for a claim, and two lent records for that position compared under the kept
-// challenges and the roots. Where the done calls are n folds at variable 0 by r, the query record is accepted, and the tail record exactly for the
+// The whole run under one set of widths: a table committed, the calls of a lent list on its codeword with its list of coordinates, the levels'
+// trees and roots, the query record at a position and the tail record, built and checked, the tail's for a claim, and two lent records for that
+// position compared under the kept challenges and the roots. What any calls leave is settled, the codeword block by block. Where the done calls are n folds at variable 0 by r, the query record is accepted, and the tail record exactly for the
 // claim P(r). It refuses with 4, 5, 7 and 11, and then changes no lent byte.
 pub fn run(
     set: WidthSet,

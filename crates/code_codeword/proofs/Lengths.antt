@@ -16,7 +16,16 @@ use Rattle.theory_laws.proofs.Lists.{both-true}
 use Rattle.field_runs.specs.Runs.{Paired}
 use Rattle.code_codeword.specs.declared.Folded.{Folded}
 use Rattle.theory_code.specs.Questions.{
-    sized, lent, encodeNumber, rising, shiftQuestions, shiftNumber, foldQuestions, foldNumber, earlierQuestions, earlierNumber
+  sized,
+  lent,
+  encodeNumber,
+  rising,
+  shiftQuestions,
+  shiftNumber,
+  foldQuestions,
+  foldNumber,
+  earlierQuestions,
+  earlierNumber,
 }
 use Rattle.theory_code.proofs.Rising.{rising-below}
 use Rattle.code_codeword.specs.helpers.Sizes.{ShiftSizes, EncodeSizes, Below}

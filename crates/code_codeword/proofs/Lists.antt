@@ -91,7 +91,7 @@ moved-more var old i list m h =
     let x : ℕ = at list (i + 1) in
     let dropped = length-dropAt var old (omega arith) in
     let v : at list (i + 1) ≡ at (dropAt var old) i =
-        read-ahead i list old (m .behind) ∙ ap (at old) (add-one i) ∙ sym (behind-entry var i old f) in
+    read-ahead i list old (m .behind) ∙ ap (at old) (add-one i) ∙ sym (behind-entry var i old f) in
     record {
       from = omega arith;
       to = h;
@@ -110,6 +110,6 @@ unfolding droppedOf
 moved-all var old i list m last e same =
     let f = m .from in
     let front : take last list ≡ dropAt var old =
-        ap (λ (j : ℕ). take j list) same ∙ m .front ∙ take-all i (dropAt var old) (omega (arith, length-dropAt var old (omega arith))) in
+    ap (λ (j : ℕ). take j list) same ∙ m .front ∙ take-all i (dropAt var old) (omega (arith, length-dropAt var old (omega arith))) in
     sym (take-all (suc last) (set list last 0) (omega (arith, length-set list last 0, m .long))) ∙ take-suc-set list last 0 (omega (arith, m .long))
     ∙ ap (λ (l : List ℕ). l ++ 0 ∷ []) front

@@ -47,7 +47,14 @@ pub fn coordinate(n: usize, k: usize, eps: usize, gammas: &[u64], i: usize) -> W
 }
 
 // The number that `l_of` answers.
-fn l_of_number(n: usize, k: usize, original: usize, coordinates: &[usize], gammas: usize, out: usize) -> u32
+fn l_of_number(
+    n: usize,
+    k: usize,
+    original: usize,
+    coordinates: &[usize],
+    gammas: usize,
+    out: usize,
+) -> u32
     ensures { λ r. ⌜ r ≡ shiftNumber n k original (now (coordinates .entry)) gammas out ⌝ }
 {
     if n > 20 {
@@ -72,7 +79,14 @@ fn l_of_number(n: usize, k: usize, original: usize, coordinates: &[usize], gamma
 }
 
 // L(eps) at a list of coordinates, once the questions are answered.
-fn shift_over(original: usize, k: usize, eps: usize, coordinates: &[usize], gammas: &[u64], out: &mut [u64])
+fn shift_over(
+    original: usize,
+    k: usize,
+    eps: usize,
+    coordinates: &[usize],
+    gammas: &[u64],
+    out: &mut [u64],
+)
     requires { ⌜ ShiftSizes original k (length (now gammas)) × Below original (now coordinates) × (length (now out) ≡ 2 * length (now coordinates)) ⌝ }
     ensures { λ _. ⌜ words (now (out .exit)) ≡ C.shiftOver original k (words (now (gammas .entry))) (now (coordinates .entry)) eps ⌝ }
 {
@@ -87,7 +101,15 @@ fn shift_over(original: usize, k: usize, eps: usize, coordinates: &[usize], gamm
 // L(eps) of a codeword in use, a point of n coordinates, of k × n gammas for the original n, lent with j outer: its coordinates at those of the
 // list, which are not folded away. It refuses n or an original n past 20 or k past 4 with 4, lengths that are not theirs with 5, and a list that does not
 // hold exactly n strictly rising numbers below the original n with 36.
-pub fn l_of(n: usize, k: usize, original: usize, eps: usize, coordinates: &[usize], gammas: &[u64], out: &mut [u64]) -> u32
+pub fn l_of(
+    n: usize,
+    k: usize,
+    original: usize,
+    eps: usize,
+    coordinates: &[usize],
+    gammas: &[u64],
+    out: &mut [u64],
+) -> u32
     ensures { λ r. ⌜ r ≡ shiftNumber n k original (now (coordinates .entry)) (length (now (gammas .entry))) (length (now (out .entry))) ⌝ }
     ensures { λ r. ⌜ words (now (out .exit))
         ≡ onDone r (C.shiftOver original k (words (now (gammas .entry))) (now (coordinates .entry)) eps) (words (now (out .entry))) ⌝ }
@@ -264,7 +286,15 @@ pub struct Folded {
 }
 
 // The number that `fold` answers.
-fn fold_number(n: usize, k: usize, original: usize, var: usize, coordinates: &[usize], src: usize, out: usize) -> u32
+fn fold_number(
+    n: usize,
+    k: usize,
+    original: usize,
+    var: usize,
+    coordinates: &[usize],
+    src: usize,
+    out: usize,
+) -> u32
     ensures { λ r. ⌜ r ≡ foldNumber n k original var (now (coordinates .entry)) src out ⌝ }
 {
     if n > 20 {

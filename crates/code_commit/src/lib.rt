@@ -60,8 +60,8 @@ fn number(
     0
 }
 
-// The gammas of a base domain, the codeword of a table of 2^n words, its list, 0 to n - 1, and level 0's tree by a set of widths. It refuses n past 20 or k past 4
-// with 4, lengths that are not theirs with 5, and a base domain of more than 200 bytes with 7.
+// The gammas of a base domain, the codeword of a table of 2^n words, its list, 0 to n - 1, and level 0's tree by a set of widths. It refuses n past 20
+// or k past 4 with 4, lengths that are not theirs with 5, and a base domain of more than 200 bytes with 7.
 pub fn commit(
     set: WidthSet,
     n: usize,
