@@ -96,8 +96,9 @@ fn made(
 
 // The whole run under one set of widths: a table committed, the calls of a lent list on its codeword with its list of coordinates, the levels'
 // trees and roots, the query record at a position and the tail record, built and checked, the tail's for a claim, and two lent records for that
-// position compared under the kept challenges and the roots. What any calls leave is settled, the codeword block by block. Where the done calls are n folds at variable 0 by r, the query record is accepted, and the tail record exactly for the
-// claim P(r). It refuses with 4, 5, 7 and 11, and then changes no lent byte.
+// position compared under the kept challenges and the roots. What any calls leave is settled, the codeword block by block. Where the done calls are
+// n folds at variable 0 by r, the query record is accepted, and the tail record exactly for the claim P(r). It refuses with 4, 5, 7 and 11, and then
+// changes no lent byte.
 pub fn run(
     set: WidthSet,
     n: usize,
