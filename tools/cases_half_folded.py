@@ -51,7 +51,8 @@ def large():
         yield "earlier_reading %d 4 20 %s" % (len(kept), listed(kept))
     yield from ["l_of 0 %d 20 %d - %s 0" % (k, (1 << k) - 1, words(7301, 20 * k)) for k in range(5)]
     yield from ["l_of 20 0 20 0 %s - 40" % listed(twenty), "l_of 20 3 20 %d %s ~w7302x60 40" % (HUGE, listed(twenty))]
-    for n, k, var, kept in [(8, 4, 7, twenty[12:]), (12, 0, 11, twenty[:12]), (6, 4, 0, twenty[::3][1:]), (7, 2, 3, twenty[::3]), (1, 4, 0, [19]), (11, 1, 5, twenty[9:])]:
+    for k, var, kept in [(4, 7, twenty[12:]), (0, 11, twenty[:12]), (4, 0, twenty[::3][1:]), (2, 3, twenty[::3]), (4, 0, [19]), (1, 5, twenty[9:])]:
+        n = len(kept)
         yield "fold %d %d 20 %d ~w7303x1 %s ~w7304x%d %d" % (n, k, var, listed(kept), 1 << n + k, 1 << n + k)
 
 
