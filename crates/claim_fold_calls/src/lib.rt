@@ -10,7 +10,6 @@ ghost use Prim.Native.Nat.{_*_, _<_};
 ghost use lib.ListN.{length};
 ghost use Rattle.theory_laws.specs.Table.{tab};
 ghost use Rattle.theory_field.specs.Words.{words};
-ghost use Rattle.field_gf128.specs.Word.{word};
 ghost use Rattle.claim_fold_calls.specs.Lent.{callAt, lentCalls};
 ghost use Rattle.claim_fold_calls.specs.helpers.Laid.{asked, CallsLent, CallsRoom, CallLent, Moved, CallsLeft};
 

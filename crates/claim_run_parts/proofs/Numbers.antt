@@ -3,7 +3,7 @@ use Prim.Native.Nat.{ℕ, suc, _+_, _*_, _^_, _<_, _≤_}
 use mathlib.Core.Path.{_≡_, sym, _∙_, ap}
 use mathlib.Core.List.{List, _++_}
 use borrow.Author.Tests.{eqb-true, leb-true, ltb-true, le-ltb, lt-ltb, le-leb}
-use lib.Dec.{leb, eqb}
+use lib.Dec.{eqb}
 use Rattle.theory_laws.specs.Questions.{pick, Question, firstNo}
 use Rattle.theory_laws.proofs.Questions.{yes-eq, no-eq, yes-eq-given, all-yes, first-stops, first-passes}
 use Rattle.theory_record.specs.Widths.{Widths, levelLength}

@@ -17,7 +17,7 @@ use Rattle.theory_code.specs.Questions.{foldNumber}
 use Rattle.theory_blake3.proofs.HashMode.{length-hash}
 use Rattle.theory_record.specs.Widths.{Widths, widthsOf, levelLength, treeLength}
 use Rattle.theory_record.specs.Trees.{treeFor, rootFor, levelsLent, treesLent, rootsLent}
-use Rattle.theory_record.specs.Query.{Answer, accepted, rootAt, checkQuery}
+use Rattle.theory_record.specs.Query.{Answer, rootAt, checkQuery}
 use Rattle.theory_record.specs.Tail.{checkTail}
 use Rattle.theory_record.specs.Build.{levelsLength, levelValues, buildQuery, buildTail}
 use Rattle.theory_record.specs.Scheme.{Scheme, scheme}

@@ -9,7 +9,6 @@ use lib.Dec.{leb}
 use borrow.Author.Tests.{leb-true, eqb-true, ne-eqb}
 use lib.Pow.{pow-mono}
 use lib.ListN.{length, take, drop}
-use lib.Seq.{length-take-le}
 use Rattle.theory_laws.specs.Questions.{_asks_, onDone}
 use Rattle.theory_laws.specs.Table.{tab, at}
 use Rattle.theory_laws.specs.Lists.{part, leValue}

@@ -35,12 +35,11 @@ use Rattle.theory_record.specs.Tail.{checkTail}
 use Rattle.theory_record.specs.Build.{treeStart, buildQueryNumber, buildQuery, buildTailNumber, buildTail}
 use Rattle.theory_record.proofs.Ranges.{SizesFit, sizes-small}
 use Rattle.theory_record.proofs.Runs.{Words}
-use Rattle.theory_record.proofs.Chain.{Sized, length-treesLent}
+use Rattle.theory_record.proofs.Chain.{length-treesLent}
 use Rattle.theory_record.proofs.Widths.{powers, narrow, level-shape}
 use Rattle.theory_record.proofs.Accepted.{length-treeFor, treeFor-long}
 use Rattle.theory_record.proofs.BuildAllowed.{QueryBuild, TailBuild, build-query, build-query-done, build-tail, build-tail-done}
 use Rattle.theory_record.specs.Build.{levelsLength}
-use Rattle.theory_record.specs.Accepted.{AcceptedQuery, AcceptedTail}
 use Rattle.theory_record.proofs.Committed.{codeword-sized, committed-query, committed-tail, claim-is-P}
 use Rattle.theory_merkle.specs.Numbers.{buildNumber}
 use Rattle.theory_record.proofs.Domain.{levelDomain-fits}
@@ -49,7 +48,7 @@ use Rattle.theory_record.proofs.LevelTree.{build-allowed, groups-some}
 use Rattle.theory_record.proofs.Exactly.{query-exactly, tail-exactly}
 use Rattle.theory_compare.proofs.Found.{leaves-fit}
 use Rattle.theory_compare.proofs.Compare.{Equal, Different, compare-accepted}
-use Rattle.theory_claim.specs.Calls.{Codeword, Call, callNumber, doneFolds, afterFolds, leftBy}
+use Rattle.theory_claim.specs.Calls.{Codeword, Call, doneFolds, afterFolds, leftBy}
 use Rattle.theory_claim.specs.Claim.{Deposit, committed, left, done, levelOf, PartWay, Lent, LastLent, After, Collided, Outcome, Claim, Theorem}
 use Rattle.theory_claim.proofs.Calls.{left-done, after-list, left-level, done-folds, refused-among, refused-exist, InUse, rising-all, calls-exist}
 use Rattle.theory_claim.proofs.Levels.{fold-done, level-is, levels-lent, trees-lent, roots-lent}
