@@ -359,7 +359,7 @@ fn changed(desk: &Desk, name: &str, bytes: &[u8], meanwhile: impl FnOnce()) {
 fn a_list_of_coordinates_that_is_not_that_of_the_level() {
     let desk = begun("interrupted-list");
     let list =
-        "the list of coordinates does not hold exactly those that are still unfolded, rising";
+        "the list of coordinates does not hold exactly those that are not folded yet, strictly rising";
     for (text, what) in [
         ("3\n4\n6\n", list),
         ("3\n5\n4\n", list),

@@ -175,7 +175,7 @@ impl Deposit {
     }
 }
 
-/// The gammas, the codeword and level 0's tree of a table's halves in a single call.
+/// The gammas, the codeword and level 0's tree of a table's halves in a single call. The codeword's list, 0 to n - 1 whatever the table, is not kept.
 fn commit_whole(
     sizes: Sizes,
     base: &[u8],
@@ -184,6 +184,7 @@ fn commit_whole(
     codeword: &mut [u64],
     tree: &mut [u8],
 ) -> Result<(), Refusal> {
+    let mut coordinates = vec![0usize; sizes.n];
     Refusal::unless_done(unsafe {
         raw::dequmlo_commit(
             sizes.widths.number(),
@@ -197,6 +198,8 @@ fn commit_whole(
             gammas.len(),
             codeword.as_mut_ptr(),
             codeword.len(),
+            coordinates.as_mut_ptr(),
+            coordinates.len(),
             tree.as_mut_ptr(),
             tree.len(),
         )

@@ -94,7 +94,7 @@ impl fmt::Display for NotTakenUp {
             NotTakenUp::Refused(refusal) => write!(f, "{refusal}"),
             NotTakenUp::Coordinates => write!(
                 f,
-                "the list of coordinates does not hold exactly those that are still unfolded, rising"
+                "the list of coordinates does not hold exactly those that are not folded yet, strictly rising"
             ),
             NotTakenUp::Roots => write!(f, "there is not one root for each level"),
             NotTakenUp::Unread(e) => write!(f, "{e}"),

@@ -169,6 +169,7 @@ mod tests {
         assert_eq!(built, 11, "{widths} n {n} k {k}");
         let table = vec![0u64; 2 * sizes.table_words];
         let mut gammas = vec![0u64; 2 * sizes.gamma_words];
+        let mut coordinates = vec![0usize; n];
         let base = [0u8; 201];
         let committed = unsafe {
             raw::dequmlo_commit(
@@ -183,6 +184,8 @@ mod tests {
                 gammas.len(),
                 levels.as_mut_ptr(),
                 2 * sizes.codeword_words,
+                coordinates.as_mut_ptr(),
+                coordinates.len(),
                 trees.as_mut_ptr(),
                 sizes.tree_bytes,
             )

@@ -1,9 +1,10 @@
 //! Levels one at a time, as a protocol takes them that draws each challenge after the root before it, and some now and the rest later, as work that is
 //! interrupted has them: they are those that `Deposit::fold` makes.
 
+use dequmlo::code::InUse;
 use dequmlo::tree::{fold_tree_width, level_domain, Tree};
 use dequmlo::{
-    code, Deposit, Folded, HalfFolded, Kept, NotTakenUp, Refusal, Root, Threads, Widths, Word,
+    Deposit, Folded, HalfFolded, Kept, NotTakenUp, Refusal, Root, Threads, Widths, Word,
 };
 use std::io;
 
@@ -23,15 +24,19 @@ fn one_at_a_time_they_are_the_same() {
     {
         let challenges = words(n);
         let deposit = Deposit::commit(BASE, widths, k, &words(1 << n)).unwrap();
-        let (mut level, mut roots) = (deposit.codeword(), vec![deposit.root()]);
+        let mut codeword = InUse::committed(n, k, deposit.codeword());
+        let mut roots = vec![deposit.root()];
         for (l, r) in challenges.iter().enumerate() {
-            level = code::fold(n - l, k, 0, *r, &level).unwrap();
-            let tree = Tree::of_level(BASE, widths, n, k, l + 1, &level).unwrap();
+            codeword.fold(0, *r).unwrap();
+            assert_eq!(codeword.coordinates, (l + 1..n).collect::<Vec<_>>());
+            let level = &codeword.words;
+            let tree = Tree::of_level(BASE, widths, n, k, l + 1, level).unwrap();
             let domain = level_domain(BASE, l + 1).unwrap();
             let width = fold_tree_width(widths, level.len());
-            assert_eq!(tree, Tree::build(&domain, width, &level).unwrap());
+            assert_eq!(tree, Tree::build(&domain, width, level).unwrap());
             roots.push(tree.root());
         }
+        let level = codeword.words;
         let folded = deposit.fold(&challenges).unwrap();
         assert_eq!(folded.roots(), roots, "{widths} n {n} k {k}");
         assert_eq!(folded.last_level(), level, "{widths} n {n} k {k}");
@@ -76,9 +81,6 @@ fn what_is_no_level_is_refused() {
         let deposit = Deposit::commit(BASE, Widths::Wide, 1, &words(8)).unwrap();
         assert_eq!(number(deposit.fold(&words(count))), Some(5), "{count}");
     }
-    assert_eq!(number(code::fold(3, 1, 3, Word(1), &words(16))), Some(6));
-    assert_eq!(number(code::fold(3, 1, 0, Word(1), &words(15))), Some(5));
-    assert_eq!(number(code::fold(21, 1, 0, Word(1), &words(2))), Some(4));
 }
 
 /// What is kept of a deposit folded part way: the lists, and the values of each level.
