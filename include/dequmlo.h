@@ -233,7 +233,8 @@ uint32_t dequmlo_codeword_block(size_t n, size_t k, size_t eps, const uint64_t *
 uint32_t dequmlo_codeword_half(size_t n, size_t k, size_t half, const uint64_t *table, size_t table_length, const uint64_t *gammas,
                                size_t gammas_length, uint64_t *out, size_t out_length);
 
-/* Entries of a fold, from entry `first` on, as many as `out` has words: a part of what `dequmlo_fold` makes.
+/* Entries of a fold, from entry `first` on, as many as `out` has words: a part of what `dequmlo_fold` makes. It takes
+   no list: whoever folds in parts drops the entry of `var` from it when all parts are made.
    - codeword: all 2^(n+k) words. out: any number of words.
    Refuses: 4 (n, k), 5 (a length), 6 (var is not below n), 11 (the entries do not end within the fold). */
 uint32_t dequmlo_fold_part(size_t n, size_t k, size_t var, dequmlo_word r, size_t first, const uint64_t *codeword, size_t codeword_length,

@@ -92,8 +92,9 @@ impl InUse {
     }
 }
 
-/// Some entries of the fold of a codeword of 2^(n+k) words at a variable by r; the list that goes with it plays no part. Refused with 4 where n or k is out
-/// of range, with 5 where the codeword has another length, with 6 where the variable is not below n, with 11 where the entries are not all the fold's.
+/// Some entries of the fold of a codeword of 2^(n+k) words at a variable by r. It takes no list: whoever folds in parts drops the variable's entry
+/// when all parts are made. Refused with 4 where n or k is out of range, with 5 where the codeword has another length, with 6 where the variable is not
+/// below n, with 11 where the entries are not all the fold's.
 ///
 /// ```
 /// use dequmlo::{code, Word};

@@ -103,7 +103,7 @@ pub(crate) struct Commitment<'a> {
 }
 
 impl Commitment<'_> {
-    /// The gammas, the codeword and level 0's tree: what `dequmlo_commit` leaves.
+    /// The gammas, the codeword and level 0's tree: what `dequmlo_commit` leaves beside the codeword's list.
     pub fn commit(
         &self,
         table: &[u64],
