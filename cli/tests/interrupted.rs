@@ -8,6 +8,7 @@ use dequmlo::{Widths, Word};
 use desk::{plan, walk, Desk, Run, FORMAT, OPEN_ASKED};
 use std::fs::{self, File, OpenOptions};
 use std::os::unix::fs::symlink;
+use std::path::Path;
 
 /// The n and k of the sealed file.
 const N: usize = 6;
@@ -44,6 +45,27 @@ fn refused(desk: &Desk, what: &str) {
         desk.run(&format!("{words} --until 5")).says(1, &[what]);
     }
     assert!(!desk.path("again").exists() && !desk.path("later").exists());
+}
+
+/// Interrupted work that version 0.8.0 wrote is kept beside the opening that one run of it gave: every later version takes it up.
+#[test]
+fn what_an_earlier_version_left_is_taken_up() {
+    let fixtures = Path::new(concat!(env!("CARGO_MANIFEST_DIR"), "/tests/fixtures/begun"));
+    for entry in fs::read_dir(fixtures).unwrap() {
+        let folder = entry.unwrap();
+        let version = folder.file_name().into_string().unwrap();
+        let desk = Desk::copied(&format!("interrupted-{version}"), &folder.path());
+        desk.run(RESUME).says(0, &["opened 3 positions"]);
+        // A summary says which version wrote it, and `check.txt` has its digest.
+        for folder in ["plan.txt.opening", "again"] {
+            fs::remove_file(desk.path(folder).join("summary.txt")).unwrap();
+            fs::remove_file(desk.path(folder).join("check.txt")).unwrap();
+        }
+        desk.same_files("plan.txt.opening", "again");
+        desk.damage("plan.txt.begun/level-2-0.words", 5);
+        let damaged = desk.run(&RESUME.replace("again", "third"));
+        damaged.says(1, &[DAMAGED]);
+    }
 }
 
 /// Every level in turn, and a chain that stops at every level, on one thread and on two.

@@ -83,9 +83,14 @@ impl Desk {
 
     /// A desk with the files that a version of this program made.
     pub fn kept(name: &str, version: &str) -> Desk {
+        Desk::copied(name, &kept(version))
+    }
+
+    /// A desk with a copy of what is in a folder.
+    pub fn copied(name: &str, from: &Path) -> Desk {
         let desk = Desk::new(name);
         let mut copy = Command::new("cp");
-        copy.arg("-r").arg(kept(version).join(".")).arg(&desk.0);
+        copy.arg("-r").arg(from.join(".")).arg(&desk.0);
         assert!(copy.status().unwrap().success());
         desk
     }
