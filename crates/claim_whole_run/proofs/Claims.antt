@@ -144,6 +144,8 @@ module _ (G : Given) (old new : Buffers) (h done : ℕ)
         list-is = d .left .list-is ∙ ap (λ (cs : List ℕ). cs ++ tab done (λ v. 0)) (part-way .list-is);
         left-is = left-is;
         entry = rw (values-left, list-left, ← left-long) (part-way .entry);
+        shift-done = rw (list-left, ← left-long) (part-way .shift-done);
+        next-done = rw (list-left, ← left-long) (part-way .next-done);
       }
 
   -- the root of a level

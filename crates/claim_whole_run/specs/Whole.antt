@@ -1,6 +1,6 @@
 -- The whole run under one set of widths: a table committed, a list of fold calls on its codeword with its list, the levels' trees and roots, both records and their
 -- checks, and two lent records compared. What is lent to it, what it leaves, and what the claim (SPECIFICATION 10.2) says of that, clause by clause.
-use Prim.Native.Nat.{ℕ, suc, _+_, _-_, _*_, _^_, _<_, _≤_}
+use Prim.Native.Nat.{ℕ, suc, _+_, _-_, _*_, _/_, _^_, _<_, _≤_}
 use mathlib.Core.Path.{_≡_}
 use mathlib.Core.Logic.{_↔_, _⊎_}
 use mathlib.Core.List.{List, [], _∷_, _++_}
@@ -15,6 +15,7 @@ use Rattle.theory_multilinear.specs.Codeword.{shift, allCoordinates, shiftOver,
 use Rattle.theory_multilinear.specs.Points.{addPoint}
 use Rattle.theory_blake3.specs.Digest.{hash}
 use Rattle.theory_code.specs.Gammas.{gammas}
+use Rattle.theory_code.specs.Questions.{shiftNumber, foldNumber}
 use Rattle.theory_merkle.specs.Numbers.{buildNumber}
 use Rattle.theory_record.specs.declared.WidthSet.{WidthSet}
 use Rattle.theory_record.specs.Widths.{widthsOf, levelLength, levelWidth, treeLength}
@@ -156,7 +157,8 @@ module _ (G : Given) where
 
     -- after any calls, of which `done` are done, at any variables: they are folds at variables that were still there; the list has the coordinates that they
     -- did not fold away, zeros behind it; and block eps of the codeword that is left is block eps of the encoding, under those coordinates, of the table folded
-    -- at the same variables, each challenge replaced by its sum with the entry of L(eps) at the folded coordinate
+    -- at the same variables, each challenge replaced by its sum with the entry of L(eps) at the folded coordinate; so it can be taken up: reading L from the list is
+    -- done, and folding at each variable that is left
     pub record PartWay (done : ℕ) : Type 0 where
       pub count : done ≡ length folded
       pub folds-done : Folds n (n - done) folded
@@ -166,6 +168,9 @@ module _ (G : Given) where
           → at (level done) (eps * 2 ^ (n - done) + v)
           ≡ block (shiftOver n k (gammas hash base n k) (take (n - done) coordinates) eps)
           (folds (shifted folded (shift n k (gammas hash base n k) eps)) (at (words table))) v
+      pub shift-done : shiftNumber (n - done) k n (take (n - done) coordinates) (2 * (k * n)) (2 * (n - done)) ≡ 0
+      pub next-done : (var : ℕ) → var < n - done
+          → foldNumber (n - done) k n var (take (n - done) coordinates) (2 * 2 ^ (n - done + k)) (2 * (2 ^ (n - done + k) / 2)) ≡ 0
 
     -- where the done calls are n folds at variable 0 by r: r is kept, every level has its length, the calls leave the last one, its entry eps is
     -- P(r + L(eps)), the query record is accepted, and the tail record exactly for the claim P(r)

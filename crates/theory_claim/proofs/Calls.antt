@@ -18,7 +18,7 @@ use Rattle.theory_multilinear.specs.Levels.{level}
 use Rattle.theory_multilinear.proofs.Fold.{length-foldList}
 use Rattle.theory_multilinear.proofs.Folds.{length-dropAt, remaining-first}
 use Rattle.theory_multilinear.proofs.Levels.{level-folds}
-use Rattle.theory_code.specs.Questions.{rising, foldQuestions, foldNumber}
+use Rattle.theory_code.specs.Questions.{rising, shiftQuestions, shiftNumber, foldQuestions, foldNumber}
 use Rattle.theory_code.proofs.Rising.{rising-parts, rising-more, rising-less, rising-tab}
 use Rattle.theory_claim.specs.Calls.{Codeword, Call, callNumber, callFold, doneFolds, afterFolds, leftBy}
 
@@ -124,7 +124,7 @@ done-folds (x ∷ xs) c = go (eqb (callNumber c x) 0) refl (done-folds xs (callF
     go true e hs s = first _ _ (eqb-true _ 0 e) hs
     go false e hs s = s
 
-folds-count : {n m : ℕ} (fs : List Fold) → Folds n m fs → n ≡ length fs + m
+pub folds-count : {n m : ℕ} (fs : List Fold) → Folds n m fs → n ≡ length fs + m
 folds-count [] none = omega arith
 folds-count (f ∷ fs) (more h hs) = omega (arith, folds-count fs hs)
 
@@ -247,6 +247,21 @@ rising-without zero least bound (x ∷ xs) e =
     let p = rising-parts least bound x xs e in rising-less least (suc x) bound xs (omega (arith, p .0)) (p .2)
 rising-without (suc i) least bound (x ∷ xs) e =
     let p = rising-parts least bound x xs e in rising-more least bound x (dropAt i xs) (p .0) (p .1) (rising-without i (suc x) bound xs (p .2))
+
+-- entries dropped, one after another
+pub rising-remaining : (fs : List Fold) (least bound : ℕ) (xs : List ℕ) → rising least bound xs ≡ true → rising least bound (remaining fs xs) ≡ true
+unfolding remaining
+rising-remaining [] least bound xs e = e
+rising-remaining (f ∷ fs) least bound xs e = rising-remaining fs least bound (dropAt (f .var) xs) (rising-without (f .var) least bound xs e)
+
+-- L read from a list that rises
+pub shift-lent : (n k original : ℕ) (coordinates : List ℕ) (gammas out : ℕ) → n ≤ 20 → k ≤ 4 → original ≤ 20 → gammas ≡ 2 * (k * original) → out ≡ 2 * n
+    → length coordinates ≡ n → rising 0 original coordinates ≡ true → shiftNumber n k original coordinates gammas out ≡ 0
+unfolding shiftNumber
+shift-lent n k original coordinates gammas out hn hk ho eg eo el er =
+    let list = true-both (eqb (length coordinates) n) (rising 0 original coordinates) (eq-eqb (length coordinates) n el) er in
+    yes-all (shiftQuestions n k original coordinates gammas out)
+    (le-leb n 20 hn, (le-leb k 4 hk, (le-leb original 20 ho, (eq-eqb gammas _ eg, (eq-eqb out _ eo, (list, tt))))))
 
 -- what such a call leaves is one of a coordinate less
 call-leaves : (k original m : ℕ) (c : Codeword) (f : Fold) → InUse k original (suc m) c → f .var ≤ m → InUse k original m (callFold c (callBy k original (suc m) f))

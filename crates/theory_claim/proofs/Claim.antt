@@ -1,8 +1,9 @@
 -- The single claim is proved, from nothing but the ranges.
-use Prim.Native.Nat.{ℕ, suc, _+_, _-_, _*_, _^_, _<_, _≤_}
+use Prim.Native.Nat.{ℕ, suc, _+_, _-_, _*_, _/_, _^_, _<_, _≤_}
 use mathlib.Core.Path.{_≡_, refl, sym, _∙_, ap, subst}
 use mathlib.Core.Logic.{_↔_, _⊎_, ⊎-elim, inl, inr}
 use mathlib.Core.List.{List, []}
+use mathlib.Core.Bool.{true}
 use native.Mathlib.Omega.{arith}
 use borrow.Author.Tests.{le-leb, eq-eqb}
 use lib.ListN.{length, drop, getD}
@@ -25,6 +26,7 @@ use Rattle.theory_merkle.proofs.Tree.{treeOf-root}
 use Rattle.theory_blake3.specs.Digest.{hash}
 use Rattle.theory_blake3.proofs.HashMode.{length-hash}
 use Rattle.theory_code.specs.Gammas.{gammas}
+use Rattle.theory_code.specs.Questions.{rising, foldNumber}
 use Rattle.theory_record.specs.declared.WidthSet.{WidthSet}
 use Rattle.theory_record.specs.Widths.{Widths, widthsOf, levelLength, levelWidth, levelGroups, treeLength}
 use Rattle.theory_record.specs.Domain.{levelDomain}
@@ -50,7 +52,21 @@ use Rattle.theory_compare.proofs.Found.{leaves-fit}
 use Rattle.theory_compare.proofs.Compare.{Equal, Different, compare-accepted}
 use Rattle.theory_claim.specs.Calls.{Codeword, Call, doneFolds, afterFolds, leftBy}
 use Rattle.theory_claim.specs.Claim.{Deposit, committed, left, done, levelOf, PartWay, Lent, LastLent, After, Collided, Outcome, Claim, Theorem}
-use Rattle.theory_claim.proofs.Calls.{left-done, after-list, left-level, done-folds, refused-among, refused-exist, InUse, rising-all, calls-exist}
+use Rattle.theory_claim.proofs.Calls.{
+  left-done,
+  after-list,
+  left-level,
+  done-folds,
+  folds-count,
+  refused-among,
+  refused-exist,
+  fold-lent,
+  shift-lent,
+  InUse,
+  rising-all,
+  rising-remaining,
+  calls-exist,
+}
 use Rattle.theory_claim.proofs.Levels.{fold-done, level-is, levels-lent, trees-lent, roots-lent}
 use Rattle.theory_compare.specs.Compare.{messageBuffer}
 use Rattle.theory_record.specs.Scheme.{Scheme, scheme}
@@ -174,8 +190,37 @@ module _ (set : WidthSet) (n k : ℕ) (base table challenges : List ℕ) (d : De
         ∙ ap (λ (x : List ℕ). block (shiftOver n k (gammas hash base n k) x eps) (folds (shifted fs (shift n k (gammas hash base n k) eps)) (at (words table))) v)
         (sym list-is)
 
+    m-most : m ≤ 20
+    m-most = omega (arith, folds-count fs folds-done, d .n-most)
+
+    list-rises : rising 0 n (left set n k base table challenges calls .coordinates) ≡ true
+    list-rises = rw list-is (rising-remaining fs 0 n (allCoordinates n) (rising-all n))
+
+    next-done : (var : ℕ) → var < m
+        → foldNumber m k n var (left set n k base table challenges calls .coordinates) (2 * 2 ^ (m + k)) (2 * (2 ^ (m + k) / 2)) ≡ 0
+    next-done var h =
+        fold-lent m k n var (left set n k base table challenges calls .coordinates) (2 * 2 ^ (m + k)) (2 * (2 ^ (m + k) / 2))
+        (record {
+          n-most = m-most;
+          k-most = d .k-most;
+          original-most = d .n-most;
+          src-long = refl;
+          out-long = refl;
+          list-long = refl;
+          list-rises = list-rises;
+          below = h;
+        })
+
     part-way : PartWay set n k base table challenges calls
-    part-way = record { folds-done = folds-done; list-is = list-is; values-long = values-long; entry = entry }
+    part-way =
+        record {
+          folds-done = folds-done;
+          list-is = list-is;
+          values-long = values-long;
+          entry = entry;
+          shift-done = shift-lent m k n _ (2 * (k * n)) (2 * m) m-most (d .k-most) (d .n-most) refl refl refl list-rises;
+          next-done = next-done;
+        }
 
   -- after calls whose done ones are n folds at variable 0 by r
   module _ (calls : List Call) (done : doneFolds start calls ≡ atFirst (words challenges)) where

@@ -1,7 +1,7 @@
 -- The single claim (SPECIFICATION 10), about a deposit, any list of fold calls on its codeword, the records after it, and any two accepted
 -- records for one position. It speaks of the definitions that the contracts of `commit`, `fold`, `build` (of a
 -- tree), `build_query`, `check_query`, `build_tail`, `check_tail` and `compare` cite. proofs/Claim proves it.
-use Prim.Native.Nat.{ℕ, suc, _+_, _-_, _*_, _^_, _<_, _≤_}
+use Prim.Native.Nat.{ℕ, suc, _+_, _-_, _*_, _/_, _^_, _<_, _≤_}
 use mathlib.Core.Path.{_≡_}
 use mathlib.Core.Logic.{_↔_, _⊎_}
 use mathlib.Core.List.{List, [], _∷_, _++_}
@@ -15,7 +15,7 @@ use Rattle.theory_multilinear.specs.Codeword.{shift, allCoordinates, shiftOver,
 use Rattle.theory_multilinear.specs.Points.{addPoint}
 use Rattle.theory_blake3.specs.Digest.{hash}
 use Rattle.theory_code.specs.Gammas.{gammas}
-use Rattle.theory_code.specs.Questions.{foldNumber}
+use Rattle.theory_code.specs.Questions.{shiftNumber, foldNumber}
 use Rattle.theory_merkle.specs.Numbers.{buildNumber}
 use Rattle.theory_record.specs.declared.WidthSet.{WidthSet}
 use Rattle.theory_record.specs.Widths.{levelLength, levelWidth, treeLength}
@@ -92,6 +92,13 @@ module _ (set : WidthSet) (n k : ℕ) (base table challenges : List ℕ) where
     abbrev pub m : ℕ
     m = length (left .coordinates)
 
+    -- the lengths of a codeword of m coordinates and of half of it, in halves
+    abbrev pub whole : ℕ
+    whole = 2 * 2 ^ (m + k)
+
+    abbrev pub half : ℕ
+    half = 2 * (2 ^ (m + k) / 2)
+
     pub record PartWay : Type 0 where
       -- the done calls are folds at variables that were still there; the list has the coordinates that they did not fold away
       pub folds-done : Folds n m done
@@ -102,6 +109,9 @@ module _ (set : WidthSet) (n k : ℕ) (base table challenges : List ℕ) where
       pub entry : (eps v : ℕ) → eps < 2 ^ k → v < 2 ^ m
           → at (left .values) (eps * 2 ^ m + v)
           ≡ block (shiftOver n k (gammas hash base n k) (left .coordinates) eps) (folds (shifted done (L eps)) (at (words table))) v
+      -- so it can be taken up: reading L from the list is done, and folding it at each variable that is left
+      pub shift-done : shiftNumber m k n (left .coordinates) (2 * (k * n)) (2 * m) ≡ 0
+      pub next-done : (var : ℕ) → var < m → foldNumber m k n var (left .coordinates) whole half ≡ 0
 
     -- what holds after calls whose done ones are n folds at variable 0 by r
     pub record After : Type 0 where
