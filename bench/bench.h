@@ -53,7 +53,7 @@ word dequmlo_test_phi_tab_sum(const uint64_t *s, size_t length, coefficients c);
 
 uint32_t dequmlo_test_derive(size_t n, size_t k, const uint8_t *domain, size_t domain_length, uint64_t *out, size_t out_length);
 uint32_t dequmlo_test_encode(size_t n, size_t k, const uint64_t *table, size_t table_length, const uint64_t *gammas, size_t gammas_length, uint64_t *out, size_t out_length);
-folded dequmlo_test_fold(size_t n, size_t k, size_t var, word r, const uint64_t *src, size_t src_length, uint64_t *out, size_t out_length);
+folded dequmlo_test_fold(size_t n, size_t k, size_t original, size_t var, word r, size_t *coordinates, size_t coordinates_length, const uint64_t *src, size_t src_length, uint64_t *out, size_t out_length);
 uint32_t dequmlo_test_partial_evals(size_t n, const uint64_t *packed, size_t packed_length, const uint64_t *eq, size_t eq_length, uint64_t *out, size_t out_length);
 answer dequmlo_test_eval_at(size_t n, const uint64_t *z, size_t z_length, coefficients rb, const uint64_t *point, size_t point_length);
 
@@ -77,7 +77,7 @@ typedef struct {
     uint32_t level;
 } checked;
 
-uint32_t dequmlo_test_commit(size_t n, size_t k, const uint8_t *base, size_t base_length, const uint64_t *table, size_t table_length, uint64_t *gammas, size_t gammas_length, uint64_t *codeword, size_t codeword_length, uint8_t *tree, size_t tree_length);
+uint32_t dequmlo_test_commit(size_t n, size_t k, const uint8_t *base, size_t base_length, const uint64_t *table, size_t table_length, uint64_t *gammas, size_t gammas_length, uint64_t *codeword, size_t codeword_length, size_t *coordinates, size_t coordinates_length, uint8_t *tree, size_t tree_length);
 uint32_t dequmlo_test_build(const uint8_t *domain, size_t domain_length, size_t count, size_t width, const uint64_t *values, size_t values_length, uint8_t *tree, size_t tree_length);
 uint32_t dequmlo_test_build_query(uint8_t *out, size_t out_length, const uint64_t *levels, size_t levels_length, const uint8_t *trees, size_t trees_length, size_t n, size_t k, size_t position);
 checked dequmlo_test_check_query(const uint8_t *base, size_t base_length, size_t n, size_t k, size_t position, const uint64_t *challenges, size_t challenges_length, const uint8_t *roots, size_t roots_length, const uint8_t *s, size_t s_length);

@@ -60,7 +60,8 @@ static size_t level_tree(size_t l, size_t length, const uint64_t *values, uint8_
 }
 
 static void commit(parts d) {
-    must(dequmlo_test_commit(d.n, d.k, DOMAIN, DOMAIN_LENGTH, d.table, (size_t)2 << d.n, d.gammas, 2 * d.n * d.k, d.levels, 2 * d.count, d.trees, tree_size(d.count)) == 0, "commit");
+    size_t coordinates[20];
+    must(dequmlo_test_commit(d.n, d.k, DOMAIN, DOMAIN_LENGTH, d.table, (size_t)2 << d.n, d.gammas, 2 * d.n * d.k, d.levels, 2 * d.count, coordinates, d.n, d.trees, tree_size(d.count)) == 0, "commit");
     memcpy(d.roots, d.trees + tree_size(d.count) - 32, 32);
 }
 
@@ -68,10 +69,12 @@ static void commit(parts d) {
 static void folds(parts d, int with_trees) {
     uint64_t *level = d.levels;
     uint8_t *tree = d.trees + tree_size(d.count);
+    size_t coordinates[20];
+    for (size_t i = 0; i < d.n; i++) coordinates[i] = i;
     for (size_t l = 0; l < d.n; l++) {
         size_t length = d.count >> l;
         word r = {d.challenges[2 * l], d.challenges[2 * l + 1]};
-        must(dequmlo_test_fold(d.n - l, d.k, 0, r, level, 2 * length, level + 2 * length, length).number == 0, "fold");
+        must(dequmlo_test_fold(d.n - l, d.k, d.n, 0, r, coordinates, d.n - l, level, 2 * length, level + 2 * length, length).number == 0, "fold");
         level += 2 * length;
         if (with_trees) tree += level_tree(l + 1, length / 2, level, tree, d.roots + 32 * (l + 1));
     }

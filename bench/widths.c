@@ -55,6 +55,7 @@ static const char *const named[TIMED] = {"commit",       "all levels and trees",
 typedef struct {
     size_t n, k;
     uint64_t *table, *gammas, *levels, *half, *challenges;
+    size_t *coordinates;
     uint8_t *trees, *roots, *queries, *tail;
 } buffers;
 
@@ -88,7 +89,8 @@ static void records(uint32_t set, buffers b, dequmlo_seal_sizes s, double best[T
 static void round_of(uint32_t set, buffers b, dequmlo_seal_sizes s, double best[TIMED]) {
     size_t n = b.n, k = b.k;
     TIME(best[COMMIT], 1,
-         must(dequmlo_commit(set, n, k, base, BASE, b.table, 2 * s.table, b.gammas, 2 * s.gammas, b.levels, 2 * s.codeword, b.trees, s.tree) == 0, "commit"));
+         must(dequmlo_commit(set, n, k, base, BASE, b.table, 2 * s.table, b.gammas, 2 * s.gammas, b.levels, 2 * s.codeword, b.coordinates, n, b.trees, s.tree) == 0,
+              "commit"));
     TIME(best[LEVELS], 1,
          must(dequmlo_fold_levels(set, n, k, base, BASE, b.challenges, 2 * n, b.levels, 2 * s.levels, b.half, 2 * s.half, b.trees, s.trees, b.roots, s.roots) == 0, "levels"));
     for (int pass = 0; pass < PASSES; pass++) records(set, b, s, best);
@@ -104,8 +106,8 @@ static void deposit(size_t n, size_t k, int rounds) {
         s[set] = dequmlo_sizes(set, n, k);
         must(s[set].number == 0, "n or k");
     }
-    buffers b = {n, k, words(s[0].table), words(s[0].gammas), words(s[0].levels), words(s[0].half), words(n), room(larger(s[0].trees, s[1].trees)), room(s[0].roots),
-                 room(POSITIONS * larger(s[0].query, s[1].query)), room(larger(s[0].tail, s[1].tail))};
+    buffers b = {n, k, words(s[0].table), words(s[0].gammas), words(s[0].levels), words(s[0].half), words(n), room(n * sizeof(size_t)), room(larger(s[0].trees, s[1].trees)),
+                 room(s[0].roots), room(POSITIONS * larger(s[0].query, s[1].query)), room(larger(s[0].tail, s[1].tail))};
     double best[SETS][TIMED];
     for (int set = 0; set < SETS; set++)
         for (int i = 0; i < TIMED; i++) best[set][i] = 1e18;
@@ -115,7 +117,7 @@ static void deposit(size_t n, size_t k, int rounds) {
     printf("all trees, n = %zu, k = %zu\t%zu\t%zu\tbytes\n", n, k, s[0].trees, s[1].trees);
     printf("query record, n = %zu, k = %zu\t%zu\t%zu\tbytes\n", n, k, s[0].query, s[1].query);
     printf("tail record, n = %zu, k = %zu\t%zu\t%zu\tbytes\n", n, k, s[0].tail, s[1].tail);
-    void *all[] = {b.table, b.gammas, b.levels, b.half, b.challenges, b.trees, b.roots, b.queries, b.tail};
+    void *all[] = {b.table, b.gammas, b.levels, b.half, b.challenges, b.coordinates, b.trees, b.roots, b.queries, b.tail};
     for (size_t i = 0; i < sizeof all / sizeof *all; i++) free(all[i]);
 }
 

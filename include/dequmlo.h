@@ -14,7 +14,7 @@
    NIST SP 800-38D (GCM): 16 bytes, of which the leftmost bit of the first is the coefficient of x^0.
 
    Sizes. n is from 0 to 20 and k from 0 to 4; for records and comparing n is from 1. A length that is not the one named at a function is
-   refused with 5.
+   refused with 5; that of the list which `dequmlo_fold` takes, with 36.
 
    Widths. A level's tree has one leaf for each group of consecutive words. How many words a group has depends on the level's length and on the
    set of widths, of which there are two: `DEQUMLO_WIDTHS_PRESENT` and `DEQUMLO_WIDTHS_WIDE`. A seal has one set throughout: it is committed, folded,
@@ -28,9 +28,9 @@
 
 /* The version of this header, which is that of the archive beside it. */
 #define DEQUMLO_VERSION_MAJOR 0
-#define DEQUMLO_VERSION_MINOR 7
+#define DEQUMLO_VERSION_MINOR 8
 #define DEQUMLO_VERSION_PATCH 0
-#define DEQUMLO_VERSION "0.7.0"
+#define DEQUMLO_VERSION "0.8.0"
 
 /* The sets of widths. The present one has groups of 8 words in levels of 16 words or more, the wide one groups of 32 in levels of 64 or more. Shorter
    levels have groups of 2 words under either, and a level of one word has one. Seals that were made before version 0.6.0 have the present set. */
@@ -143,17 +143,26 @@ dequmlo_digested dequmlo_digest(const uint8_t *input, size_t input_length);
 /* ---- committing and folding */
 
 /* Commits a table of 2^n words under a base domain of at most 200 bytes: writes the k * n gammas (2 * k * n halves), the codeword of
-   2^(n+k) words (level 0), and level 0's tree, whose last digest is the root. The tree has 2 * groups - 1 digests, where groups is
-   2^(n+k) / dequmlo_fold_tree_width(widths, 2^(n+k)). n = 0 passes. Refuses: 4 (widths, n, k), 5 (a length), 7 (the base domain). */
+   2^(n+k) words (level 0), the list of its n coordinates, which is 0 to n - 1, and level 0's tree, whose last digest is the root. The tree has
+   2 * groups - 1 digests, where groups is 2^(n+k) / dequmlo_fold_tree_width(widths, 2^(n+k)). n = 0 passes.
+   Refuses: 4 (widths, n, k), 5 (a length; that of the list is n), 7 (the base domain). */
 uint32_t dequmlo_commit(uint32_t widths, size_t n, size_t k, const uint8_t *base, size_t base_length, const uint64_t *table,
-                        size_t table_length, uint64_t *gammas, size_t gammas_length, uint64_t *codeword, size_t codeword_length, uint8_t *tree,
-                        size_t tree_length);
+                        size_t table_length, uint64_t *gammas, size_t gammas_length, uint64_t *codeword, size_t codeword_length,
+                        size_t *coordinates, size_t coordinates_length, uint8_t *tree, size_t tree_length);
 
-/* Folds a codeword of 2^(n+k) words at a variable by r into a buffer of half its words: a + r * (a + b) for each pair of places that
-   differ in bit `var`. Answers the new n, which is n - 1. Level l + 1 of a seal is level l folded at variable 0 by challenge l.
-   Refuses: 4 (n, k), 5 (a length), 6 (var is not below n). */
-dequmlo_folded dequmlo_fold(size_t n, size_t k, size_t var, dequmlo_word r, const uint64_t *codeword, size_t codeword_length, uint64_t *out,
-                            size_t out_length);
+/* Folds a codeword in use at a variable by r into a buffer of half its words: a + r * (a + b) for each pair of places that differ in bit
+   `var`. Answers the new n, which is n - 1. Level l + 1 of a seal is level l folded at variable 0 by challenge l.
+   - n, k: those of the codeword, which has 2^(n+k) words. original: the n of the commitment.
+   - coordinates: the original coordinates that are not folded away yet: n numbers below `original`, rising. `dequmlo_commit` writes the list of a
+     committed codeword. The entry of `var` is dropped: those behind it move down by one and the last becomes 0, so that the new list is the first
+     n - 1.
+   Where n, k, `original`, the list and the codeword are kept, folding may go on from them another day. What the words are is proved: block eps is
+   block eps of the encoding, under the coordinates that are left, of the table folded at the same variables, each challenge replaced by its sum
+   with the coordinate of L(eps) that it folds away (docs/SPECIFICATION.md, 6.5).
+   Refuses, in this order: 4 (n, k, original), 5 (the codeword or `out`), 36 (the list does not hold exactly n strictly rising numbers below
+   `original`, its length included), 6 (var is not below n). */
+dequmlo_folded dequmlo_fold(size_t n, size_t k, size_t original, size_t var, dequmlo_word r, size_t *coordinates, size_t coordinates_length,
+                            const uint64_t *codeword, size_t codeword_length, uint64_t *out, size_t out_length);
 
 /* All levels of a committed codeword by the checker's challenges, their trees and their roots: all that records are built from.
    - widths, n, k, base: those of the commitment; n is from 1.
@@ -224,7 +233,8 @@ uint32_t dequmlo_codeword_block(size_t n, size_t k, size_t eps, const uint64_t *
 uint32_t dequmlo_codeword_half(size_t n, size_t k, size_t half, const uint64_t *table, size_t table_length, const uint64_t *gammas,
                                size_t gammas_length, uint64_t *out, size_t out_length);
 
-/* Entries of a fold, from entry `first` on, as many as `out` has words: a part of what `dequmlo_fold` makes.
+/* Entries of a fold, from entry `first` on, as many as `out` has words: a part of what `dequmlo_fold` makes. It takes
+   no list: whoever folds in parts drops the entry of `var` from it when all parts are made.
    - codeword: all 2^(n+k) words. out: any number of words.
    Refuses: 4 (n, k), 5 (a length), 6 (var is not below n), 11 (the entries do not end within the fold). */
 uint32_t dequmlo_fold_part(size_t n, size_t k, size_t var, dequmlo_word r, size_t first, const uint64_t *codeword, size_t codeword_length,

@@ -36,6 +36,7 @@ static size_t calls;
 
 #define AT(i) b[i].bytes, b[i].size
 #define WORDS(i) (uint64_t *)(void *)b[i].bytes, b[i].size / 8
+#define LIST(i) (size_t *)(void *)b[i].bytes, b[i].size / sizeof(size_t)
 
 static int zeros(const uint8_t *p, size_t size) {
     for (size_t i = 0; i < size; i++)
@@ -58,12 +59,19 @@ static answer answered(dequmlo_answered w) {
     return a;
 }
 
+/* Done, it leaves the list 0 to n - 1. */
 static answer run_commit(const call *c, const lent *b) {
-    return plain(dequmlo_commit(widths, c->numbers[0], c->numbers[1], AT(0), WORDS(1), WORDS(2), WORDS(3), AT(4)));
+    uint32_t number = dequmlo_commit(widths, c->numbers[0], c->numbers[1], AT(0), WORDS(1), WORDS(2), WORDS(3), LIST(4), AT(5));
+    const size_t *list = (const size_t *)(const void *)b[4].bytes;
+    for (size_t i = 0; number == 0 && i < c->numbers[0]; i++) MUST(list[i] == i);
+    return plain(number);
 }
 
+/* Done, it leaves the list without the variable's entry. */
 static answer run_fold(const call *c, const lent *b) {
-    dequmlo_folded f = dequmlo_fold(c->numbers[0], c->numbers[1], c->numbers[2], c->word, WORDS(0), WORDS(1));
+    const size_t *list = (const size_t *)(const void *)b[0].bytes, *before = (const size_t *)c->slice[0].content;
+    dequmlo_folded f = dequmlo_fold(c->numbers[0], c->numbers[1], c->numbers[2], c->numbers[3], c->word, LIST(0), WORDS(1), WORDS(2));
+    if (f.number == 0) MUST(f.n == c->numbers[0] - 1 && is_without(list, before, c->numbers[0], c->numbers[3]));
     answer a = {f.number, f.n == 0};
     return a;
 }
@@ -203,8 +211,8 @@ static void made(const call *c, uint32_t expected, side page_at) {
     answer a = c->run(c, b);
     calls++;
     if (a.number != expected) {
-        fprintf(stderr, "boundary: %s answers %u, not %u; widths %u, numbers %zu %zu %zu, counts", c->name, a.number, expected, widths,
-                c->numbers[0], c->numbers[1], c->numbers[2]);
+        fprintf(stderr, "boundary: %s answers %u, not %u; widths %u, numbers %zu %zu %zu %zu, counts", c->name, a.number, expected, widths,
+                c->numbers[0], c->numbers[1], c->numbers[2], c->numbers[3]);
         for (size_t i = 0; i < c->slices; i++) fprintf(stderr, " %zu", c->slice[i].count);
         fprintf(stderr, "\n");
         exit(1);
@@ -258,6 +266,13 @@ static void counts(const call *c, size_t i, size_t value, size_t j, size_t other
     count(&changed, j, other, expected);
 }
 
+/* A slice of other content. */
+static void content(const call *c, size_t i, const void *other, uint32_t expected) {
+    call changed = *c;
+    changed.slice[i].content = other;
+    with(&changed, expected);
+}
+
 /* A number out of range and a slice of another count: the number's question comes first. */
 static void number_first(const call *c, size_t i, size_t value, size_t j, size_t other, uint32_t expected) {
     call changed = *c;
@@ -309,6 +324,12 @@ static slice writes(const void *content, size_t element, size_t count) {
     return s;
 }
 
+/* A list of coordinates: its length too is a question of 36. */
+static slice list_of(const size_t *content, size_t count) {
+    slice s = {content, sizeof *content, count, 1, 36, 36, 36};
+    return s;
+}
+
 static slice writes_any(const void *content, size_t element, size_t count) {
     slice s = {content, element, count, 1, 5, 5, 0};
     return s;
@@ -326,6 +347,52 @@ static void *longer(const void *content, size_t size) {
     memcpy(copy, content, size);
     MUST(copied < sizeof copies / sizeof *copies);
     return copies[copied++] = copy;
+}
+
+/* Folds of a codeword of 3 coordinates out of 5, and of one that has none left. The questions are put in this order: 4, 5, 36, 6. */
+static void folds(const void *codeword, size_t k) {
+    enum { N = 3, ORIGINAL = 2, VAR = 3 }; /* which numbers these are */
+    const size_t past = (size_t)-1, high = (size_t)1 << 63;
+    const size_t left[N + 1] = {0, 2, 4};
+    const size_t rising[][N + 1] = {{0, 1, 2}, {2, 3, 4}, {0, 1, 4}, {1, 3, 4}};
+    /* One too large; then equal neighbours; then not rising. */
+    const size_t other[][N + 1] = {{0, 2, 5},    {5, 6, 7},    {0, 2, past},        {0, past, 4},     {past, 2, 4},
+                                   {past, 0, 1}, {high, 2, 4}, {past, past, past}, {0, 2, high + 4},
+                                   {0, 2, 2},    {0, 0, 4},    {0, 0, 0},           {4, 4, 4},
+                                   {2, 0, 4},    {0, 4, 2},    {4, 2, 0},           {1, 2, 0}};
+    size_t words = level_words(N, k, 0);
+    call fold = {"fold", run_fold, {N, k, 5, 0}, 3, {list_of(left, N), reads(codeword, 8, 2 * words, 5), writes(scratch, 8, words)}, 0, {3, 4}};
+    lengths(&fold);
+    sizes(&fold, 0, 1, 0);
+    number(&fold, ORIGINAL, 20, 0);
+    number(&fold, ORIGINAL, 21, 4);
+    number(&fold, ORIGINAL, past, 4);
+    number(&fold, ORIGINAL, 4, 36);
+    number(&fold, ORIGINAL, 0, 36);
+    for (size_t i = 0; i < 3; i++) number_first(&fold, ORIGINAL, 21, i, fold.slice[i].count - 1, 4);
+    for (size_t var = 0; var < N; var++) {
+        call at = fold;
+        at.numbers[VAR] = var;
+        with(&at, 0);
+        for (size_t i = 0; i < sizeof rising / sizeof *rising; i++) content(&at, 0, rising[i], 0);
+        for (size_t i = 0; i < sizeof other / sizeof *other; i++) content(&at, 0, other[i], 36);
+    }
+
+    /* Lengths come before the list, and the list before the variable. */
+    call unfit = fold, beyond = fold;
+    unfit.slice[0].content = other[0], unfit.expected = 36;
+    lengths(&unfit);
+    number(&unfit, ORIGINAL, 21, 4);
+    number(&unfit, VAR, N, 36);
+    beyond.numbers[VAR] = N, beyond.expected = 6;
+    lengths(&beyond);
+    number(&beyond, VAR, past, 6);
+
+    call none = {"fold", run_fold, {0, k, 5, 0}, 3,
+                 {list_of(left, 0), reads(codeword, 8, (size_t)2 << k, 5), writes(scratch, 8, (size_t)1 << k)}, 6, {3, 4}};
+    lengths(&none);
+    number(&none, ORIGINAL, 0, 6);
+    number(&none, ORIGINAL, 21, 4);
 }
 
 /* All calls that are made under a set. Its level 0, of 16 words, has two groups of 8 under the present set and eight of 2 under the wide one. */
@@ -351,9 +418,9 @@ static void all(uint32_t set) {
     call digest = {"digest", run_digest, {0}, 1, {reads(scratch, 1, 1025, 0)}, 0, {0, 0}};
     lengths(&digest);
 
-    call commit = {"commit", run_commit, {N, K}, 5,
+    call commit = {"commit", run_commit, {N, K}, 6,
                    {reads(domain, 1, base, 0), reads(table, 8, 2 << N, 5), writes(scratch, 8, 2 * K * N), writes(scratch, 8, 2 * words),
-                    writes(scratch, 1, tree_size)}, 0, {0, 0}};
+                    writes(scratch, sizeof(size_t), N), writes(scratch, 1, tree_size)}, 0, {0, 0}};
     lengths(&commit);
     unnamed(&commit);
     sizes(&commit, 0, 1, 0);
@@ -361,13 +428,9 @@ static void all(uint32_t set) {
     number(&commit, 1, K + 1, 5);
     count(&commit, 0, 200, 0);
     count(&commit, 0, 201, 7);
+    for (size_t i = 1; i < 6; i++) counts(&commit, 0, 201, i, commit.slice[i].count - 1, 5);
 
-    call fold = {"fold", run_fold, {N, K, 0}, 2, {reads(all_levels, 8, 2 * words, 5), writes(scratch, 8, words)}, 0, {3, 4}};
-    lengths(&fold);
-    sizes(&fold, 0, 1, 0);
-    number(&fold, 2, N - 1, 0);
-    number(&fold, 2, N, 6);
-    number(&fold, 2, (size_t)-1, 6);
+    folds(all_levels, K);
 
     /* 4 before 5 before 7: each number out of range with each length, and each length with a base domain of 201 bytes. */
     call fold_levels = {"fold_levels", run_fold_levels, {N, K}, 6,

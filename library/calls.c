@@ -57,13 +57,93 @@ static void hash(void) {
 /* n = k = 1, table 5, 9, gamma 7: codeword 5, 9, 33, 45, folded by 2: 29, 57. Here the codeword is lent as it stands. */
 static void code(uint32_t widths) {
     uint64_t codeword[8] = {5, 0, 9, 0, 33, 0, 45, 0}, out[4];
-    dequmlo_folded f = dequmlo_fold(1, 1, 0, word(2), codeword, 8, out, 4);
-    MUST(f.number == 0 && f.n == 0 && out[0] == 29 && out[2] == 57 && out[1] == 0 && out[3] == 0);
+    size_t list[1] = {0};
+    dequmlo_folded f = dequmlo_fold(1, 1, 1, 0, word(2), list, 1, codeword, 8, out, 4);
+    MUST(f.number == 0 && f.n == 0 && out[0] == 29 && out[1] == 0 && out[2] == 57 && out[3] == 0 && list[0] == 0);
     uint64_t table[4] = {5, 0, 9, 0}, gammas[2];
     uint8_t tree[96];
     MUST(tree_bytes(widths, 4) == 96);
-    MUST(dequmlo_commit(widths, 1, 1, (const uint8_t *)"d", 1, table, 4, gammas, 2, codeword, 8, tree, 96) == 0);
-    MUST(codeword[0] == 5 && codeword[2] == 9);
+    list[0] = 7;
+    MUST(dequmlo_commit(widths, 1, 1, (const uint8_t *)"d", 1, table, 4, gammas, 2, codeword, 8, list, 1, tree, 96) == 0);
+    MUST(codeword[0] == 5 && codeword[2] == 9 && list[0] == 0);
+}
+
+/* ---- codewords in use */
+
+enum { MOST_N = 6, MOST_K = 2, MOST_WORDS = 1 << (MOST_N + MOST_K) };
+
+/* A codeword folded part way: its n, its list, its words; and at which variables it was folded, by which challenges, and which coordinates went. */
+typedef struct {
+    size_t n, folds, list[MOST_N], vars[MOST_N], gone[MOST_N];
+    uint64_t words[2 * MOST_WORDS];
+    dequmlo_word challenges[MOST_N];
+} in_use;
+
+static void folded_at(const seal *s, in_use *c, size_t var, dequmlo_word r) {
+    size_t before[MOST_N], words = level_words(c->n, s->k, 0);
+    uint64_t *out = (uint64_t *)room(8 * words);
+    memcpy(before, c->list, sizeof before);
+    dequmlo_folded f = dequmlo_fold(c->n, s->k, s->n, var, r, c->list, c->n, c->words, 2 * words, out, words);
+    MUST(f.number == 0 && f.n == c->n - 1 && is_without(c->list, before, c->n, var));
+    c->vars[c->folds] = var, c->gone[c->folds] = before[var], c->challenges[c->folds] = r;
+    c->folds++, c->n--;
+    memcpy(c->words, out, 8 * words);
+    free(out);
+}
+
+/* Half h of coordinate i of L(eps). */
+static uint64_t shift_half(const seal *s, size_t eps, size_t i, size_t h) {
+    uint64_t sum = 0;
+    for (size_t j = 0; j < s->k; j++)
+        if (eps >> j & 1) sum ^= s->gammas[2 * (j * s->n + i) + h];
+    return sum;
+}
+
+/* The table folded at the codeword's variables, each challenge plus the coordinate of L(eps) that it folds away. A table is a codeword of one block. */
+static void folded_table(const seal *s, const in_use *c, size_t eps, uint64_t *table) {
+    size_t list[MOST_N], n = s->n;
+    memcpy(list, s->coordinates, n * sizeof *list);
+    memcpy(table, s->table, (size_t)16 << n);
+    for (size_t i = 0; i < c->folds; i++, n--) {
+        uint64_t out[1 << MOST_N];
+        dequmlo_word r = c->challenges[i];
+        r.lo ^= shift_half(s, eps, c->gone[i], 0), r.hi ^= shift_half(s, eps, c->gone[i], 1);
+        MUST(dequmlo_fold(n, 0, s->n, c->vars[i], r, list, n, table, (size_t)2 << n, out, (size_t)1 << n).number == 0);
+        memcpy(table, out, (size_t)8 << n);
+    }
+}
+
+/* What the words of a folded codeword are (SPECIFICATION 6.5): block eps of the encoding of that table, under the coordinates that are left. */
+static void is_what_it_means(const seal *s, const in_use *c) {
+    uint64_t gammas[2 * MOST_K * MOST_N + 1], table[2 << MOST_N], block[2 << MOST_N];
+    size_t n = c->n, halves = (size_t)2 << n;
+    for (size_t j = 0; j < s->k; j++)
+        for (size_t i = 0; i < n; i++) memcpy(gammas + 2 * (j * n + i), s->gammas + 2 * (j * s->n + c->list[i]), 16);
+    for (size_t eps = 0; eps < (size_t)1 << s->k; eps++) {
+        folded_table(s, c, eps, table);
+        MUST(dequmlo_codeword_block(n, s->k, eps, table, halves, gammas, 2 * s->k * n, block, halves) == 0);
+        MUST(memcmp(block, c->words + eps * halves, 8 * halves) == 0);
+    }
+}
+
+/* A codeword folded to its end at variables that are drawn, from every variable for its first fold. After each fold, the list and the words. */
+static void folds_at_any_variable(size_t n, size_t k) {
+    seal s = sealed(DEQUMLO_WIDTHS_PRESENT, n, k, 0, n + k);
+    uint64_t seed = n + k;
+    for (size_t first = 0; first < n; first++) {
+        in_use c;
+        memset(&c, 0, sizeof c);
+        c.n = n;
+        memcpy(c.list, s.coordinates, n * sizeof(size_t));
+        memcpy(c.words, s.levels, 16 * level_words(n, k, 0));
+        is_what_it_means(&s, &c);
+        for (size_t l = 0; l < n; l++) {
+            dequmlo_word r = {s.challenges[2 * l], s.challenges[2 * l + 1]};
+            folded_at(&s, &c, l == 0 ? first : (size_t)(drawn(&seed) % c.n), r);
+            is_what_it_means(&s, &c);
+        }
+    }
+    unsealed(&s);
 }
 
 static void trees(void) {
@@ -81,7 +161,7 @@ static void trees(void) {
 static void parts(uint32_t widths, size_t n, size_t k, size_t each) {
     seal s = sealed(widths, n, k, 0, n + k);
     size_t words = level_words(n, k, 0), width = dequmlo_fold_tree_width(widths, words), groups = words / width, size = tree_bytes(widths, words);
-    size_t block = (size_t)2 << n;
+    size_t block = (size_t)2 << n, list[20];
     uint64_t *folded = (uint64_t *)room(8 * words), *made = (uint64_t *)room(16 * words);
     uint8_t *tree = (uint8_t *)room(size), domain[64];
     size_t length = dequmlo_level_domain_length((const uint8_t *)s.base, strlen(s.base), 0).length;
@@ -94,7 +174,8 @@ static void parts(uint32_t widths, size_t n, size_t k, size_t each) {
         MUST(dequmlo_codeword_half(n, k, half, s.table, block, s.gammas, 2 * k * n, made + half * (block / 2), block / 2) == 0);
     MUST(memcmp(made, s.levels, 16 * words) == 0);
     for (size_t var = 0; var < n; var++) {
-        MUST(dequmlo_fold(n, k, var, s.claim, s.levels, 2 * words, folded, words).number == 0);
+        memcpy(list, s.coordinates, n * sizeof *list);
+        MUST(dequmlo_fold(n, k, n, var, s.claim, list, n, s.levels, 2 * words, folded, words).number == 0);
         memset(made, 0x5a, 8 * words);
         for (size_t first = 0, m; first < words / 2; first += m) {
             m = words / 2 - first < each ? words / 2 - first : each;
@@ -332,6 +413,8 @@ int main(void) {
         records(widths, 4, 2, 37);
         records(widths, 6, 4, 1000);
     }
+    for (size_t k = 0; k <= MOST_K; k++)
+        for (size_t n = 1; n <= MOST_N; n++) folds_at_any_variable(n, k);
     ring();
     blocks_by_value();
     block_runs(0);

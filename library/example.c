@@ -20,12 +20,13 @@ int main(void) {
     uint64_t *table = (uint64_t *)calloc(2 * sizes.table, sizeof *table);
     uint64_t *gammas = (uint64_t *)calloc(2 * sizes.gammas, sizeof *gammas);
     uint64_t *codeword = (uint64_t *)calloc(2 * sizes.codeword, sizeof *codeword);
+    size_t coordinates[N]; /* the codeword's list, for folds one by one (dequmlo_fold) */
     uint8_t *tree = (uint8_t *)calloc(sizes.tree, 1);
     if (table == NULL || gammas == NULL || codeword == NULL || tree == NULL) return 1;
     for (size_t i = 0; i < sizes.table; i++) table[2 * i] = i;
 
     uint32_t number = dequmlo_commit(DEQUMLO_WIDTHS_PRESENT, N, K, (const uint8_t *)base, strlen(base), table, 2 * sizes.table, gammas,
-                                     2 * sizes.gammas, codeword, 2 * sizes.codeword, tree, sizes.tree);
+                                     2 * sizes.gammas, codeword, 2 * sizes.codeword, coordinates, N, tree, sizes.tree);
     if (number != 0) {
         fprintf(stderr, "refused: %u\n", (unsigned)number); /* docs/REFUSALS.md */
         return 1;

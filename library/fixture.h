@@ -13,6 +13,7 @@ typedef struct {
     size_t n, k;
     const char *base;
     uint64_t *table, *gammas, *levels, *challenges;
+    size_t *coordinates; /* the codeword's list */
     uint8_t *trees, *roots, *query, *tail;
     size_t position;
     dequmlo_word claim;
@@ -80,15 +81,24 @@ static inline void *room(size_t bytes) {
     return p;
 }
 
+/* ---- lists of coordinates */
+
+/* Whether a list of n is what a fold at `var` leaves of one that was `before`: without its entry, and 0 after its end. */
+static inline int is_without(const size_t *list, const size_t *before, size_t n, size_t var) {
+    for (size_t i = 0; i + 1 < n; i++)
+        if (list[i] != before[i < var ? i : i + 1]) return 0;
+    return list[n - 1] == 0;
+}
+
 /* ---- the seal */
 
-/* Level l + 1 and its tree, and its root. */
-static inline void next_level(seal *s, size_t l, size_t first, size_t first_tree) {
+/* Level l + 1 and its tree, and its root. The list is that of level l, and becomes that of level l + 1. */
+static inline void next_level(seal *s, size_t l, size_t *list, size_t first, size_t first_tree) {
     size_t from = level_words(s->n, s->k, l), to = from / 2;
     uint64_t *level = s->levels + 2 * first, *next = level + 2 * from;
     dequmlo_word r = {s->challenges[2 * l], s->challenges[2 * l + 1]};
-    dequmlo_folded f = dequmlo_fold(s->n - l, s->k, 0, r, level, 2 * from, next, 2 * to);
-    MUST(f.number == 0 && f.n == s->n - l - 1);
+    dequmlo_folded f = dequmlo_fold(s->n - l, s->k, s->n, 0, r, list, s->n - l, level, 2 * from, next, 2 * to);
+    MUST(f.number == 0 && f.n == s->n - l - 1 && is_without(list, s->coordinates + l, s->n - l, 0));
     char domain[64];
     int length = snprintf(domain, sizeof domain, "%s/level/%zu", s->base, l + 1);
     uint8_t *tree = s->trees + first_tree + tree_bytes(s->widths, from);
@@ -103,6 +113,7 @@ static inline seal sealed(uint32_t widths, size_t n, size_t k, size_t position, 
     s.table = (uint64_t *)room(16 << n);
     s.gammas = (uint64_t *)room(16 * k * n);
     s.levels = (uint64_t *)room(16 * levels_words(n, k));
+    s.coordinates = (size_t *)room(n * sizeof(size_t));
     s.challenges = (uint64_t *)room(16 * n);
     s.trees = (uint8_t *)room(trees_bytes(widths, n, k));
     s.roots = (uint8_t *)room(32 * (n + 1));
@@ -112,14 +123,17 @@ static inline seal sealed(uint32_t widths, size_t n, size_t k, size_t position, 
     for (size_t i = 0; i < 2 * n; i++) s.challenges[i] = drawn(&seed);
     size_t words = level_words(n, k, 0), size = tree_bytes(widths, words);
     MUST(dequmlo_commit(widths, n, k, (const uint8_t *)s.base, strlen(s.base), s.table, (size_t)2 << n, s.gammas, 2 * k * n, s.levels, 2 * words,
-                        s.trees, size) == 0);
+                        s.coordinates, n, s.trees, size) == 0);
     memcpy(s.roots, s.trees + size - 32, 32);
-    size_t first = 0, first_tree = 0;
+    for (size_t i = 0; i < n; i++) MUST(s.coordinates[i] == i);
+    size_t first = 0, first_tree = 0, *list = (size_t *)room(n * sizeof(size_t));
+    memcpy(list, s.coordinates, n * sizeof(size_t));
     for (size_t l = 0; l < n; l++) {
-        next_level(&s, l, first, first_tree);
+        next_level(&s, l, list, first, first_tree);
         first += level_words(n, k, l);
         first_tree += tree_bytes(widths, level_words(n, k, l));
     }
+    free(list);
     s.claim.lo = s.levels[2 * first], s.claim.hi = s.levels[2 * first + 1];
     size_t last = (size_t)1 << k;
     MUST(dequmlo_build_tail(s.tail, tail_bytes(widths, k), s.levels + 2 * first, 2 * last, s.trees + first_tree, tree_bytes(widths, last), widths, n,
@@ -130,7 +144,7 @@ static inline seal sealed(uint32_t widths, size_t n, size_t k, size_t position, 
 }
 
 static inline void unsealed(seal *s) {
-    free(s->table), free(s->gammas), free(s->levels), free(s->challenges);
+    free(s->table), free(s->gammas), free(s->levels), free(s->coordinates), free(s->challenges);
     free(s->trees), free(s->roots), free(s->query), free(s->tail);
 }
 

@@ -1,11 +1,11 @@
-/* Damaged query and tail records against their checks, and comparing. A record that differs from the built one may not be accepted: that would
-   be a collision of the hash. The run is bounded and the same for the same seed.
+/* Damaged query and tail records against their checks, and comparing; and folds with damaged lists of coordinates. A record that differs from the built
+   one may not be accepted: that would be a collision of the hash. The run is bounded and the same for the same seed.
 
      fuzz [SEED [ROUNDS]] */
 #include "lent.h"
 
 static uint64_t state;
-static size_t answers[34];
+static size_t answers[37];
 
 static size_t below(size_t n) { return (size_t)(drawn(&state) % n); }
 
@@ -158,6 +158,82 @@ static void tail(const seal *s, uint8_t *copy, side page_at) {
     take_back(&shown);
 }
 
+/* ---- lists of coordinates */
+
+enum { MOST_LISTED = 24 };
+
+/* Some n numbers below the original n, rising. */
+static void listed(size_t *list, size_t n, size_t original) {
+    for (size_t x = 0, i = 0; i < n; x++)
+        if (below(original - x) < n - i) list[i++] = x;
+}
+
+/* Damages a list of n numbers, or leaves it. The new count. */
+static size_t damaged_list(size_t *list, size_t n, size_t original) {
+    const size_t values[] = {0, 1, original - 1, original, original + 1, (size_t)-1, (size_t)1 << 63, (size_t)drawn(&state)};
+    size_t value = values[below(sizeof values / sizeof *values)];
+    switch (below(8)) {
+    case 0: /* one number */
+        if (n > 0) list[below(n)] = value;
+        return n;
+    case 1: { /* two exchanged, or none */
+        if (n == 0) return n;
+        size_t a = below(n), b = below(n), kept = list[a];
+        list[a] = list[b], list[b] = kept;
+        return n;
+    }
+    case 2: /* one twice */
+        if (n > 1) list[1 + below(n - 1)] = list[below(n - 1)];
+        return n;
+    case 3: /* cut */
+        return below(n + 1);
+    case 4: /* added to */
+        list[n] = value;
+        return n + 1;
+    case 5: /* nothing but chance */
+        for (size_t i = 0; i < n; i++) list[i] = (size_t)drawn(&state);
+        return n;
+    default:
+        return n;
+    }
+}
+
+static int is_rising(const size_t *list, size_t count, size_t original) {
+    for (size_t i = 0; i < count; i++)
+        if (list[i] >= original || (i > 0 && list[i] <= list[i - 1])) return 0;
+    return 1;
+}
+
+/* A refused fold leaves the list and the output as they were. A done one drops the variable's entry, and at variable 0 it is the next level. */
+static void looked_at(uint32_t number, size_t n, size_t var, const lent *shown, const size_t *list, const lent *out, const uint64_t *before,
+                      const uint64_t *next) {
+    if (number != 0) {
+        MUST(same(out->bytes, out->size, (const uint8_t *)before, out->size));
+        MUST(same(shown->bytes, shown->size, (const uint8_t *)list, shown->size));
+        return;
+    }
+    MUST(is_without((const size_t *)(const void *)shown->bytes, list, n, var));
+    MUST(var != 0 || same(out->bytes, out->size, (const uint8_t *)next, out->size));
+}
+
+/* A level folded as a codeword in use by its challenge, at some variable or one past them. The answer is known, and so is every byte. */
+static void fold(const seal *s, side page_at) {
+    size_t list[MOST_LISTED], level = below(s->n + 1), n = s->n - level, original = n + below(21 - n), var = below(n + 1);
+    listed(list, n, original);
+    size_t count = damaged_list(list, n, original), words = level_words(n, s->k, 0);
+    uint32_t expected = count != n || !is_rising(list, count, original) ? 36 : var == n ? 6 : 0;
+    const uint64_t *codeword = s->levels + 2 * (levels_words(s->n, s->k) - levels_words(n, s->k)), *challenge = s->challenges + 2 * (level % s->n);
+    lent shown = lend(list, count * sizeof *list, page_at), from = lend(codeword, 16 * words, page_at), out = lend(s->levels, words / 2 * 16, page_at);
+    dequmlo_word r = {challenge[0], challenge[1]};
+    dequmlo_folded f = dequmlo_fold(n, s->k, original, var, r, (size_t *)(void *)shown.bytes, count, (const uint64_t *)(const void *)from.bytes, 2 * words,
+                                    (uint64_t *)(void *)out.bytes, out.size / 8);
+    MUST(f.number == expected && f.n == (expected == 0 ? n - 1 : 0));
+    MUST(same(from.bytes, from.size, (const uint8_t *)codeword, from.size));
+    looked_at(f.number, n, var, &shown, list, &out, s->levels, codeword + 2 * words);
+    answers[f.number]++;
+    take_back(&shown), take_back(&from), take_back(&out);
+}
+
 static dequmlo_checked checked(const seal *s) {
     size_t n = s->n;
     dequmlo_checked c = dequmlo_check_query((const uint8_t *)s->base, strlen(s->base), s->widths, n, s->k, s->position, s->challenges, 2 * n, s->roots,
@@ -207,12 +283,13 @@ int main(int count, char **words) {
         for (size_t round = 0; round < rounds; round++) {
             query(&s, copy, round % 2 ? PAGE_AFTER : PAGE_BEFORE);
             tail(&s, copy, round % 2 ? PAGE_AFTER : PAGE_BEFORE);
+            fold(&s, round % 2 ? PAGE_AFTER : PAGE_BEFORE);
         }
         free(copy);
         unsealed(&s);
     }
     printf("fuzz: seed %llu;", (unsigned long long)seed);
-    for (size_t number = 0; number < 34; number++)
+    for (size_t number = 0; number < sizeof answers / sizeof *answers; number++)
         if (answers[number] != 0) printf(" %zu: %zu", number, answers[number]);
     printf("\n");
     return 0;

@@ -7,7 +7,7 @@
 
 /* ---- what is lent: a place for each buffer, which lies at its end */
 
-enum { DOMAIN, LEVEL_DOMAIN, INPUT, TABLE, CHALLENGES, GAMMAS, LEVELS, HALF, TREES, LEVEL_TREE, ROOTS, QUERY, TAIL, FIRST, SECOND, TREE, PATH, POINT,
+enum { DOMAIN, LEVEL_DOMAIN, INPUT, TABLE, CHALLENGES, GAMMAS, LEVELS, COORDINATES, HALF, TREES, LEVEL_TREE, ROOTS, QUERY, TAIL, FIRST, SECOND, TREE, PATH, POINT,
        PARTIALS, INDICATOR, BLOCKS, PLACES };
 
 static const size_t ROOM = (size_t)1 << 31;
@@ -29,6 +29,16 @@ static uint8_t *end_of_room(int access) {
     uint8_t *end = (uint8_t *)start + ROOM;
     MUST(mprotect(end, page, PROT_NONE) == 0);
     return end;
+}
+
+/* A list of coordinates: so many numbers from `first` on, which may only be read where the call is refused. */
+static size_t *list_of(size_t count, size_t first) {
+    size_t *list = (size_t *)(void *)bytes_of(COORDINATES, count * sizeof *list), page = (size_t)sysconf(_SC_PAGESIZE);
+    uint8_t *last_page = bytes_of(COORDINATES, page);
+    MUST(mprotect(last_page, page, PROT_READ | PROT_WRITE) == 0);
+    for (size_t i = 0; i < count; i++) list[i] = first + i;
+    if (refusing) MUST(mprotect(last_page, page, PROT_READ) == 0);
+    return list;
 }
 
 /* The content that the largest calls read. */
@@ -94,27 +104,29 @@ static uint32_t digest(const size_t *v) {
     return digested(d);
 }
 
-/* n, k, bytes of the base domain */
+/* n, k, bytes of the base domain, numbers of the list */
 static uint32_t commit(const size_t *v) {
-    size_t n = v[0], k = v[1], words = level_words(n, k, 0);
+    size_t n = v[0], k = v[1], words = level_words(n, k, 0), *list = list_of(v[3], 7);
     uint64_t *codeword = halves_of(LEVELS, levels_words(n, k));
     uint8_t *tree = bytes_of(TREES, trees_bytes(widths, n, k));
-    uint32_t number = dequmlo_commit(widths, n, k, BYTES(DOMAIN, v[2]), WORDS(TABLE, (size_t)1 << n), WORDS(GAMMAS, k * n), codeword, 2 * words, tree,
-                                     tree_bytes(widths, words));
+    uint32_t number = dequmlo_commit(widths, n, k, BYTES(DOMAIN, v[2]), WORDS(TABLE, (size_t)1 << n), WORDS(GAMMAS, k * n), codeword, 2 * words, list, v[3],
+                                     tree, tree_bytes(widths, words));
     if (number == 0) MUST(memcmp(codeword, halves_of(TABLE, (size_t)1 << n), (size_t)16 << n) == 0);
+    for (size_t i = 0; number == 0 && i < n; i++) MUST(list[i] == i);
     return number;
 }
 
-/* n, k, variable. By 1 each pair folds to its second word. */
+/* n, k, the original n, variable, numbers of the list, the first of them. By 1 each pair folds to its second word. */
 static uint32_t fold(const size_t *v) {
-    size_t n = v[0], k = v[1], words = level_words(n, k, 0);
+    size_t n = v[0], k = v[1], words = level_words(n, k, 0), *list = list_of(v[4], v[5]);
     const uint64_t *codeword = halves_of(LEVELS, levels_words(n, k));
-    dequmlo_folded f = dequmlo_fold(n, k, v[2], word(1), codeword, 2 * words, WORDS(HALF, words / 2));
+    dequmlo_folded f = dequmlo_fold(n, k, v[2], v[3], word(1), list, v[4], codeword, 2 * words, WORDS(HALF, words / 2));
     if (f.number != 0) {
         MUST(f.n == 0);
         return f.number;
     }
-    MUST(f.n == n - 1 && v[2] == n - 1);
+    MUST(f.n == n - 1 && v[3] == n - 1 && list[n - 1] == 0);
+    for (size_t i = 0; i < n - 1; i++) MUST(list[i] == v[5] + i);
     size_t half = (size_t)1 << n; /* of a block, in halves of words */
     for (size_t eps = 0; eps < (size_t)1 << k; eps++)
         MUST(memcmp(halves_of(HALF, words / 2) + eps * half, codeword + (2 * eps + 1) * half, 8 * half) == 0);
@@ -389,19 +401,36 @@ static const row rows[] = {
     {CALL(digest), {MOST}, 0},
     {CALL(digest), {MOST + 1}, 13},
 
-    {CALL(commit), {0, 0, 0}, 0},
-    {CALL(commit), {0, 4, 200}, 0},
-    {CALL(commit), {20, 4, 200}, 0},
-    {CALL(commit), {20, 4, 201}, 7},
-    {CALL(commit), {21, 4, 200}, 4},
-    {CALL(commit), {20, 5, 200}, 4},
+    {CALL(commit), {0, 0, 0, 0}, 0},
+    {CALL(commit), {0, 4, 200, 0}, 0},
+    {CALL(commit), {0, 4, 200, 1}, 5},
+    {CALL(commit), {20, 4, 200, 20}, 0},
+    {CALL(commit), {20, 4, 200, 19}, 5},
+    {CALL(commit), {20, 4, 200, 21}, 5},
+    {CALL(commit), {20, 4, 201, 20}, 7},
+    {CALL(commit), {21, 4, 200, 21}, 4},
+    {CALL(commit), {20, 5, 200, 20}, 4},
 
-    {CALL(fold), {20, 4, 19}, 0},
-    {CALL(fold), {20, 4, 20}, 6},
-    {CALL(fold), {21, 4, 20}, 4},
-    {CALL(fold), {20, 5, 19}, 4},
-    {CALL(fold), {1, 0, 1}, 6},
-    {CALL(fold), {0, 0, 0}, 6},
+    {CALL(fold), {20, 4, 20, 19, 20, 0}, 0},
+    {CALL(fold), {20, 4, 20, 20, 20, 0}, 6},
+    {CALL(fold), {20, 4, 20, 19, 19, 0}, 36},
+    {CALL(fold), {20, 4, 20, 19, 21, 0}, 36},
+    {CALL(fold), {20, 4, 20, 19, 20, 1}, 36},
+    {CALL(fold), {20, 4, 19, 19, 20, 0}, 36},
+    {CALL(fold), {20, 4, 21, 19, 20, 0}, 4},
+    {CALL(fold), {21, 4, 20, 20, 21, 0}, 4},
+    {CALL(fold), {20, 5, 20, 19, 20, 0}, 4},
+    {CALL(fold), {1, 0, 20, 0, 1, 19}, 0},
+    {CALL(fold), {1, 0, 20, 0, 1, 20}, 36},
+    {CALL(fold), {1, 0, 20, 0, 1, (size_t)-1}, 36},
+    {CALL(fold), {1, 0, 21, 0, 1, 20}, 4},
+    {CALL(fold), {1, 0, 1, 0, 1, 0}, 0},
+    {CALL(fold), {1, 0, 0, 0, 1, 0}, 36},
+    {CALL(fold), {1, 0, 1, 1, 1, 0}, 6},
+    {CALL(fold), {0, 0, 0, 0, 0, 0}, 6},
+    {CALL(fold), {0, 0, 20, 0, 0, 0}, 6},
+    {CALL(fold), {0, 0, 20, 0, 1, 0}, 36},
+    {CALL(fold), {0, 0, 21, 0, 0, 0}, 4},
 
     {CALL(codeword_block), {0, 0, 0}, 0},
     {CALL(codeword_block), {20, 4, 15}, 0},
@@ -662,18 +691,19 @@ static const row wide_rows[] = {
     {CALL(compare), {200, 20, 4, LAST, ROOM_OF_MESSAGE - 1, ROOM_OF_MESSAGE}, 5},
     {CALL(compare), {200, 20, 4, LAST, ROOM_OF_MESSAGE, ROOM_OF_MESSAGE + 1}, 5},
 
-    {CALL(commit), {0, 0, 0}, 0},
-    {CALL(commit), {2, 4, 200}, 0},
-    {CALL(commit), {12, 4, 200}, 0},
-    {CALL(commit), {20, 4, 201}, 7},
-    {CALL(commit), {20, 5, 200}, 4},
+    {CALL(commit), {0, 0, 0, 0}, 0},
+    {CALL(commit), {2, 4, 200, 2}, 0},
+    {CALL(commit), {12, 4, 200, 12}, 0},
+    {CALL(commit), {20, 4, 200, 21}, 5},
+    {CALL(commit), {20, 4, 201, 20}, 7},
+    {CALL(commit), {20, 5, 200, 20}, 4},
 };
 
 /* Under a number that is no set's: 4, also where all else is right, or where a length or the base domain is wrong too. */
 static const row unnamed_rows[] = {
     {CALL(sizes), {20, 4}, 4},
-    {CALL(commit), {20, 4, 200}, 4},
-    {CALL(commit), {20, 4, 201}, 4},
+    {CALL(commit), {20, 4, 200, 20}, 4},
+    {CALL(commit), {20, 4, 201, 19}, 4},
     {CALL(fold_levels), {200, 20, 4, 20}, 4},
     {CALL(fold_levels), {201, 20, 4, 19}, 4},
     {CALL(level_tree), {200, 20, 4, 20}, 4},

@@ -18,12 +18,14 @@ static void nothing(void) {}
 static void digest(void) { dequmlo_digest(bytes, sizeof bytes); }
 static void commit(void) {
     size_t count = level_words(s.n, s.k, 0);
-    MUST(dequmlo_commit(s.widths, s.n, s.k, BASE, s.table, (size_t)2 << s.n, s.gammas, 2 * s.k * s.n, s.levels, 2 * count, s.trees,
-                        tree_bytes(s.widths, count)) == 0);
+    MUST(dequmlo_commit(s.widths, s.n, s.k, BASE, s.table, (size_t)2 << s.n, s.gammas, 2 * s.k * s.n, s.levels, 2 * count, s.coordinates, s.n,
+                        s.trees, tree_bytes(s.widths, count)) == 0);
 }
 static void fold(void) {
+    static size_t list[20];
     size_t count = level_words(s.n, s.k, 0);
-    MUST(dequmlo_fold(s.n, s.k, 0, s.claim, s.levels, 2 * count, words, count).number == 0);
+    memcpy(list, s.coordinates, s.n * sizeof *list);
+    MUST(dequmlo_fold(s.n, s.k, s.n, 0, s.claim, list, s.n, s.levels, 2 * count, words, count).number == 0);
 }
 static void fold_levels(void) {
     size_t levels = 2 * levels_words(s.n, s.k);

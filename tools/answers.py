@@ -1,12 +1,12 @@
 """The model's answer to a request line: the questions of SPECIFICATION 8.4 and definitions by model.py and records.py, apart from the code and the Rust.
 
 An operation gets its arguments, words as their bytes, and how long its outputs are, in halves of words or in bytes. It answers the numbers,
-and what the outputs hold; None for one that holds what it held."""
+and what the outputs hold, a list that it is lent for writing first; None for one that holds what it held."""
 import collections
 import struct
 
 import records
-from lines import FILL, shown
+from lines import FILL, listed, shown
 from model import CHUNK_END, CHUNK_START, PARENT, PROFILES, ROOT_NODE, blake3, compress
 from model import derive, encode, equality_table, extension, fold_tree_width, gamma_message, leaf_message, level_domain, mul, node_message, path
 from model import exported, fold as fold_first, ghash, imported, number as number_bytes, part, root_of_path, seal_parameters as parameters_of_seal, shift, tree
@@ -26,7 +26,7 @@ def operation(f):
 def answer(reader, letters, line):
     """The answer to a line whose operation has these letters."""
     name, *texts = line.split()
-    arguments, outputs, texts = [], [], iter(texts)
+    arguments, lists, outputs, texts = [], [], [], iter(texts)
     for letter in letters:
         if letter in "opcd":
             outputs.append((letter != "d", {"o": 16, "p": 32, "c": 2048, "d": 32}[letter]))
@@ -36,17 +36,20 @@ def answer(reader, letters, line):
             outputs.append((letter == "W", int(text) * (8 if letter == "W" else 1)))
         elif letter == "n":
             arguments.append(int(text))
-        elif letter == "l":
-            arguments.append([int(x) for x in text.split(",") if x != "-"])
+        elif letter in "lL":
+            arguments.append(reader.numbers(text))
+            lists += [arguments[-1]] if letter == "L" else []
         else:
             arguments.append(reader.bytes(text, letter == "w"))
     assert next(texts, None) is None, line
     lengths = [size // 8 if words else size for words, size in outputs]
     numbers, held = OPERATIONS[name](*arguments, *lengths)
-    held = list(held) + [None] * (len(outputs) - len(held))
-    after = [FILL * size if x is None else x for x, (_, size) in zip(held, outputs)]
-    assert all(len(x) == size for x, (_, size) in zip(after, outputs)), line
-    return " ".join([*map(str, numbers), *(shown(words, x) for x, (words, _) in zip(after, outputs))])
+    before = lists + [FILL * size for _, size in outputs]
+    held = list(held) + [None] * (len(before) - len(held))
+    after = [x if y is None else y for x, y in zip(before, held)]
+    assert [len(x) for x in after] == [len(x) for x in before], line
+    parts = [listed(x) for x in after[: len(lists)]] + [shown(words, x) for x, (words, _) in zip(after[len(lists) :], outputs)]
+    return " ".join([*map(str, numbers), *parts])
 
 
 def ints(data):
@@ -297,10 +300,26 @@ def derive_(n, k, base, out):
     return done(number, *([packed(derive(base, n, k))] if number == 0 else []))
 
 
+def rising(n, original, coordinates):
+    """n strictly rising numbers below the original n?"""
+    return len(coordinates) == n and all(a < b for a, b in zip(coordinates, [*coordinates[1:], original]))
+
+
 @operation
-def l_of(n, k, eps, gammas, out):
-    number = no((4, in_range(n, k)), (5, halves(gammas) == 2 * n * k and out == 2 * n))
-    return done(number, *([packed(shift(n, k, ints(gammas), eps))] if number == 0 else []))
+def l_of(n, k, original, eps, coordinates, gammas, out):
+    """The entries of L(eps) at the coordinates that are still unfolded."""
+    sized = halves(gammas) == 2 * k * original and out == 2 * n
+    number = no((4, in_range(n, k)), (4, original <= 20), (5, sized), (36, rising(n, original, coordinates)))
+    if number:
+        return [number], []
+    whole = shift(original, k, ints(gammas), eps)
+    return [0], [packed([whole[c] for c in coordinates])]
+
+
+@operation
+def earlier_reading(n, k, original, coordinates):
+    number = no((4, in_range(n, k)), (4, original <= 20), (36, rising(n, original, coordinates)))
+    return done(number, list(range(len(coordinates))))
 
 
 @operation
@@ -319,13 +338,25 @@ def fold_at(level, var, r):
     return [level[v] ^ mul(r, level[v] ^ level[v | 1 << var]) for v in lower]
 
 
+def fold_number(n, k, original, var, coordinates, values, room):
+    """The number of a fold of so many halves into a room of so many."""
+    if not in_range(n, k) or original > 20:
+        return 4
+    if values != 2 << n + k or room != (1 << n + k) // 2 * 2:
+        return 5
+    return no((36, rising(n, original, coordinates)), (6, var < n))
+
+
+def without(coordinates, var):
+    return coordinates[:var] + coordinates[var + 1 :]
+
+
 @operation
-def fold(n, k, var, r, values, out):
-    sized = in_range(n, k) and halves(values) == 2 << n + k and out == (1 << n + k) // 2 * 2
-    number = no((4, in_range(n, k)), (5, sized), (6, var < n))
+def fold(n, k, original, var, r, coordinates, values, out):
+    number = fold_number(n, k, original, var, coordinates, halves(values), out)
     if number:
         return [number, 0], []
-    return [0, n - 1], [packed(fold_at(ints(values), var, ints(r)[0]))]
+    return [0, n - 1], [without(coordinates, var) + [0], packed(fold_at(ints(values), var, ints(r)[0]))]
 
 
 @operation
@@ -541,17 +572,18 @@ OPERATIONS["level_domain"] = OPERATIONS.pop("level_domain_")
 
 
 @operation
-def commit(widths, n, k, base, table, gammas, codeword, out):
+def commit(widths, n, k, base, table, coordinates, gammas, codeword, out):
     number = no((4, in_range(n, k)))
     if number == 0:
         count, width, _ = records.shape(widths, n, k, 0)
-        sized = halves(table) == 2 << n and gammas == 2 * n * k and codeword == 2 << n + k and out == 32 * (2 * (count // width) - 1)
-        number = no((5, sized), (7, len(base) <= 200))
+        lent = halves(table), gammas, codeword, len(coordinates), out
+        fixed = 2 << n, 2 * n * k, 2 << n + k, n, 32 * (2 * (count // width) - 1)
+        number = no((5, lent == fixed), (7, len(base) <= 200))
     if number:
         return [number], []
     made = derive(base, n, k)
     words = encode(n, k, ints(table), made)
-    return [0], [packed(made), packed(words), b"".join(tree(level_domain(base, 0), width, words))]
+    return [0], [list(range(n)), packed(made), packed(words), b"".join(tree(level_domain(base, 0), width, words))]
 
 
 @operation
@@ -782,41 +814,38 @@ def tails(data, out):
     return [0, n, k], [packed(last_level(n, k, table, gammas, challenges)).ljust(256, b"\0")]
 
 
-def fold_number(n, k, var, codeword, room):
-    """The number of a fold of so many words into a room of so many halves."""
-    if n > 20 or k > 4:
-        return 4
-    if codeword != 1 << (n + k) or room != 2 * ((1 << (n + k)) // 2):
-        return 5
-    return 0 if var < n else 6
-
-
 # how long the program's own buffers are for what a run leaves: roots, both records, both messages
 RUN_ROOMS = (160, 1640, 160, MESSAGE_BUFFER + 8, MESSAGE_BUFFER + 8)
 
 
 class Run(Deposit):
-    """A table committed, and a list of fold calls until n are done; the levels behind stay zeros."""
+    """A table committed, and a list of fold calls until n are done, each on what the last done one left; the levels behind stay zeros."""
 
     def __init__(self, widths, n, k, base, table, calls):
         self.widths, self.n, self.k, self.base, self.challenges = widths, n, k, base, []
-        self.levels = [encode(n, k, table, derive(base, n, k))]
-        for call_n, call_k, var, room, r in calls:
-            if len(self.challenges) < n and fold_number(call_n, call_k, var, len(self.levels[-1]), room) == 0:
+        self.levels, self.coordinates = [encode(n, k, table, derive(base, n, k))], list(range(n))
+        for call_n, call_k, original, var, room, r in calls:
+            lent = self.coordinates, 2 * len(self.levels[-1]), room
+            if len(self.challenges) < n and fold_number(call_n, call_k, original, var, *lent) == 0:
                 self.levels.append(fold_at(self.levels[-1], var, r))
+                self.coordinates = without(self.coordinates, var)
                 self.challenges.append(r)
         self.levels += [[0] * (1 << (n + k - l)) for l in range(len(self.levels), n + 1)]
         self.trees = [tree(level_domain(base, l), fold_tree_width(widths, len(v)), v) for l, v in enumerate(self.levels)]
         self.roots = [digests[-1] for digests in self.trees]
 
 
-def run_questions(widths, n, k, position, base, table, calls, challenges, lengths, kept):
+# how many numbers a call has: n, k, the original n, the variable and the room
+CALL = 5
+
+
+def run_questions(widths, n, k, position, base, table, calls, challenges, lengths, coordinates, kept):
     """`lengths` are of the gammas, levels, half, trees, roots, query and tail record and the two messages."""
     yield 4, 0, 1 <= n <= 20 and k <= 4
     yield 5, 0, len(table) == 16 << n
-    yield 5, 0, len(calls) % 4 == 0 and len(challenges) == 4 * len(calls)
+    yield 5, 0, len(calls) % CALL == 0 and len(challenges) == 16 * (len(calls) // CALL)
     trees, record, tail = records.sizes(widths, n, k)
-    yield 5, 0, kept == 2 * n
+    yield 5, 0, len(coordinates) == n and kept == 2 * n
     yield 5, 0, lengths == [
         2 * k * n,
         2 * ((2 << n) - 1 << k),
@@ -833,11 +862,11 @@ def run_questions(widths, n, k, position, base, table, calls, challenges, length
 
 
 @operation
-def run(widths, n, k, position, base, table, calls, challenges, claim, first, second, lengths, kept, out, counts):
-    refusal, _ = first_no(run_questions(widths, n, k, position, base, table, calls, challenges, lengths, kept))
+def run(widths, n, k, position, base, table, calls, challenges, claim, first, second, lengths, coordinates, kept, out, counts):
+    refusal, _ = first_no(run_questions(widths, n, k, position, base, table, calls, challenges, lengths, coordinates, kept))
     if refusal:
-        return [refusal, 0, 0, 0], [None, None, bytes(32)]
-    made = Run(widths, n, k, base, ints(table), zip(*(calls[i::4] for i in range(4)), ints(challenges)))
+        return [refusal, 0, 0, 0], [None, None, None, bytes(32)]
+    made = Run(widths, n, k, base, ints(table), zip(*(calls[i::CALL] for i in range(CALL)), ints(challenges)))
     held, roots = packed(made.challenges).ljust(16 * n, FILL), b"".join(made.roots)
     record, tail = query_bytes(query(made, position)), tail_bytes(made.tail())
     number, level = first_no(records.check_query(base, widths, n, k, position, held, roots, record))
@@ -845,7 +874,8 @@ def run(widths, n, k, position, base, table, calls, challenges, claim, first, se
     (compared, one, two), _ = compare(base, widths, n, k, position, held, roots, first, second, MESSAGE_BUFFER, MESSAGE_BUFFER)
     left = b"".join(part.ljust(size, FILL) for part, size in zip((roots, record, tail, b"", b""), RUN_ROOMS))
     done = b"".join(x.to_bytes(8, "little") for x in (len(made.challenges), level, one, two))
-    return [0, number, number_of_tail, compared], [held, left, done]
+    unfolded = made.coordinates + [0] * (n - len(made.coordinates))
+    return [0, number, number_of_tail, compared], [unfolded, held, left, done]
 
 
 # By number: the Rust's default is the first default; 5 names none.

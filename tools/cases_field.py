@@ -2,7 +2,7 @@
 seeded generator; each question's no is asked for alone and with others, to show the order."""
 import random
 
-from lines import hex_word, hex_words, hexed
+from lines import hex_word, hex_words, hexed, listed
 
 ONES = (1 << 128) - 1
 BOUNDS = [0, 1, 2, 3, 0x87, 1 << 63, 1 << 64, 1 << 127, (1 << 64) - 1, ONES ^ (1 << 64) - 1, ONES]
@@ -20,6 +20,18 @@ def front(words, halves):
     return ",".join(whole + odd) or "-"
 
 
+def unfolded(line):
+    """A line of `fold` or `l_of` with n, k and the rest, on a codeword of which nothing is folded: the original n is n, the list 0 to n - 1."""
+    name, n, k, *rest = line.split()
+    before = 2 if name == "fold" else 1
+    return " ".join([name, n, k, n, *rest[:before], listed(range(int(n))), *rest[before:]])
+
+
+def room(n):
+    """A list of n numbers, lent for writing."""
+    return "7x%d" % n if n else "-"
+
+
 def small():
     """The small values of SPECIFICATION 12 that the field, ring switching and the code have."""
     top = hex_word(1 << 127)
@@ -27,7 +39,7 @@ def small():
     yield from ["eq_table 0 - 2", "eq_table 1 2 4", "eq_table 2 2,4 8"]
     yield from ["eval_at 1 2 1,4,0x126 2", "materialize 1 2 1,4,0x126 4", "eval_at 0 - 9,0x127 -"]
     yield "partial_evals 0 5 1 256"
-    yield from ["encode 1 1 5,9 7 8", "fold 1 1 0 2 5,9,21,2d 4"]
+    yield from ["encode 1 1 5,9 7 8", unfolded("fold 1 1 0 2 5,9,21,2d 4")]
     yield "# the length of a gamma's message: a domain of 1 byte, and the longest"
     yield from ["gamma_message 1 1 61 0 0", "gamma_message 20 4 61x200 3 19"]
     yield "square_by_table %s" % top
@@ -130,22 +142,26 @@ def identities():
 
 def code(some):
     yield "derive 2 2 61 8"
-    yield from ["l_of 2 2 1 1,2,4,8 4", "l_of 2 2 7 1,2,4,8 4"]
+    yield from map(unfolded, ["l_of 2 2 1 1,2,4,8 4", "l_of 2 2 7 1,2,4,8 4"])
     yield "# n and k at their largest and past it"
-    yield from ["l_of 20 4 15 0x80 40", "l_of 21 4 15 0x80 40", "l_of 1 5 15 0x80 40", "derive 20 4 61 160", "derive 21 4 61 160", "derive 1 5 61 160"]
-    yield from ["encode 21 0 0x80 0x80 160", "encode 1 5 0x80 0x80 160", "fold 21 0 0 2 0x80 160", "fold 1 5 0 2 0x80 160"]
+    yield from map(unfolded, ["l_of 20 4 15 0x80 40", "l_of 21 4 15 0x80 40", "l_of 1 5 15 0x80 40"])
+    yield from ["derive 20 4 61 160", "derive 21 4 61 160", "derive 1 5 61 160", "encode 21 0 0x80 0x80 160", "encode 1 5 0x80 0x80 160"]
+    yield from map(unfolded, ["fold 21 0 0 2 0x80 160", "fold 1 5 0 2 0x80 160"])
     yield "# lengths that are not those that n and k fix"
-    yield from ["l_of 1 1 1 3 3", "l_of 1 1 1 3,4 2", "l_of 1 1 1 h3 2", "derive 1 1 61 3", "derive 1 1 61 1", "encode 1 1 5,9 3 3", "encode 1 1 5 3 8"]
-    yield from ["encode 1 1 5,9 3,4 8", "encode 1 1 5,9 - 8", "encode 1 1 5,h9 3 8", "fold 1 0 0 2 5,9 3", "fold 1 0 0 2 5 2", "fold 1 0 0 2 5,h9 2"]
+    yield from map(unfolded, ["l_of 1 1 1 3 3", "l_of 1 1 1 3,4 2", "l_of 1 1 1 h3 2"])
+    yield from ["derive 1 1 61 3", "derive 1 1 61 1", "encode 1 1 5,9 3 3", "encode 1 1 5 3 8"]
+    yield from ["encode 1 1 5,9 3,4 8", "encode 1 1 5,9 - 8", "encode 1 1 5,h9 3 8"]
+    yield from map(unfolded, ["fold 1 0 0 2 5,9 3", "fold 1 0 0 2 5 2", "fold 1 0 0 2 5,h9 2"])
     yield "# a variable that is none"
-    yield from ["fold 1 0 1 2 5,9 2", "fold 0 0 0 2 3 0", "fold 2 1 2 2 ~w9x8 8", "fold 2 1 1 2 ~w9x8 8"]
+    yield from map(unfolded, ["fold 1 0 1 2 5,9 2", "fold 0 0 0 2 3 0", "fold 2 1 2 2 ~w9x8 8", "fold 2 1 1 2 ~w9x8 8"])
     yield "# a base domain that is too long, and the longest"
     yield from ["derive 1 1 61x201 2", "derive 1 1 61x200 2"]
     yield "# 4 and 5, 4 and 7, 5 and 7, 4 and 6, 5 and 6"
-    yield from ["derive 21 1 61 3", "derive 21 1 61x201 42", "derive 1 1 61x201 3", "fold 21 0 21 2 5,9 2", "fold 1 0 1 2 5,9 3"]
+    yield from ["derive 21 1 61 3", "derive 21 1 61x201 42", "derive 1 1 61x201 3"]
+    yield from map(unfolded, ["fold 21 0 21 2 5,9 2", "fold 1 0 1 2 5,9 3"])
     for n, k in [(0, 0), (0, 4), (3, 2), (4, 1)]:
         yield "encode %d %d %s %s %d" % (n, k, hex_words(some(1 << n)), hex_words(some(n * k)), 2 << n + k)
-    yield from ["# n and k at their largest, of lengths that are not theirs", "encode 20 4 0x80 0x80 160", "fold 20 4 0 2 0x80 160"]
+    yield from ["# n and k at their largest, of lengths that are not theirs", "encode 20 4 0x80 0x80 160", unfolded("fold 20 4 0 2 0x80 160")]
     yield "# the parts of a codeword and of folds, and the questions put to them in order"
     table, gammas = hex_words(some(8)), hex_words(some(6))
     yield from ["codeword_block 3 2 %d %s %s 16" % (eps, table, gammas) for eps in range(5)]
@@ -168,10 +184,11 @@ def differences():
     """The inputs of docs/DIFFERENCES.md that have an answer here, with the entry's number there."""
     yield from ["# 1", "mul %x 2" % (1 << 127), "# 2", "inv 0", "# 3", "pack_table 01 0", "pack_table 01x129 2"]
     yield from ["# 4", "pack_table 02,00x127 2", "pack_table ff,00x127 2", "pack_table 00x127,02 2", "# 5", "encode 1 1 5,9 7 8"]
-    yield from ["# 7", "fold 0 1 0 1 1,2 2", "fold 1 1 1 1 1,2,4,8 4", "fold 0 0 0 1 1 0", "fold 1 0 1 1 1,2 2"]
+    yield from ["# 7", *map(unfolded, ["fold 0 1 0 1 1,2 2", "fold 1 1 1 1 1,2,4,8 4", "fold 0 0 0 1 1 0", "fold 1 0 1 1 1,2 2"])]
     yield from ["# 8", "eval_at 0 - 9,0x127 -", "# 11", "eq_table 1 2 4", "eq_table 0 - 2"]
     yield from ["# 14", "eval_at 1 2 9,0x127 -", "# 15", "fold_partials 0x129 9,0x127", "# 16", "partial_evals 1 1,1 1 256"]
-    yield from ["# 19: L(1) of a codeword folded at 0, whose gammas were 7, 11", "l_of 1 1 1 7 2"]
+    yield from ["# 19: L(1) of a codeword folded at 0, whose gammas are 7, 11; then as the Rust reads it", "l_of 1 1 2 1 1 7,b 2"]
+    yield from ["earlier_reading 1 1 2 1", "l_of 1 1 2 1 0 7,b 2"]
     yield from ["# 26", "encode 1 0 1 - 4", "encode 1 0 1,1,1,1 - 4", "# 27", "derive 21 5 - 210"]
 
 

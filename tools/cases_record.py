@@ -8,9 +8,9 @@ import typing
 import answers
 import damages
 import records
-from cases_field import text
+from cases_field import room, text
 from damages import Damage, change, of_lengths, of_numbers, other_byte
-from lines import Store, hex_words
+from lines import Store, hex_words, listed
 from model import PRESENT, WIDE, leaf_message, node_message, some_words, word_bytes
 from records import Deposit, LastLevel, OpenedDeposit, Reader, first_no, query, query_bytes, tail_bytes, words_bytes
 
@@ -400,7 +400,8 @@ LENT = ["gammas", "levels", "half", "trees", "roots", "query record", "tail reco
 
 @dataclasses.dataclass
 class WholeRun:
-    """A table, at first 5, 9, 3, 7, committed with k 1 under the domain `deposit`, calls of n, k, variable, room and challenge, and two records to compare."""
+    """A table, at first 5, 9, 3, 7, committed with k 1 under the domain `deposit`, calls of n, k, original n, variable, room and challenge, and two records
+    to compare."""
 
     calls: list
     position: int = 5
@@ -415,39 +416,44 @@ class WholeRun:
     numbers: typing.Optional[list] = None
     challenges: typing.Optional[list] = None
     lengths: tuple = (4, 28, 8, 352, 96, 388, 44, 1024, 1024)
+    coordinates: str = room(2)
     kept: int = 4
 
     def line(self, store):
-        numbers = [x for call in self.calls for x in call[:4]] if self.numbers is None else self.numbers
-        challenges = [call[4] for call in self.calls] if self.challenges is None else self.challenges
-        sizes = ",".join(map(str, self.lengths))
+        numbers = [x for *call, _ in self.calls for x in call] if self.numbers is None else self.numbers
+        challenges = [r for *_, r in self.calls] if self.challenges is None else self.challenges
         scheme = self.widths, self.n, self.k, self.position, self.base
-        lent = *scheme, self.table, ",".join(map(str, numbers)) or "-", hex_words(challenges) or "-", "%x" % self.claim
-        given = " ".join(map(str, lent)), store.named(self.first), store.named(self.second), sizes, self.kept, sum(answers.RUN_ROOMS)
-        return "run %s %s %s %s %d %d 32" % given
+        lent = " ".join(map(str, [*scheme, self.table, listed(numbers), hex_words(challenges), "%x" % self.claim]))
+        rooms = listed(self.lengths), self.coordinates, self.kept, sum(answers.RUN_ROOMS)
+        return "run %s %s %s %s %s %d %d 32" % (lent, store.named(self.first), store.named(self.second), *rooms)
+
+
+def first_call_number(call):
+    """The number that a call gets as the first of a run of n 2 and k 1."""
+    n, k, original, var, room, _ = call
+    return answers.fold_number(n, k, original, var, [0, 1], 16, room)
 
 
 def run_cases():
     from model import extension
 
-    table, folds = [5, 9, 3, 7], [(2, 1, 0, 8, 2), (1, 1, 0, 4, 4)]
+    table, folds = [5, 9, 3, 7], [(2, 1, 2, 0, 8, 2), (1, 1, 2, 0, 4, 4)]
     made = answers.Run(PRESENT, 2, 1, b"deposit", table, folds)
     records_at = [query_bytes(query(made, position)) for position in range(8)]
     claim = extension(table, [2, 4])
     right = WholeRun(folds, 5, claim, records_at[5], records_at[5])
     replace = dataclasses.replace
     yield "folds at variable 0; equal records", right
-    refused = [(21, 1, 0, 8, 1), (2, 5, 0, 8, 1), (3, 1, 0, 16, 1), (2, 1, 0, 6, 1), (2, 1, 0, 1 << 40, 1), (2, 1, 2, 8, 1)]
+    refused = [(21, 1, 2, 0, 8, 1), (2, 5, 2, 0, 8, 1), (3, 1, 2, 0, 16, 1), (2, 1, 2, 0, 6, 1), (2, 1, 2, 0, 1 << 40, 1), (2, 1, 2, 2, 8, 1)]
     for call in refused:
-        number = answers.fold_number(*call[:3], 8, call[3])
-        yield "a call refused with %d before them" % number, replace(right, calls=[call, *folds])
+        yield "a call refused with %d before them" % first_call_number(call), replace(right, calls=[call, *folds])
     yield "refused calls among them", replace(right, calls=[refused[5], folds[0], refused[0], folds[0], folds[1], refused[3]], position=0, first=b"", second=b"")
-    yield "a call that would be done after n are", replace(right, calls=[*folds, (1, 0, 0, 2, 9)])
-    yield "a call with another n and k", replace(right, calls=[(1, 2, 0, 8, 2), folds[1]])
+    yield "a call that would be done after n are", replace(right, calls=[*folds, (1, 0, 2, 0, 2, 9)])
+    yield "a call with another n and k, for which the list is too long", replace(right, calls=[(1, 2, 2, 0, 8, 2), folds[1]])
     yield "one call", replace(right, calls=folds[:1])
     yield "no call", replace(right, calls=[])
     yield "another claim", replace(right, claim=claim ^ 1, position=7, first=records_at[7], second=records_at[7])
-    yield "a fold at variable 1", replace(right, calls=[(2, 1, 1, 8, 2), folds[1]], position=3, claim=extension(table, [4, 2]))
+    yield "a fold at variable 1", replace(right, calls=[(2, 1, 2, 1, 8, 2), folds[1]], position=3, claim=extension(table, [4, 2]))
     damaged = records_at[5][:20] + bytes([records_at[5][20] ^ 1]) + records_at[5][21:]
     yield "a damaged record first", replace(right, first=damaged)
     yield "a damaged record second", replace(right, second=damaged)
@@ -457,9 +463,10 @@ def run_cases():
         ("n 21", 4, dict(n=21)),
         ("k 5", 4, dict(k=5)),
         ("a table of three words", 5, dict(table="5,9,3")),
-        ("three numbers of a call", 5, dict(numbers=[2, 1, 0])),
+        ("four numbers of a call", 5, dict(numbers=[2, 1, 2, 0])),
         ("a challenge too few", 5, dict(challenges=[2])),
         *((what, 5, dict(lengths=(*right.lengths[:i], right.lengths[i] - 1, *right.lengths[i + 1 :]))) for i, what in enumerate(LENT)),
+        ("coordinates", 5, dict(coordinates=room(1))),
         ("kept challenges", 5, dict(kept=3)),
         ("a base domain of 201 bytes", 7, dict(base="61x201")),
         ("a position past the end", 11, dict(position=8)),
@@ -482,8 +489,8 @@ def wide_run_cases():
     from model import extension
 
     table, challenges = some_words("table of a run", 16), some_words("challenges of a run", 4)
-    folds = [(4 - l, 2, 0, 64 >> l, r) for l, r in enumerate(challenges)]
-    given = dict(n=4, k=2, table=hex_words(table), kept=8, claim=extension(table, challenges), position=37)
+    folds = [(4 - l, 2, 4, 0, 64 >> l, r) for l, r in enumerate(challenges)]
+    given = dict(n=4, k=2, table=hex_words(table), coordinates=room(4), kept=8, claim=extension(table, challenges), position=37)
     made = {widths: answers.Run(widths, 4, 2, b"deposit", table, folds) for widths in LENGTHS}
     shown = {widths: query_bytes(query(run, 37)) for widths, run in made.items()}
     runs = {widths: WholeRun(folds, first=x, second=x, widths=widths, lengths=LENGTHS[widths], **given) for widths, x in shown.items()}
@@ -496,13 +503,48 @@ def wide_run_cases():
     wide = runs[WIDE]
     yield "another claim under the wide set", dataclasses.replace(wide, claim=wide.claim ^ 1)
     yield "three calls under the wide set", dataclasses.replace(wide, calls=folds[:3])
-    yield "a fold at variable 1 under the wide set", dataclasses.replace(wide, calls=[(4, 2, 1, 64, challenges[0]), *folds[1:]])
+    yield "a fold at variable 1 under the wide set", dataclasses.replace(wide, calls=[(4, 2, 4, 1, 64, challenges[0]), *folds[1:]])
     yield "a position past the end under the wide set", dataclasses.replace(wide, position=64)
+
+
+def resumed_run_cases():
+    """Calls at any variables, each on the list that the last done one left; originals above n, and too small for the list; what is lent for the list."""
+    right = WholeRun([], 5, 0, n=2, k=1)
+    replace = dataclasses.replace
+    for first, second in itertools.product((0, 1, 2), (0, 1)):
+        for originals in ((2, 2), (3, 20)):
+            calls = [(2, 1, originals[0], first, 8, 2), (1, 1, originals[1], second, 4, 4)]
+            yield "folds at %d and %d, originals %d and %d" % (first, second, *originals), replace(right, calls=calls)
+    for call in [(2, 1, 0, 0, 8, 1), (2, 1, 1, 0, 8, 1), (2, 1, 21, 0, 8, 1), (2, 1, 1, 2, 8, 1), (2, 1, 1, 0, 6, 1), (1, 2, 2, 0, 8, 1)]:
+        remark = "a call with original %d at variable %d, refused with %d" % (call[2], call[3], first_call_number(call))
+        yield remark, replace(right, calls=[call, (2, 1, 2, 1, 8, 2), (1, 1, 1, 0, 4, 4)])
+    # a fold at 0 leaves the list 1, which takes an original n of 2; a fold at 1 leaves 0
+    for first in (0, 1):
+        calls = [(2, 1, 2, first, 8, 2), (1, 1, 1, 0, 4, 4), (1, 1, 2, 0, 4, 6)]
+        yield "a fold at %d, then originals 1 and 2" % first, replace(right, calls=calls)
+        yield "a fold at %d, then original 1" % first, replace(right, calls=calls[:2])
+    yield "a list of other numbers lent", replace(right, calls=[(2, 1, 2, 1, 8, 2)], coordinates="18446744073709551615,0")
+    for coordinates in ("-", "0,1,2"):
+        yield "5: coordinates %s" % coordinates, replace(right, coordinates=coordinates)
+        for what, changes in [("4", dict(k=5)), ("7", dict(base="61x201")), ("11", dict(position=8))]:
+            yield "coordinates %s, and %s" % (coordinates, what), replace(right, coordinates=coordinates, **changes)
+    table, challenges = some_words("table of a resumed run", 16), some_words("challenges of a resumed run", 4)
+    whole = [(2, (3, 0, 1, 0)), (1, (1, 2, 0, 0)), (0, (0, 2, 1, 0)), (2, (0, 0, 0, 0))]
+    for k, variables in whole + [(2, (0,)), (1, (3,)), (2, (2, 1)), (1, (1, 1)), (0, (2, 0, 1)), (2, (0, 1, 0))]:
+        calls = [(4 - l, k, 4, var, 16 << k >> l, r) for l, (var, r) in enumerate(zip(variables, challenges))]
+        given = dict(n=4, k=k, table=hex_words(table), coordinates=room(4), kept=8, lengths=run_lengths(4, k), position=0)
+        yield "n 4 k %d, folds at %s" % (k, listed(variables)), WholeRun(calls, **given)
+
+
+def run_lengths(n, k):
+    """What a run of the present set is lent, as LENT says."""
+    trees, record, tail = records.sizes(PRESENT, n, k)
+    return 2 * k * n, 2 * ((2 << n) - 1 << k), 1 << (n + k), trees, 32 * (n + 1), record, tail, answers.MESSAGE_BUFFER, answers.MESSAGE_BUFFER
 
 
 def run_lines():
     store = Store()
-    for remark, case in itertools.chain(run_cases(), wide_run_cases()):
+    for remark, case in itertools.chain(run_cases(), wide_run_cases(), resumed_run_cases()):
         line = case.line(store)
         yield from kept(store)
         yield "# " + remark
@@ -520,15 +562,11 @@ def level_lines():
 
 def commit_lines():
     """4, 5 and 7, alone and in pairs."""
-    right_sizes = [PRESENT, 1, 1, "61", "5,9", 2, 8, 96]
-    wrong = [(1, 21), (2, 5), (4, "5"), (5, 3), (6, 7), (7, 95), (3, "61x201")]
-    yield "commit 0 1 1 61 5,9 2 8 96"
-    yield from ["commit 0 2 1 61x200 5,9,3,7 4 16 224", "commit 0 0 0 - 5 0 2 32"]
-    for (i, x), (j, y) in itertools.combinations_with_replacement(wrong, 2):
-        given = list(right_sizes)
-        given[i], given[j] = x, y
-        yield "commit " + " ".join(map(str, given))
-    yield from ["# n and k at their largest", "commit 0 20 4 61 5,9 2 8 96"]
+    right_sizes = [PRESENT, 1, 1, "61", "5,9", 2, 8, room(1), 96]
+    wrong = [(1, 21), (2, 5), (4, "5"), (5, 3), (6, 7), (7, room(0)), (7, room(2)), (8, 95), (3, "61x201")]
+    yield from ["commit 0 2 1 61x200 5,9,3,7 4 16 %s 224" % room(2), "commit 0 0 0 - 5 0 2 - 32", "commit 0 0 0 - 5 0 2 0 32"]
+    yield from in_pairs("commit", right_sizes, wrong)
+    yield from ["# n and k at their largest", "commit 0 20 4 61 5,9 2 8 %s 96" % room(20)]
 
 
 def in_pairs(name, right, wrong):
@@ -576,7 +614,7 @@ def level_part_lines():
 
 
 def difference_lines():
-    yield from ["# 6: base domains of 81 and 200 bytes", "commit 0 2 0 64x81 0x4 0 8 32", "commit 0 2 0 64x200 0x4 0 8 32"]
+    yield from ["# 6: base domains of 81 and 200 bytes", "commit 0 2 0 64x81 0x4 0 8 7x2 32", "commit 0 2 0 64x200 0x4 0 8 7x2 32"]
     yield from ["# 8: n = 0", "build_query 0 0 0 0 5 00x32 4", "check_query - 0 0 0 0 - 00x32 00x4"]
     yield from ["build_tail 0 0 0 5 00x32 28", "check_tail - 0 0 0 00x32 5 00x4"]
     yield from ["# 9: the Rust's default, and ours", "profile 0 24", "seal_parameters 5 0 24", "writer_parameters 5 24"]

@@ -1,6 +1,7 @@
 """Lines of the fixed list: the published Rust answers them (oracle/README.md), and the programs replay them without it. Inputs are drawn from a
 case's number, as 16 times it and the input's own number from 0 to 15. The Rust has the present set of widths."""
-from lines import drawn, drawn_word
+from cases_field import room, unfolded
+from lines import drawn, drawn_word, listed
 from model import PRESENT, fold_tree_width
 
 RUST = "# Answers: the published Rust (oracle/README.md).\n"
@@ -90,11 +91,32 @@ def code():
         yield "derive %d %d %s %d" % (n, k, chars(case, 0, domains[case % 9]), 2 * n * k)
     cases = [(n, k, eps) for n, k in sizes(20) for eps in ((1 << k) - 1, (1 << k) // 2)]
     for case, (n, k, eps) in enumerate(cases):
-        yield "l_of %d %d %d %s %d" % (n, k, eps, words(case, 0, n * k), 2 * n)
+        yield unfolded("l_of %d %d %d %s %d" % (n, k, eps, words(case, 0, n * k), 2 * n))
     for case, (n, k) in enumerate(sizes(8, 9)):
         yield "encode %d %d %s %s %d" % (n, k, words(case, 1, 1 << n), words(case, 0, n * k), 2 << n + k)
     for case, (n, k, var) in enumerate((n, k, var) for n, k in sizes(8, 9) for var in range(n)):
-        yield "fold %d %d %d %s %s %d" % (n, k, var, words(case, 0, 1), words(case, 1, 1 << n + k), 1 << n + k)
+        yield unfolded("fold %d %d %d %s %s %d" % (n, k, var, words(case, 0, 1), words(case, 1, 1 << n + k), 1 << n + k))
+    yield from half_folded()
+
+
+def left(case, n, original):
+    """n coordinates that are still unfolded of the original ones, drawn."""
+    kept = list(range(original))
+    for i in range(original - n):
+        kept.pop(drawn(at(case, 2), i) % len(kept))
+    return kept
+
+
+def half_folded():
+    """L as the Rust reads it, of codewords folded part way; and their folds at every variable, by what is left of the coordinates."""
+    parts = [(n, original) for original in range(21) for n in range(original)]
+    for case, (n, original) in enumerate(parts):
+        k, eps = case % 5, drawn(at(case, 1), 0) % (1 << case % 5)
+        yield "l_of %d %d %d %d %s %s %d" % (n, k, original, eps, listed(range(n)), words(case, 0, k * original), 2 * n)
+    for case, (n, k, var) in enumerate((n, k, var) for n, k in sizes(6, 8) for var in range(n)):
+        original = n + 1 + case % (20 - n)
+        given = n, k, original, var, words(case, 0, 1), listed(left(case, n, original)), words(case, 1, 1 << n + k), 1 << n + k
+        yield "fold %d %d %d %d %s %s %s %d" % given
 
 
 # ---- the hash and trees
@@ -170,8 +192,8 @@ def levels():
     yield from ("profile %d 24" % which for which in range(5))
     domains = [0, 1, 20, 63, 64, 80]
     for case, (n, k) in enumerate(sizes(6, 8)):
-        given = n, k, chars(case, 0, domains[case % 6]), words(case, 1, 1 << n), 2 * n * k, 2 << n + k, tree_bytes(1 << n + k)
-        yield "commit 0 %d %d %s %s %d %d %d" % given
+        given = n, k, chars(case, 0, domains[case % 6]), words(case, 1, 1 << n), 2 * n * k, 2 << n + k, room(n), tree_bytes(1 << n + k)
+        yield "commit 0 %d %d %s %s %d %d %s %d" % given
     cases = [(n, k, p) for n, k in sizes(6, 8) if n for last in [(1 << n + k) - 1] for p in (0, last // 3, last)]
     for case, (n, k, position) in enumerate(cases):
         counts = [1 << n + k - l for l in range(n + 1)]

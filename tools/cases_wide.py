@@ -7,7 +7,7 @@ import dataclasses
 
 import damages
 import records
-from cases_field import text
+from cases_field import room, text
 from cases_record import alone, case_line, check_query, check_tail, compare, heads_of_compare, in_pairs, right
 from cases_rust import GOLDEN
 from damages import Damage, edited
@@ -189,7 +189,7 @@ def level_lines(case, n, k):
         yield "level_tree %d %d %d 0 %s %s %d" % (WIDE, n, k, base, codeword, tree_size(PRESENT, n, k, 0))
     # the model encodes as the definition reads, which takes long where the table is long
     if 2 * n + k <= 12:
-        yield "commit %d %d %d %s %s %d %d %d" % (WIDE, n, k, base, words(case, 6, 1 << n), 2 * n * k, 2 * count, tree)
+        yield "commit %d %d %d %s %s %d %d %s %d" % (WIDE, n, k, base, words(case, 6, 1 << n), 2 * n * k, 2 * count, room(n), tree)
 
 
 def refused_lines():
@@ -206,8 +206,8 @@ def refused_lines():
     yield from in_pairs("level_tree", given, [*ranges, (3, 4), (5, "~w1x63"), (6, tree + 32), (4, long)])
     given = [WIDE, 3, 3, 0, "61", 1, "~w1x64", 32]
     yield from in_pairs("level_leaves", given, [*ranges, (3, 4), (6, "~w1x63"), (7, 33), (4, long), (5, 2), (5, past)])
-    given = [WIDE, 3, 3, "61", "~w1x8", 18, 128, tree]
-    yield from in_pairs("commit", given, [*ranges[1:], (4, "~w1x7"), (5, 17), (6, 127), (7, tree + 32), (3, long)])
+    given = [WIDE, 3, 3, "61", "~w1x8", 18, 128, room(3), tree]
+    yield from in_pairs("commit", given, [*ranges[1:], (4, "~w1x7"), (5, 17), (6, 127), (7, room(4)), (8, tree + 32), (3, long)])
 
 
 def plain_lines():

@@ -63,6 +63,11 @@ class Reader:
     def bytes(self, text, words=False):
         return b"" if text == "-" else b"".join(self.piece(piece, words) for piece in text.split(","))
 
+    def numbers(self, text):
+        """A list of numbers: each once, or so many times."""
+        pieces = [piece.partition("x") for piece in text.split(",") if piece != "-"]
+        return [int(number) for number, _, times in pieces for _ in range(int(times or 1))]
+
     def keep(self, line):
         self.store += self.bytes(line[2:])
 
@@ -87,6 +92,11 @@ def shown(words, data):
         return data.hex()
     halves = [data[i : i + 16] for i in range(0, len(data), 16)]
     return ",".join(("h" if len(x) == 8 else "") + x[::-1].hex() for x in halves)
+
+
+def listed(numbers):
+    """A list of numbers, in a line and in an answer."""
+    return ",".join(map(str, numbers)) or "-"
 
 
 # ---- written

@@ -3,15 +3,15 @@
 export_tail_list reads and prints.
 
 The lines come from cases_*.py; a file's first line says where its answers come from. Those by docs/SPECIFICATION.md are the model's (answers.py). Those
-of the Rust are kept as they are stored, and asked anew with --oracle, of the program that oracle/build makes; so are those of the model on
-records that the Rust answers too. Writes data/ and stdout of each
-program; with --check it compares them instead."""
+of the Rust are kept as they are stored, and asked anew with --oracle, of the program that oracle/build makes; those of the model that the Rust has too,
+on records and on codewords folded part way, are then held to it. Writes data/ and stdout of each program; with --check it compares them instead."""
 import subprocess
 import sys
 
 import answers
 import cases_blocks
 import cases_field
+import cases_half_folded
 import cases_record
 import cases_rust
 import cases_tree
@@ -39,7 +39,7 @@ def below(folder, named):
 def files(oracle):
     """The files of each program, in the order in which it reads them: name and lines."""
     return {
-        "test_field": [*cases_field.files(), *cases_blocks.files(), *cases_rust.field_files()],
+        "test_field": [*cases_field.files(), *cases_blocks.files(), *cases_half_folded.files(), *cases_rust.field_files()],
         "test_record": [
             *below("tree", [*cases_tree.files(), *cases_rust.tree_files()]),
             *below("record", [*cases_record.files(), *cases_wide.files(), *cases_rust.record_files(records(oracle))]),
@@ -71,9 +71,13 @@ def by_rust(oracle, text):
 
 
 def rust_has(reader, line, number):
-    """Whether the Rust answers a request on a record: its set of widths is the present one, no question before 14 has a no, and the domain is text of
-    at most 79 bytes."""
+    """Whether the Rust answers a request. On a fold or on L: it is done, and L is in the earlier reading. On a record: its set of widths is the present
+    one, no question before 14 has a no, and the domain is text of at most 79 bytes."""
     name, *given = line.split()
+    if name == "fold":
+        return number == 0
+    if name == "l_of":
+        return number == 0 and reader.numbers(given[4]) == list(range(int(given[0])))
     if name not in ("check_query", "check_tail", "build_query") or 0 < number < 14:
         return False
     base, widths = (b"", given[0]) if name == "build_query" else (reader.bytes(given[0]), given[1])
@@ -83,7 +87,7 @@ def rust_has(reader, line, number):
 
 
 def hold_to_rust(oracle, text, said):
-    """Of a file that the model answers, the requests on records that the Rust answers too: both must agree."""
+    """Of a file that the model answers, the requests that the Rust answers too: both must agree."""
     reader, asked, wanted = lines.Reader(), [], []
     answered = dict(line.split(" ", 1) for line in said.splitlines())
     for i, line in enumerate(text.splitlines(), 1):

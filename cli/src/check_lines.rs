@@ -1,7 +1,6 @@
 //! `check.txt`: the BLAKE3 digest of every other file of a seal or an opening, as `b3sum` writes it, so that damage in a folder is known as
 //! such. It protects against accidents, not against somebody who writes a new one.
 
-use crate::folder::Named;
 use crate::outcome::Failure;
 use crate::reading::{inside, text_inside, Unread};
 use dequmlo::Root;
@@ -13,12 +12,15 @@ pub const CHECK: &str = "check.txt";
 pub struct CheckLines(Vec<(String, Root)>);
 
 /// Adds `check.txt` to the files of a folder.
-pub fn with_check_lines(mut files: Vec<Named>) -> Vec<Named> {
+pub fn with_check_lines<B>(mut files: Vec<(String, B)>) -> Vec<(String, B)>
+where
+    B: AsRef<[u8]> + From<Vec<u8>>,
+{
     let text: String = files
         .iter()
-        .map(|(name, bytes)| format!("{}  {name}\n", digest(bytes)))
+        .map(|(name, bytes)| format!("{}  {name}\n", digest(bytes.as_ref())))
         .collect();
-    files.push((CHECK.into(), text.into_bytes()));
+    files.push((CHECK.into(), text.into_bytes().into()));
     files
 }
 
@@ -55,7 +57,7 @@ impl CheckLines {
     }
 }
 
-/// The digest of a file's bytes. A file of a seal or an opening is far shorter than the 2^24 bytes that the library takes.
+/// The digest of a file's bytes. No file of a folder has more than the 2^24 bytes that the library takes; a level of interrupted work is in pieces for that.
 fn digest(bytes: &[u8]) -> Root {
     Root(dequmlo::digest(bytes).unwrap_or([0; 32]))
 }

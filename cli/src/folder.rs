@@ -1,6 +1,7 @@
 //! The kinds of folder that this program writes, and how it knows one of its own again: by the names in it, and by its check lines; a folder
 //! from before there were check lines by its parameters and its summary.
 
+use crate::begun::piece_of;
 use crate::check_lines::{CheckLines, CHECK};
 use crate::manifest::MANIFEST;
 use crate::opening::record_position;
@@ -22,6 +23,8 @@ const MOST_BYTES: usize = 1 << 24;
 pub enum Kind {
     Seal,
     Opening,
+    /// An opening that is folded up to some level.
+    Begun,
     /// What a checker asks.
     Request,
     /// Two messages with one digest.
@@ -29,12 +32,19 @@ pub enum Kind {
 }
 
 impl Kind {
-    pub const ALL: [Kind; 4] = [Kind::Seal, Kind::Opening, Kind::Request, Kind::Collision];
+    pub const ALL: [Kind; 5] = [
+        Kind::Seal,
+        Kind::Opening,
+        Kind::Begun,
+        Kind::Request,
+        Kind::Collision,
+    ];
 
     pub fn name(self) -> &'static str {
         match self {
             Kind::Seal => "a seal",
             Kind::Opening => "an opening",
+            Kind::Begun => "interrupted work",
             Kind::Request => "a request",
             Kind::Collision => "a pair of messages",
         }
@@ -45,6 +55,7 @@ impl Kind {
         match self {
             Kind::Seal => "A deposit seal.",
             Kind::Opening => "An opening of the sealed file",
+            Kind::Begun => "Interrupted work on an opening of the sealed file",
             Kind::Request => "A request to the holder of a sealed file.",
             Kind::Collision => "both records are accepted and they differ",
         }
@@ -62,6 +73,15 @@ impl Kind {
                 "tail.record",
                 SUMMARY,
             ],
+            Kind::Begun => &[
+                "parameters.txt",
+                "challenges.txt",
+                "coordinates.txt",
+                "roots.txt",
+                "level-0-0.words",
+                SUMMARY,
+                CHECK,
+            ],
             Kind::Request => &[
                 "parameters.txt",
                 "root.txt",
@@ -73,13 +93,14 @@ impl Kind {
         }
     }
 
-    /// The files that a folder of this kind may have beside them: check lines came later, a project has its manifest, an opening has records,
-    /// and a request gets the rest with the holder's answer.
+    /// The files that a folder of this kind may have beside them: check lines came later, a project has its manifest, an opening has records, interrupted
+    /// work has the values of its levels, and a request gets the rest with the holder's answer.
     fn may_have(self, name: &str) -> bool {
         match self {
             _ if name == CHECK => true,
             Kind::Seal => name == MANIFEST,
             Kind::Opening => name == MANIFEST || record_position(name).is_some(),
+            Kind::Begun => piece_of(name).is_some(),
             Kind::Request => ["roots.txt", "claim.txt", "positions.txt"].contains(&name),
             _ => false,
         }

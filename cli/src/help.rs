@@ -34,7 +34,9 @@ const COMMANDS: [Command; 12] = [
         usage: "seal open FILE --seal FOLDER --asked FOLDER [--out FOLDER] [--force]\n\
                 seal open FILE --seal FOLDER (--challenges FILE | --seed TEXT) (--at P,P,.. | --positions FILE | --count N) [--out FOLDER] [--force]",
         does: "Builds what a checker asked for: into FILE.answer while the request has no positions, then into FILE.opening.\n    \
-               Of a project: seal open FOLDER --file PATH --offset B,B,.. with the rest as above.",
+               Of a project: seal open FOLDER --file PATH --offset B,B,.. with the rest as above.\n    \
+               In several runs: with --until LEVEL it stops at a level and keeps the work in FILE.begun, positions named or not; with --resume FOLDER, and\n    \
+               the rest as above, it goes on from there and does not read FILE again. Every way gives the same files.",
         takes: &commands::open::TAKEN,
     },
     Command {

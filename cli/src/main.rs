@@ -2,6 +2,7 @@
 //! reads and writes files and says what was found. Exit status: 0 accepted or done, 1 refused, 2 could not run, 3 sound by the holder's own
 //! questions.
 
+mod begun;
 mod check_lines;
 mod clock;
 mod commands;
@@ -31,6 +32,7 @@ mod request;
 mod seal;
 mod shape;
 mod shown;
+mod standing;
 mod statement;
 mod system;
 mod table;

@@ -26,7 +26,7 @@ const fn option(name: &'static str, value: &'static str, means: &'static str) ->
 }
 
 /// Every option, in the order of the help.
-pub const OPTIONS: [Known; 27] = [
+pub const OPTIONS: [Known; 29] = [
     option("--seal", "FOLDER", "the seal, as `seal commit` wrote it"),
     option("--older", "", "the seal names neither k nor a base domain and was made before version 0.4.0; `seal explain older` says more"),
     option("--asked", "FOLDER", "the request that `seal ask` wrote; it has challenges, positions, roots and claim"),
@@ -49,6 +49,8 @@ pub const OPTIONS: [Known; 27] = [
     option("--claim", "WORD", "the terminal claim that is expected, in place of the opening's"),
     option("--own-questions", "", "checks by the holder's own challenges and positions, which is never an acceptance"),
     option("--report", "FILE", "writes what was found as a page for the archive's file, FILE.html"),
+    option("--until", "LEVEL", "stops when this level is folded, from 0 to n, and keeps the work so far in FILE.begun"),
+    option("--resume", "FOLDER", "goes on from the work that --until kept; FILE itself is not read again"),
     option("--out", "FOLDER", "where to write, in place of the folder beside the file"),
     option("--force", "", "replaces a folder that holds exactly what this program wrote"),
     option("--threads", "N", "how many threads work, from 1; without it one for each core. Every number gives the same bytes"),

@@ -39,6 +39,42 @@ impl Verdict {
 #[derive(Debug)]
 pub struct Failure(pub String);
 
+/// Why a command ended before its work was done: by a sentence or a refusal of the library's, which are answers, or because it could not run.
+pub enum Ended {
+    Declined(String),
+    Refused(Refusal),
+    Failed(Failure),
+}
+
+impl Ended {
+    /// The answer, with what a person should know beside it.
+    pub fn outcome(self, notes: &[String]) -> Result<Outcome, Failure> {
+        match self {
+            Ended::Declined(sentence) => Ok(Outcome::declined(sentence).notes(notes.to_vec())),
+            Ended::Refused(refusal) => Ok(Outcome::refused(&refusal)),
+            Ended::Failed(failure) => Err(failure),
+        }
+    }
+}
+
+impl From<String> for Ended {
+    fn from(sentence: String) -> Ended {
+        Ended::Declined(sentence)
+    }
+}
+
+impl From<Refusal> for Ended {
+    fn from(refusal: Refusal) -> Ended {
+        Ended::Refused(refusal)
+    }
+}
+
+impl From<Failure> for Ended {
+    fn from(failure: Failure) -> Ended {
+        Ended::Failed(failure)
+    }
+}
+
 /// What was found. Refused is an answer, not a failure.
 #[must_use]
 pub struct Outcome {

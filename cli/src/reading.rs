@@ -16,6 +16,8 @@ pub enum Unread {
     Missing,
     /// It is no regular file, but this.
     NotAFile(&'static str),
+    /// It has so many bytes, and must have so many.
+    Length(u64, usize),
     Failed(std::io::Error),
 }
 
@@ -24,6 +26,9 @@ impl fmt::Display for Unread {
         match self {
             Unread::Missing => write!(f, "there is no such file"),
             Unread::NotAFile(what) => write!(f, "it is {what}, not a file, and was not opened"),
+            Unread::Length(has, must) => {
+                write!(f, "it has {has} bytes, and it must have {must}")
+            }
             Unread::Failed(e) => write!(f, "{}", reason(e)),
         }
     }
@@ -43,6 +48,19 @@ pub fn inside(folder: &Path, name: &str, most: usize) -> Result<Vec<u8>, Unread>
     let path = folder.join(name);
     regular(fs::symlink_metadata(&path)?.file_type())?;
     bytes(&path, O_NOFOLLOW, most)
+}
+
+/// Fills the room with a regular file of a folder, no link, that has just as many bytes.
+pub fn exactly(folder: &Path, name: &str, room: &mut [u8]) -> Result<(), Unread> {
+    let path = folder.join(name);
+    regular(fs::symlink_metadata(&path)?.file_type())?;
+    let mut file = opened(&path, O_NOFOLLOW)?;
+    let length = file.metadata()?.len();
+    if length != room.len() as u64 {
+        return Err(Unread::Length(length, room.len()));
+    }
+    file.read_exact(room)?;
+    Ok(())
 }
 
 /// The bytes of a regular file, no link, from a place on: so many, or fewer where it ends before.

@@ -1,7 +1,7 @@
 //! Folders written whole and then renamed, so that nobody sees half of one. Nothing is replaced unless that is asked for, and then only what
 //! this program wrote; of two runs into one folder one wins. What an interrupted run left behind is said and cleared.
 
-use crate::folder::{not_ours, Kind, Named};
+use crate::folder::{not_ours, Kind};
 use crate::outcome::Failure;
 use crate::reading::{lies_in, listed, reason};
 use crate::system::try_lock;
@@ -45,25 +45,8 @@ impl Target {
     /// Fails where the folder may not be written: it exists and is not to be replaced, or is not this program's. With it, what was found of
     /// interrupted runs.
     pub fn new(folder: &Path, kind: Kind, force: bool) -> Result<(Target, Vec<String>), Failure> {
-        let name = folder
-            .file_name()
-            .ok_or_else(|| Failure(format!("{} is no name for a new folder", folder.display())))?;
-        let parent = parent(folder);
-        let mut target = Target {
-            folder: folder.into(),
-            parent: parent.into(),
-            name: name.into(),
-            kind,
-            seen: None,
-        };
-        let held = target.open_parent()?;
-        // Where another run is writing here just now, what stands beside the folder is that run's.
-        let notes = if try_lock(&held) {
-            target.clear_leftovers()?
-        } else {
-            Vec::new()
-        };
-        drop(held);
+        let mut target = Target::at(folder, kind)?;
+        let notes = target.settle()?;
         target.seen = identity(folder);
         target.may_write(force).map_err(|Failure(sentence)| {
             let said: String = notes.iter().map(|note| format!(" ({note})")).collect();
@@ -72,12 +55,35 @@ impl Target {
         Ok((target, notes))
     }
 
+    fn at(folder: &Path, kind: Kind) -> Result<Target, Failure> {
+        let name = folder
+            .file_name()
+            .ok_or_else(|| Failure(format!("{} is no name for a new folder", folder.display())))?;
+        Ok(Target {
+            folder: folder.into(),
+            parent: parent(folder).into(),
+            name: name.into(),
+            kind,
+            seen: None,
+        })
+    }
+
+    /// Clears what interrupted runs left, unless another run is writing here just now: then what stands beside the folder is that run's.
+    fn settle(&self) -> Result<Vec<String>, Failure> {
+        let held = self.open_parent()?;
+        if try_lock(&held) {
+            self.clear_leftovers()
+        } else {
+            Ok(Vec::new())
+        }
+    }
+
     pub fn folder(&self) -> &Path {
         &self.folder
     }
 
     /// Writes the files. What was found of interrupted runs.
-    pub fn write(&self, files: &[Named]) -> Result<Vec<String>, Failure> {
+    pub fn write<B: AsRef<[u8]>>(&self, files: &[(String, B)]) -> Result<Vec<String>, Failure> {
         let held = self.lock()?;
         let notes = self.clear_leftovers()?;
         let failed = |e: io::Error| {
@@ -221,6 +227,13 @@ impl Target {
     }
 }
 
+/// Clears what interrupted runs left beside a folder that is to be read, and puts the folder back where one had set it aside. What was found.
+pub fn settled(folder: &Path, kind: Kind) -> Vec<String> {
+    Target::at(folder, kind)
+        .and_then(|target| target.settle())
+        .unwrap_or_default()
+}
+
 /// Fails where a file of its own cannot be made at a path: something stands there, or it is in a folder that others prepared.
 pub fn may_be_made(path: &Path, prepared: &Path) -> Result<(), Failure> {
     let shown = path.display();
@@ -312,14 +325,14 @@ fn remove(folder: &Path, kind: Kind) -> io::Result<()> {
     fs::remove_dir(folder)
 }
 
-fn fill(folder: &Path, files: &[Named]) -> io::Result<()> {
+fn fill<B: AsRef<[u8]>>(folder: &Path, files: &[(String, B)]) -> io::Result<()> {
     fs::create_dir(folder)?;
     for (name, bytes) in files {
         let mut file = OpenOptions::new()
             .write(true)
             .create_new(true)
             .open(folder.join(name))?;
-        file.write_all(bytes)?;
+        file.write_all(bytes.as_ref())?;
         file.sync_all()?;
     }
     synced(&File::open(folder)?);

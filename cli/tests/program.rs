@@ -298,15 +298,24 @@ fn explaining() {
     let all = desk.run("explain").out;
     let (explained, retired) = all.split_once("\nRetired numbers:\n").unwrap();
     let numbers = numbers_of(explained);
-    assert_eq!(numbers.len(), 32);
+    assert_eq!(numbers.len(), 33);
     assert_eq!(
         numbers[23..],
-        ["1", "2", "3", "6", "8", "9", "10", "12", "13"]
+        ["1", "2", "3", "6", "8", "9", "10", "12", "13", "36"]
     );
     assert!(!numbers.contains(&"20"));
     assert_eq!(numbers_of(retired), ["20"]);
-    desk.run("explain 34")
-        .says(2, &["`34` is no refusal's number; they go from 1 to 33"]);
+    for number in ["34", "35", "37"] {
+        let said = format!("`{number}` is no refusal's number; they are 1 to 33 and 36");
+        desk.run(&format!("explain {number}")).says(2, &[&said]);
+    }
+    desk.run("explain 36").says(
+        0,
+        &[
+            "36: the list of coordinates does not hold exactly n strictly rising numbers below the original n",
+            "Nothing from the holder: ",
+        ],
+    );
     desk.run("explain 0").says(2, &[]);
     assert!(all.contains("`seal explain older`") && all.contains("`seal explain widths`"));
 }
@@ -352,7 +361,7 @@ fn explaining_a_retired_number() {
     );
     let both = desk.run("explain --json");
     both.says(0, &[&format!("}}], \"retired\": [{object}]}}")]);
-    assert_eq!(both.out.matches("{\"number\": ").count(), 33);
+    assert_eq!(both.out.matches("{\"number\": ").count(), 34);
 }
 
 #[test]

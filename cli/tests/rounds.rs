@@ -2,39 +2,11 @@
 
 mod desk;
 
-use desk::{plan, Desk, Run, CHECK_ASKED, FORMAT, OPEN_ASKED};
+use desk::{plan, walk, Desk, CHECK_ASKED, FORMAT, OPEN_ASKED};
 use std::fs;
-use std::path::Path;
-use std::process::Command;
 
 const ASK: &str = "ask --seal plan.txt.seal";
 const ASK_AGAIN: &str = "ask --seal plan.txt.seal --asked plan.txt.asked --answer plan.txt.answer";
-
-/// The commands of the page's walk, each after the one who runs it.
-fn walk() -> Vec<(String, String)> {
-    let page = fs::read_to_string(concat!(env!("CARGO_MANIFEST_DIR"), "/README.md")).unwrap();
-    let section = page
-        .split("\n## ")
-        .find(|section| section.starts_with("Two offices, by files alone"))
-        .unwrap();
-    let command = |line: &str| {
-        let (who, command) = line.strip_prefix("    ")?.split_once("$ ")?;
-        Some((who.to_string(), command.to_string()))
-    };
-    section.lines().filter_map(command).collect()
-}
-
-/// Runs a command as a shell does in which `seal` is the program.
-fn shell(folder: &Path, command: &str) -> Run {
-    let program = Path::new(env!("CARGO_BIN_EXE_seal")).parent().unwrap();
-    let path = format!("{}:/usr/bin:/bin", program.display());
-    Run::of(
-        Command::new("sh")
-            .args(["-c", command])
-            .env("PATH", path)
-            .current_dir(folder),
-    )
-}
 
 #[test]
 fn the_page_s_walk_is_a_walk() {
@@ -42,11 +14,11 @@ fn the_page_s_walk_is_a_walk() {
     desk.folder("office");
     desk.folder("holder");
     desk.write("holder/plan.txt", &plan());
-    let walk = walk();
+    let walk = walk("Two offices, by files alone");
     assert_eq!(walk.len(), 11, "{walk:?}");
     let mut last = String::new();
     for (who, command) in &walk {
-        let run = shell(&desk.path(who), command);
+        let run = desk.shell(who, command);
         assert_eq!(run.status, 0, "{who}$ {command}: {}", run.printed());
         last = run.out;
     }

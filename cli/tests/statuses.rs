@@ -37,6 +37,26 @@ fn every_command_ends_with_the_status_that_is_documented() {
             "open plan.txt --seal plan.txt.seal --seed dice --at 256 --out d".into(),
         ),
         (2, "open plan.txt --seal plan.txt.seal --out d".into()),
+        (
+            0,
+            "open plan.txt --seal plan.txt.seal --seed dice --until 3 --out f".into(),
+        ),
+        (
+            0,
+            "open plan.txt --seal plan.txt.seal --seed dice --at 7 --resume f --out h".into(),
+        ),
+        (
+            1,
+            "open plan.txt --seal plan.txt.seal --seed other --at 7 --resume f --out i".into(),
+        ),
+        (
+            2,
+            "open plan.txt --seal plan.txt.seal --seed dice --at 7 --resume f --until 2".into(),
+        ),
+        (
+            2,
+            "open plan.txt --seal plan.txt.seal --seed dice --resume absent".into(),
+        ),
         (2, "open plan.txt --seal absent --seed dice --out d".into()),
         (0, CHECK.into()),
         (

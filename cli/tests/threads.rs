@@ -20,19 +20,6 @@ fn long_text() -> Vec<u8> {
         .collect()
 }
 
-/// Every file of a folder is the same as that of another.
-fn same_files(desk: &Desk, one: &str, other: &str) {
-    let names = desk.names(one);
-    assert_eq!(names, desk.names(other));
-    for name in names {
-        let (a, b) = (
-            desk.read(&format!("{one}/{name}")),
-            desk.read(&format!("{other}/{name}")),
-        );
-        assert!(a == b, "{one}/{name} and {other}/{name}");
-    }
-}
-
 #[test]
 fn a_file_s_seal_and_opening() {
     let desk = Desk::new("threads-file");
@@ -43,10 +30,10 @@ fn a_file_s_seal_and_opening() {
             "commit long.txt --profile balanced --out seal{i} {threads}"
         ))
         .says(0, &["sealed"]);
-        same_files(&desk, "seal0", &format!("seal{i}"));
+        desk.same_files("seal0", &format!("seal{i}"));
         desk.run(&format!("{open} --out opening{i} {threads}"))
             .says(0, &[]);
-        same_files(&desk, "opening0", &format!("opening{i}"));
+        desk.same_files("opening0", &format!("opening{i}"));
         desk.run(&format!("verify long.txt --seal seal0 {threads}"))
             .says(0, &["yes"]);
     }
@@ -61,7 +48,7 @@ fn a_project_s_seal() {
     for (i, threads) in NUMBERS.iter().enumerate() {
         desk.run(&format!("commit project --out seal{i} {threads}"))
             .says(0, &["sealed"]);
-        same_files(&desk, "seal0", &format!("seal{i}"));
+        desk.same_files("seal0", &format!("seal{i}"));
         desk.run(&format!("verify project --seal seal0 {threads}"))
             .says(0, &["yes"]);
     }

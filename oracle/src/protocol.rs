@@ -5,7 +5,8 @@
 //! `~`, a kind, a stream's number, `x` and a count for what is drawn (`stream`);
 //! `@`, a place, `+` and a length for bytes that an earlier line keeps; `%` and a
 //! length for bytes i modulo 251. A list of words is written alike: digits are a
-//! word, the highest first. A lone `-` is nothing.
+//! word, the highest first. In a list of numbers `x` and a count has one stand for as
+//! many. A lone `-` is nothing.
 
 use crate::stream::Stream;
 use oracle::{hash, Digest, Word};
@@ -53,7 +54,10 @@ impl<'a> Args<'a> {
     pub fn numbers(&mut self, what: &str) -> Result<Vec<usize>, Bad> {
         match self.next(what)? {
             "-" => Ok(Vec::new()),
-            text => text.split(',').map(read_number).collect(),
+            text => {
+                let runs: Result<Vec<_>, Bad> = text.split(',').map(read_run).collect();
+                Ok(runs?.concat())
+            }
         }
     }
 
@@ -177,6 +181,12 @@ fn read_number(text: &str) -> Result<usize, Bad> {
     text.parse().map_err(|_| format!("no number: {text}"))
 }
 
+/// A number, once or so many times.
+fn read_run(text: &str) -> Result<Vec<usize>, Bad> {
+    let (number, times) = text.split_once('x').unwrap_or((text, "1"));
+    Ok(vec![read_number(number)?; read_number(times)?])
+}
+
 fn read_word(text: &str) -> Result<Vec<u8>, Bad> {
     let number = u128::from_str_radix(text, 16);
     if text.len() > 32 || text.starts_with('+') {
@@ -231,6 +241,14 @@ pub fn bytes(bytes: &[u8]) -> String {
 
 pub fn digests(list: &[Digest]) -> String {
     bytes(&list.concat())
+}
+
+pub fn numbers(list: &[usize]) -> String {
+    if list.is_empty() {
+        return "-".into();
+    }
+    let texts: Vec<String> = list.iter().map(usize::to_string).collect();
+    texts.join(",")
 }
 
 // ---- as an entry's output: past 64 bytes by the first 16 bytes of the digest

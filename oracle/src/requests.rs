@@ -52,6 +52,7 @@ A request is a line: its name, then its arguments, apart by blanks.
   bytes    hexadecimal, two digits a byte; a domain is bytes in UTF-8
   digests  32 bytes each, end to end
   number   decimal
+  numbers  numbers joined by commas
   widths   0: the present set of widths, which is the Rust's
   room     decimal: how long an output is, in halves of words or in bytes; the Rust makes its own
 A lone - is no words, bytes or digests. README.md has the shorter forms of long arguments.
@@ -178,8 +179,8 @@ const REQUESTS: &[Request] = &[
     },
     Request {
         name: "l_of",
-        arguments: "n:number k:number eps:number gammas:words room",
-        answer: "0, words: L(eps)",
+        arguments: "n:number k:number original:number eps:number coordinates:numbers gammas:words room",
+        answer: "0, words: L(eps) of a codeword folded from the original n to n; the Rust has the coordinates 0 to n − 1",
         call: l_of,
     },
     Request {
@@ -190,8 +191,9 @@ const REQUESTS: &[Request] = &[
     },
     Request {
         name: "fold",
-        arguments: "n:number k:number var:number r:word values:words room",
-        answer: "0, the new n, the folded words",
+        arguments:
+            "n:number k:number original:number var:number r:word coordinates:numbers values:words room",
+        answer: "0, the new n, the coordinates that are left and 0 (ours), the folded words",
         call: fold,
     },
     Request {
@@ -208,7 +210,7 @@ const REQUESTS: &[Request] = &[
     },
     Request {
         name: "serialize_parts",
-        arguments: "parts:bytes, end to end lengths:numbers joined by commas room",
+        arguments: "parts:bytes, end to end lengths:numbers room",
         answer: "0, bytes",
         call: serialize_parts,
     },
@@ -266,8 +268,9 @@ const REQUESTS: &[Request] = &[
     },
     Request {
         name: "commit",
-        arguments: "widths:number n:number k:number domain table:words three rooms",
-        answer: "0, gammas, codeword, digests of the level 0 tree (commit_table)",
+        arguments:
+            "widths:number n:number k:number domain table:words two rooms coordinates:numbers room",
+        answer: "0, coordinates (ours), gammas, codeword, digests of the level 0 tree (commit_table)",
         call: commit,
     },
     Request {
@@ -503,10 +506,15 @@ fn derive(args: &mut Args) -> Result<String, Bad> {
 }
 
 fn l_of(args: &mut Args) -> Result<String, Bad> {
-    let (n, k, eps) = (args.number("n")?, args.number("k")?, args.number("eps")?);
-    let gammas = read_gammas(args, n, k)?;
+    let (n, k, original) = read_shape(args)?;
+    let (eps, coordinates) = (args.number("eps")?, args.numbers("coordinates")?);
+    want(
+        coordinates.into_iter().eq(0..n),
+        "the coordinates 0 to n − 1",
+    )?;
+    let gammas = read_gammas(args, original, k)?;
     args.output()?;
-    Ok(many(&code::l_of(n, k, &gammas, eps)))
+    Ok(many(&code::l_of(n, k, original, &gammas, eps)))
 }
 
 fn encode(args: &mut Args) -> Result<String, Bad> {
@@ -522,12 +530,36 @@ fn read_gammas(args: &mut Args, n: usize, k: usize) -> Result<Vec<Word>, Bad> {
     Ok(gammas)
 }
 
+/// n, k and the original n of a codeword in use.
+fn read_shape(args: &mut Args) -> Result<(usize, usize, usize), Bad> {
+    let (n, k) = (args.number("n")?, args.number("k")?);
+    let original = args.number("original")?;
+    want(n <= original, "n at most the original n")?;
+    Ok((n, k, original))
+}
+
+/// The list of coordinates is ours: a fold drops its variable's entry, and 0 stands behind.
 fn fold(args: &mut Args) -> Result<String, Bad> {
-    let (n, k, var) = (args.number("n")?, args.number("k")?, args.number("var")?);
-    let r = args.word("r")?;
+    let (n, k, original) = read_shape(args)?;
+    let (var, r) = (args.number("var")?, args.word("r")?);
+    let mut coordinates = args.numbers("coordinates")?;
+    let rising = coordinates.windows(2).all(|pair| pair[0] < pair[1]);
+    let below = coordinates.iter().all(|&i| i < original);
+    want(
+        coordinates.len() == n && rising && below,
+        "n rising coordinates below the original n",
+    )?;
     let (values, new_n) = code::fold(n, k, var, r, &args.words("values")?);
     args.output()?;
-    Ok(format!("0 {new_n} {}", protocol::output_words(&values)))
+    if var < n {
+        coordinates.remove(var);
+        coordinates.push(0);
+    }
+    Ok(format!(
+        "0 {new_n} {} {}",
+        protocol::numbers(&coordinates),
+        protocol::output_words(&values)
+    ))
 }
 
 fn partial_evals(args: &mut Args) -> Result<String, Bad> {
@@ -611,12 +643,14 @@ fn commit(args: &mut Args) -> Result<String, Bad> {
     let table = args.words("table")?;
     want(table.len() == 1 << n, "2^n words")?;
     let made = query::commitment(k, &domain, &table);
-    for _ in 0..3 {
-        args.output()?;
-    }
+    (args.output()?, args.output()?);
+    args.numbers("coordinates")?;
+    args.output()?;
+    let coordinates: Vec<usize> = (0..n).collect();
     Ok(format!(
-        "{} {} {}",
-        many(&made.gammas),
+        "0 {} {} {} {}",
+        protocol::numbers(&coordinates),
+        protocol::output_words(&made.gammas),
         protocol::output_words(&made.codeword),
         protocol::output(&made.digests.concat())
     ))

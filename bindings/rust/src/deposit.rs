@@ -1,6 +1,7 @@
 //! A deposit: its table committed, then folded by the checker's challenges, so that records can be built.
 
 use crate::buffers::Buffers;
+use crate::half_folded::HalfFolded;
 use crate::raw;
 use crate::record::{QueryRecord, TailRecord};
 use crate::refusal::Refusal;
@@ -123,68 +124,58 @@ impl Deposit {
     }
 
     /// Folds by one challenge for each variable and builds every level's tree. Refused with 5 where there are fewer or more challenges.
-    pub fn fold(self, challenges: &[Word]) -> Result<Folded, Refusal> {
-        self.folded(|sizes, base, levels, trees| {
-            let challenges = halves(challenges);
-            let mut half = vec![0u64; 2 * sizes.half_words];
-            let mut roots = vec![0u8; sizes.roots_bytes];
-            Refusal::unless_done(unsafe {
-                raw::dequmlo_fold_levels(
-                    sizes.widths.number(),
-                    sizes.n,
-                    sizes.k,
-                    base.as_ptr(),
-                    base.len(),
-                    challenges.as_ptr(),
-                    challenges.len(),
-                    levels.as_mut_ptr(),
-                    levels.len(),
-                    half.as_mut_ptr(),
-                    half.len(),
-                    trees.as_mut_ptr(),
-                    trees.len(),
-                    roots.as_mut_ptr(),
-                    roots.len(),
-                )
-            })?;
-            Ok(roots.chunks_exact(32).map(root_of).collect())
-        })
+    pub fn fold(mut self, challenges: &[Word]) -> Result<Folded, Refusal> {
+        let (sizes, base) = (self.sizes, &self.base);
+        let (levels, trees) = self.buffers.folded_mut(&sizes);
+        let challenges = halves(challenges);
+        let mut half = vec![0u64; 2 * sizes.half_words];
+        let mut roots = vec![0u8; sizes.roots_bytes];
+        Refusal::unless_done(unsafe {
+            raw::dequmlo_fold_levels(
+                sizes.widths.number(),
+                sizes.n,
+                sizes.k,
+                base.as_ptr(),
+                base.len(),
+                challenges.as_ptr(),
+                challenges.len(),
+                levels.as_mut_ptr(),
+                levels.len(),
+                half.as_mut_ptr(),
+                half.len(),
+                trees.as_mut_ptr(),
+                trees.len(),
+                roots.as_mut_ptr(),
+                roots.len(),
+            )
+        })?;
+        let roots = roots.chunks_exact(32).map(root_of).collect();
+        Ok(Folded::of(sizes, self.buffers, roots))
     }
 
     /// The same on this many threads, which give the same bytes. On more than one there is no room for a fold beside the levels, and level 0's
     /// tree is not made again.
     pub fn fold_on(self, threads: Threads, challenges: &[Word]) -> Result<Folded, Refusal> {
-        if threads.number() == 1 || challenges.len() != self.sizes.n {
+        if threads.number() == 1 {
             return self.fold(challenges);
         }
-        self.folded(|sizes, base, levels, trees| {
-            let on = Commitment {
-                threads,
-                sizes,
-                base,
-            };
-            on.fold(challenges, levels, trees)
-        })
+        self.begun().fold_on(threads, challenges)
     }
 
-    /// The folded deposit, its further levels and trees written by `make`, which is given the base domain and the room for all levels and all
-    /// trees, with level 0 and its tree at their front. Where it answers the roots it has written all of them.
-    fn folded(
-        mut self,
-        make: impl FnOnce(Sizes, &[u8], &mut [u64], &mut [u8]) -> Result<Vec<Root>, Refusal>,
-    ) -> Result<Folded, Refusal> {
-        let sizes = self.sizes;
-        let (levels, trees) = self.buffers.folded_mut(&sizes);
-        let roots = make(sizes, &self.base, levels, trees)?;
-        Ok(Folded {
-            sizes,
-            buffers: self.buffers,
-            roots,
-        })
+    /// Folds by the first challenges, as many as there are, and builds the trees of their levels; the rest is left for later. Refused with 5 where there are
+    /// more challenges than variables. Every number of threads gives the same bytes.
+    pub fn fold_until(self, threads: Threads, challenges: &[Word]) -> Result<HalfFolded, Refusal> {
+        self.begun().fold_further(threads, challenges)
+    }
+
+    /// The deposit with level 0 alone.
+    fn begun(self) -> HalfFolded {
+        let root = self.root();
+        HalfFolded::begun(self.base, self.sizes, self.buffers, root)
     }
 }
 
-/// The gammas, the codeword and level 0's tree of a table's halves in a single call.
+/// The gammas, the codeword and level 0's tree of a table's halves in a single call. The codeword's list, 0 to n - 1 whatever the table, is not kept.
 fn commit_whole(
     sizes: Sizes,
     base: &[u8],
@@ -193,6 +184,7 @@ fn commit_whole(
     codeword: &mut [u64],
     tree: &mut [u8],
 ) -> Result<(), Refusal> {
+    let mut coordinates = vec![0usize; sizes.n];
     Refusal::unless_done(unsafe {
         raw::dequmlo_commit(
             sizes.widths.number(),
@@ -206,6 +198,8 @@ fn commit_whole(
             gammas.len(),
             codeword.as_mut_ptr(),
             codeword.len(),
+            coordinates.as_mut_ptr(),
+            coordinates.len(),
             tree.as_mut_ptr(),
             tree.len(),
         )
@@ -226,7 +220,12 @@ impl fmt::Debug for Folded {
     }
 }
 
-fn described(f: &mut fmt::Formatter, name: &str, sizes: &Sizes, root: &Root) -> fmt::Result {
+pub(crate) fn described(
+    f: &mut fmt::Formatter,
+    name: &str,
+    sizes: &Sizes,
+    root: &Root,
+) -> fmt::Result {
     f.debug_struct(name)
         .field("widths", &sizes.widths)
         .field("n", &sizes.n)
@@ -236,6 +235,15 @@ fn described(f: &mut fmt::Formatter, name: &str, sizes: &Sizes, root: &Root) -> 
 }
 
 impl Folded {
+    /// All levels and their trees stand in the buffers.
+    pub(crate) fn of(sizes: Sizes, buffers: Buffers, roots: Vec<Root>) -> Folded {
+        Folded {
+            sizes,
+            buffers,
+            roots,
+        }
+    }
+
     /// The roots of levels 0 to n.
     #[must_use]
     pub fn roots(&self) -> Vec<Root> {

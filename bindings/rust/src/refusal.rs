@@ -11,7 +11,7 @@ use std::fmt;
 /// ```
 #[derive(Clone, Copy, Debug, PartialEq, Eq)]
 pub struct Refusal {
-    /// From 1 to 33; 20 is retired.
+    /// From 1 to 33, or 36; 20 is retired.
     pub number: u32,
     /// The level of a query record at which 16 to 26 was found.
     pub level: Option<u32>,
@@ -20,7 +20,7 @@ pub struct Refusal {
 /// What a number means and what to ask the holder for.
 #[derive(Clone, Copy, Debug, PartialEq, Eq)]
 pub struct Explanation {
-    /// From 1 to 33; 20 is retired.
+    /// From 1 to 33, or 36; 20 is retired.
     pub number: u32,
     /// What was found.
     pub sentence: &'static str,
@@ -102,7 +102,7 @@ impl fmt::Display for Refusal {
 impl std::error::Error for Refusal {}
 
 impl Explanation {
-    /// The explanation of a number from 1 to 33; none of 20, which is retired.
+    /// The explanation of a number from 1 to 33, or of 36; none of 20, which is retired, nor of 34 and 35, which are not given yet.
     #[must_use]
     pub fn of(number: u32) -> Option<&'static Explanation> {
         EXPLANATIONS.iter().find(|e| e.number == number)
@@ -111,7 +111,7 @@ impl Explanation {
     /// Whether nothing that a holder sends can lead to this number: it is an answer to a program that calls the library.
     #[must_use]
     pub fn no_holder_can_cause(&self) -> bool {
-        matches!(self.number, 1 | 2 | 3 | 6 | 8 | 9 | 10 | 12 | 13)
+        matches!(self.number, 1 | 2 | 3 | 6 | 8 | 9 | 10 | 12 | 13 | 36)
     }
 }
 
@@ -144,8 +144,9 @@ const OTHER_GROUPS: &str =
 const PARAMETERS: &str =
     "Look at the seal's parameters.txt, or at --k and --domain: no deposit has these parameters.";
 
-/// Every number that a call can give, in order: 1 to 33 but 20, which is retired. So a number is no place in this list; [`Explanation::of`] finds it.
-pub const EXPLANATIONS: [Explanation; 32] = [
+/// Every number that a call can give, in order: 1 to 33 but 20, which is retired, and 36; 34 and 35 are not given yet. So a number is no place in this list;
+/// [`Explanation::of`] finds it.
+pub const EXPLANATIONS: [Explanation; 33] = [
     explained(1, "the word to invert is 0, which has no inverse", PROGRAM),
     explained(2, "the number of bytes to pack is not a multiple of 128", PROGRAM),
     explained(3, "a byte to pack is neither 0 nor 1", PROGRAM),
@@ -224,6 +225,12 @@ pub const EXPLANATIONS: [Explanation; 32] = [
         "Check each of the two by itself: the number of its own refusal says what is wrong with it.",
     ),
     explained(33, "the two records are the same", "Nothing: this is the good result."),
+    explained(
+        36,
+        "the list of coordinates does not hold exactly n strictly rising numbers below the original n",
+        "Nothing from the holder: a program passed the library a codeword with a list that is not its own. Each codeword is kept with the list that its last \
+         fold left.",
+    ),
 ];
 
 /// Every retired number. Each is given to nothing else, in no later version.

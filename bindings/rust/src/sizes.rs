@@ -3,6 +3,7 @@
 use crate::raw;
 use crate::refusal::Refusal;
 use crate::widths::Widths;
+use std::ops::Range;
 
 /// What the set of widths, n and k fix: how many words and bytes each buffer has. Trees and records are those of the set; the rest is the same under both.
 ///
@@ -73,6 +74,45 @@ impl Sizes {
             tail_bytes: sizes.tail,
         })
     }
+
+    /// The words of a level and the bytes of its tree. A level before the last is as long as the codeword of a deposit that has the rest of the variables.
+    pub(crate) fn of_level(&self, level: usize) -> Result<(usize, usize), Refusal> {
+        match self.n.checked_sub(level) {
+            None => Err(Refusal::of(4)),
+            Some(0) => Ok((self.last_level_words, self.last_tree_bytes)),
+            Some(rest) => {
+                let rest = Sizes::of(self.widths, rest, self.k)?;
+                Ok((rest.codeword_words, rest.tree_bytes))
+            }
+        }
+    }
+
+    /// Where a level stands in the room for all of them.
+    pub(crate) fn place(&self, level: usize) -> Result<Place, Refusal> {
+        let mut place = Place::default();
+        for l in 0..=level {
+            place = place.behind(self.of_level(l)?);
+        }
+        Ok(place)
+    }
+}
+
+/// Where a level's values stand among the halves of all levels, and its tree among all trees.
+#[derive(Default)]
+pub(crate) struct Place {
+    pub values: Range<usize>,
+    pub tree: Range<usize>,
+}
+
+impl Place {
+    /// That of so many words and bytes of a tree behind this one.
+    fn behind(self, (words, bytes): (usize, usize)) -> Place {
+        let (values, tree) = (self.values.end, self.tree.end);
+        Place {
+            values: values..values + 2 * words,
+            tree: tree..tree + bytes,
+        }
+    }
 }
 
 #[cfg(test)]
@@ -87,6 +127,22 @@ mod tests {
         for widths in Widths::ALL {
             for (n, k) in (1..=20).flat_map(|n| (0..=4).map(move |k| (n, k))) {
                 wants(Sizes::of(widths, n, k).unwrap());
+            }
+        }
+    }
+
+    /// The last level ends where the room does, and there is no level behind it.
+    #[test]
+    fn the_levels_fill_their_room() {
+        for widths in Widths::ALL {
+            for (n, k) in (1..=20).flat_map(|n| (0..=4).map(move |k| (n, k))) {
+                let sizes = Sizes::of(widths, n, k).unwrap();
+                let (first, last) = (sizes.place(0).unwrap(), sizes.place(n).unwrap());
+                assert_eq!(first.values, 0..2 * sizes.codeword_words);
+                assert_eq!(first.tree, 0..sizes.tree_bytes);
+                assert_eq!(last.values.end, 2 * sizes.levels_words);
+                assert_eq!(last.tree.end, sizes.trees_bytes);
+                assert_eq!(sizes.place(n + 1).err().unwrap().number, 4);
             }
         }
     }
@@ -113,6 +169,7 @@ mod tests {
         assert_eq!(built, 11, "{widths} n {n} k {k}");
         let table = vec![0u64; 2 * sizes.table_words];
         let mut gammas = vec![0u64; 2 * sizes.gamma_words];
+        let mut coordinates = vec![0usize; n];
         let base = [0u8; 201];
         let committed = unsafe {
             raw::dequmlo_commit(
@@ -127,6 +184,8 @@ mod tests {
                 gammas.len(),
                 levels.as_mut_ptr(),
                 2 * sizes.codeword_words,
+                coordinates.as_mut_ptr(),
+                coordinates.len(),
                 trees.as_mut_ptr(),
                 sizes.tree_bytes,
             )

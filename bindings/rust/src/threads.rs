@@ -6,7 +6,7 @@ use crate::raw;
 use crate::refusal::Refusal;
 use crate::root::Root;
 use crate::sizes::Sizes;
-use crate::tree::{level_bytes, root_of};
+use crate::tree::root_of;
 use crate::word::Word;
 use std::num::NonZeroUsize;
 use std::sync::atomic::{AtomicU32, Ordering};
@@ -103,7 +103,7 @@ pub(crate) struct Commitment<'a> {
 }
 
 impl Commitment<'_> {
-    /// The gammas, the codeword and level 0's tree: what `dequmlo_commit` leaves.
+    /// The gammas, the codeword and level 0's tree: what `dequmlo_commit` leaves beside the codeword's list.
     pub fn commit(
         &self,
         table: &[u64],
@@ -246,27 +246,44 @@ impl Commitment<'_> {
         0
     }
 
-    /// Levels 1 to n behind level 0, by a challenge each, and their trees behind level 0's: what `dequmlo_fold_levels` leaves where level 0's
-    /// tree stands already.
+    /// The levels behind one that stands, by a challenge each, and their trees behind its tree. Their roots. From level 0 on, by n challenges, this is what
+    /// `dequmlo_fold_levels` leaves where level 0's tree stands already.
     pub fn fold(
         &self,
+        from: usize,
         challenges: &[Word],
         levels: &mut [u64],
         trees: &mut Digests,
     ) -> Result<Vec<Root>, Refusal> {
-        let (mut values, mut rest) = levels.split_at_mut(2 * self.sizes.codeword_words);
-        let (first, mut trees) = trees.split_at_mut(self.sizes.tree_bytes);
-        let mut roots = vec![root_of(first)];
-        for (level, r) in challenges.iter().enumerate() {
-            let (next, behind) = rest.split_at_mut(values.len() / 2);
-            self.next(level, *r, values, next)?;
-            let Sizes { widths, n, k, .. } = self.sizes;
-            let (tree, more) = trees.split_at_mut(level_bytes(widths, n, k, level + 1)?);
-            self.tree(level + 1, next, tree)?;
-            roots.push(root_of(tree));
-            (values, rest, trees) = (next, behind, more);
-        }
-        assert!(rest.is_empty() && trees.is_empty(), "every level is made");
-        Ok(roots)
+        let made = |(level, r): (usize, &Word)| {
+            let next = self.sizes.place(level + 1)?.values;
+            let (standing, room) = levels.split_at_mut(next.start);
+            let values = &standing[self.sizes.place(level)?.values];
+            self.next(level, *r, values, &mut room[..next.len()])?;
+            self.root(level + 1, levels, trees)
+        };
+        (from..).zip(challenges).map(made).collect()
+    }
+
+    /// Makes the tree of a level that stands. Its root.
+    pub fn root(&self, level: usize, levels: &[u64], trees: &mut Digests) -> Result<Root, Refusal> {
+        let place = self.sizes.place(level)?;
+        let tree = &mut trees[place.tree];
+        self.tree(level, &levels[place.values], tree)?;
+        Ok(root_of(tree))
+    }
+
+    /// Whether the level behind a level is that level folded by r. The fold is made anew in the room for one.
+    pub fn follows(
+        &self,
+        level: usize,
+        r: Word,
+        levels: &[u64],
+        room: &mut [u64],
+    ) -> Result<bool, Refusal> {
+        let (values, next) = (self.sizes.place(level)?, self.sizes.place(level + 1)?);
+        let fold = &mut room[..next.values.len()];
+        self.next(level, r, &levels[values.values], fold)?;
+        Ok(levels[next.values] == *fold)
     }
 }

@@ -107,7 +107,8 @@ impl Tree {
         words: &[Word],
     ) -> Result<Tree, Refusal> {
         let values = halves(words);
-        let mut digests = vec![0; level_bytes(widths, n, k, level)?];
+        let (_, bytes) = Sizes::of(widths, n, k)?.of_level(level)?;
+        let mut digests = vec![0; bytes];
         Refusal::unless_done(unsafe {
             raw::dequmlo_level_tree(
                 widths.number(),
@@ -257,19 +258,4 @@ fn bytes(count: usize, width: usize) -> usize {
         return 0;
     }
     32 * (2 * (count / width) - 1)
-}
-
-/// The bytes of a level's tree. A level before the last is as long as the codeword of a deposit that has the rest of the variables.
-pub(crate) fn level_bytes(
-    widths: Widths,
-    n: usize,
-    k: usize,
-    level: usize,
-) -> Result<usize, Refusal> {
-    let sizes = Sizes::of(widths, n, k)?;
-    match n.checked_sub(level) {
-        None => Err(Refusal::of(4)),
-        Some(0) => Ok(sizes.last_tree_bytes),
-        Some(rest) => Ok(Sizes::of(widths, rest, k)?.tree_bytes),
-    }
 }

@@ -89,3 +89,13 @@ pub(crate) fn words(halves: &[u64]) -> Vec<Word> {
         .map(|h| Word(u128::from(h[1]) << 64 | u128::from(h[0])))
         .collect()
 }
+
+/// The bytes of halves, without a copy: those of each word, the lowest first.
+pub(crate) fn bytes(halves: &[u64]) -> &[u8] {
+    unsafe { std::slice::from_raw_parts(halves.as_ptr().cast(), 8 * halves.len()) }
+}
+
+/// The same to be written.
+pub(crate) fn bytes_mut(halves: &mut [u64]) -> &mut [u8] {
+    unsafe { std::slice::from_raw_parts_mut(halves.as_mut_ptr().cast(), 8 * halves.len()) }
+}

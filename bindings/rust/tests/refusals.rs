@@ -33,7 +33,7 @@ fn the_page_has_a_row_for_every_number_and_those_that_no_holder_can_cause_stand_
         .map(|e| format!("| {} | {} | {} |", e.number, e.sentence, e.ask))
         .collect();
     assert_eq!(rows, table);
-    for number in [1, 2, 3, 6, 8, 9, 10] {
+    for number in [1, 2, 3, 6, 8, 9, 10, 36] {
         assert!(below.iter().any(|e| e.number == number), "{number}");
     }
     let (first, second) = text
@@ -63,9 +63,10 @@ fn the_page_has_a_row_for_every_retired_number_at_its_end() {
 }
 
 #[test]
-fn numbers_are_1_to_33_in_order_but_20() {
+fn numbers_are_1_to_33_in_order_but_20_and_then_36() {
     let numbers: Vec<u32> = EXPLANATIONS.iter().map(|e| e.number).collect();
-    assert_eq!(numbers, (1..=19).chain(21..=33).collect::<Vec<u32>>());
+    let given = (1..=19).chain(21..=33).chain([36]);
+    assert_eq!(numbers, given.collect::<Vec<u32>>());
 }
 
 /// Once retired, a number is given to nothing else.
@@ -102,7 +103,7 @@ fn a_refusal_says_the_sentence_of_its_number() {
     assert!(named
         .ask()
         .starts_with("Ask which program wrote the report"));
-    for number in [0, 34] {
+    for number in [0, 34, 35, 37] {
         let none = at(number, None);
         assert_eq!(
             (none.sentence(), none.ask()),

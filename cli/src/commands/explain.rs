@@ -52,7 +52,7 @@ pub fn run(options: &Options) -> Result<Outcome, Failure> {
         return Ok(found(outcome, &[], &[r]));
     }
     Err(Failure(format!(
-        "`{text}` is no refusal's number; they go from 1 to 33; `seal explain older` says which seals --older is for, and `seal explain widths` what the sets of widths are"
+        "`{text}` is no refusal's number; they are 1 to 33 and 36; `seal explain older` says which seals --older is for, and `seal explain widths` what the sets of widths are"
     )))
 }
 

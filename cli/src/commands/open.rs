@@ -1,81 +1,138 @@
-//! `seal open`: the records that a checker asked for, built from the sealed file.
+//! `seal open`: the records that a checker asked for, built from the sealed file, in one run or in several.
 
+use crate::begun::{self, Begun};
 use crate::folder::Kind;
 use crate::json::Json;
 use crate::opening::Opening;
 use crate::options::Options;
-use crate::outcome::{texts, Failure, Outcome, Verdict};
-use crate::part::{asked_seal, Part};
+use crate::outcome::{texts, Ended, Failure, Outcome, Verdict};
+use crate::part::asked_seal;
 use crate::progress::Progress;
-use crate::project::file_path;
 use crate::questions::{asking_and, challenges, positions, requested, SEED_WARNING};
-use crate::reading::{shown_path, stretch, unreadable};
+use crate::reading::shown_path;
 use crate::request::Request;
 use crate::seal::Seal;
 use crate::shape::Shape;
-use crate::table::{read_table, room_for, table_of};
-use crate::writing::{beside, Target};
-use dequmlo::{Deposit, Refusal, Threads, Word};
+use crate::standing::Standing;
+use crate::writing::{beside, settled, Target};
+use dequmlo::{Folded, HalfFolded, Refusal, Root, Threads, Word};
 use std::path::Path;
 
-pub const TAKEN: [&str; 15] = asking_and(["--out", "--force", "--threads", "--json"]);
+pub const TAKEN: [&str; 17] = asking_and([
+    "--until",
+    "--resume",
+    "--out",
+    "--force",
+    "--threads",
+    "--json",
+]);
 
 pub fn run(options: &Options) -> Result<Outcome, Failure> {
     options.expect(1, "one FILE", &TAKEN)?;
-    let file = &options.operands[0];
     let threads = options.threads()?;
     let seal = match asked_seal(options, None)? {
         Ok(seal) => seal,
         Err(refused) => return Ok(refused.outcome()),
     };
-    let asked = Asked::read(options, &seal)?;
-    let folder = options
-        .path("--out")
-        .unwrap_or_else(|| beside(file, asked.ending()));
-    let (target, mut notes) = Target::new(&folder, Kind::Opening, options.has("--force"))?;
-    if file.is_dir() && seal.part.is_none() {
-        return Err(Failure(format!(
-            "{} is a folder: --file PATH says which file of the project is opened",
-            file.display()
-        )));
-    }
-    let (read, path) = match &seal.part {
-        None => (read_table(file)?.map(|table| table.words), file.clone()),
-        Some(part) => {
-            let path = file_path(file, &part.path);
-            (read_part(&path, part)?, path)
+    opened(options, threads, &seal).or_else(|ended| ended.outcome(&seal.notes))
+}
+
+/// The opening, or the work so far where `--until` stops it.
+fn opened(options: &Options, threads: Threads, seal: &Seal) -> Result<Outcome, Ended> {
+    let until = level(options, &seal.shape)?;
+    let asked = Asked::read(options, seal, until.is_some())?;
+    let mut notes = Vec::new();
+    let begun = match options.path("--resume") {
+        Some(folder) => {
+            notes.extend(settled(&folder, Kind::Begun));
+            Some(Begun::read(&folder, seal, &asked.challenges)??)
+        }
+        None => None,
+    };
+    not_below(until, begun.as_ref())?;
+    let (target, found) = target(options, &asked, until, begun.as_ref())?;
+    notes.extend(found);
+    let name = name(options, seal);
+    let progress = Progress::start();
+    let standing = match begun {
+        None => Standing::committed(&options.operands[0], threads, seal, &progress)?,
+        Some(begun) => Standing::taken_up(begun, threads, seal, &progress)?,
+    };
+    let outcome = match until {
+        Some(level) => {
+            progress.say(&format!("folding up to level {level} .."));
+            let half = standing.fold_until(threads, &asked.challenges[..level])?;
+            asked.kept(&half.roots(), None)?;
+            let files = begun::files(&half, &seal.shape, &asked.challenges, &name, &asked.drawn);
+            notes.extend(target.write(&files)?);
+            told_begun(&half, seal, target.folder())
+        }
+        None => {
+            progress.say(&format!("folding {} levels ..", seal.shape.n));
+            let folded = standing.fold(threads, &asked.challenges)?;
+            let opening = asked.opening(&seal.shape, &folded)?;
+            asked.kept(&opening.roots, Some(opening.claim))?;
+            let manifest = seal.part.as_ref().map(|part| part.manifest.clone());
+            notes.extend(target.write(&opening.files(&name, &asked.drawn, manifest))?);
+            told(&opening, target.folder(), asked.first_round().is_some())
         }
     };
-    let table = match read {
-        Ok(table) => table,
-        Err(sentence) => return Ok(Outcome::declined(sentence)),
-    };
-    let not_the_file = || Ok(Outcome::declined(another_file(&path)).notes(seal.notes.clone()));
-    if table.len() != seal.sizes.table_words {
-        return not_the_file();
-    }
-    room_for(&seal.shape)?;
-    let opening = match opened(&seal, threads, &table, &asked) {
-        Ok(Some(opening)) => opening,
-        Ok(None) => return not_the_file(),
-        Err(refusal) => return Ok(Outcome::refused(&refusal)),
-    };
-    if asked.keeps_other_roots(&opening) {
-        return Ok(Outcome::declined(
-            "the request keeps other roots or another claim than this file has by its challenges, so it follows another answer than this file's".into(),
-        ));
-    }
-    let name = match &seal.part {
-        None => shown_path(file),
-        Some(part) => part.name(),
-    };
-    let manifest = seal.part.map(|part| part.manifest);
-    notes.extend(target.write(&opening.files(&name, &asked.drawn, manifest))?);
-    notes.extend(seal.notes);
+    notes.extend(seal.notes.iter().cloned());
     if asked.seeded {
         notes.push(SEED_WARNING.into());
     }
-    Ok(told(&opening, target.folder(), asked.first_round().is_some()).notes(notes))
+    Ok(outcome.notes(notes))
+}
+
+/// The level that `--until` names.
+fn level(options: &Options, shape: &Shape) -> Result<Option<usize>, Failure> {
+    match options.number("--until")? {
+        Some(level) if level > shape.n => Err(Failure(format!(
+            "--until takes a level of this seal, from 0 to {}, and {level} is none",
+            shape.n
+        ))),
+        level => Ok(level),
+    }
+}
+
+/// Fails where interrupted work is to stop before the level that it has reached.
+fn not_below(until: Option<usize>, begun: Option<&Begun>) -> Result<(), Failure> {
+    match (until, begun) {
+        (Some(level), Some(begun)) if level < begun.level() => Err(Failure(format!(
+            "the interrupted work in {} has reached level {1} already: --until takes a level from {1} on, and {level} is below it",
+            begun.folder().display(),
+            begun.level()
+        ))),
+        _ => Ok(()),
+    }
+}
+
+/// Where to write: `--out`; else beside the file, and interrupted work that stops again in place of what was taken up.
+fn target(
+    options: &Options,
+    asked: &Asked,
+    until: Option<usize>,
+    begun: Option<&Begun>,
+) -> Result<(Target, Vec<String>), Failure> {
+    let (out, force) = (options.path("--out"), options.has("--force"));
+    let beside = |ending| beside(&options.operands[0], ending);
+    match (until, out, begun) {
+        (None, out, _) => {
+            let folder = out.unwrap_or_else(|| beside(asked.ending()));
+            Target::new(&folder, Kind::Opening, force)
+        }
+        (Some(_), Some(out), _) => Target::new(&out, Kind::Begun, force),
+        (Some(_), None, Some(begun)) => Target::new(begun.folder(), Kind::Begun, true),
+        (Some(_), None, None) => Target::new(&beside(".begun"), Kind::Begun, force),
+    }
+}
+
+/// The file as a summary names it.
+fn name(options: &Options, seal: &Seal) -> String {
+    match &seal.part {
+        None => shown_path(&options.operands[0]),
+        Some(part) => part.name(),
+    }
 }
 
 /// What the checker asked for.
@@ -88,10 +145,11 @@ struct Asked {
 }
 
 impl Asked {
-    fn read(options: &Options, seal: &Seal) -> Result<Asked, Failure> {
+    /// Where the work is interrupted, positions may come later.
+    fn read(options: &Options, seal: &Seal, is_interrupted: bool) -> Result<Asked, Failure> {
         match requested(options, seal)? {
             Some(request) => Ok(Asked::by_request(request)),
-            None => Asked::by_options(options, &seal.shape),
+            None => Asked::by_options(options, &seal.shape, is_interrupted),
         }
     }
 
@@ -106,7 +164,11 @@ impl Asked {
         }
     }
 
-    fn by_options(options: &Options, shape: &Shape) -> Result<Asked, Failure> {
+    fn by_options(
+        options: &Options,
+        shape: &Shape,
+        is_interrupted: bool,
+    ) -> Result<Asked, Failure> {
         let (challenges, drawn) = challenges(options, shape.n)?.ok_or_else(|| {
             Failure(
                 "`seal open` needs the checker's request, --asked FOLDER, or the checker's challenges: --challenges FILE, or --seed TEXT for trying it \
@@ -114,11 +176,15 @@ impl Asked {
                     .into(),
             )
         })?;
-        let positions = positions(options, shape)?.ok_or_else(|| {
-            Failure(
-                "`seal open` needs the checker's positions: --at P,P,.. or --positions FILE".into(),
-            )
-        })?;
+        let positions =
+            match positions(options, shape)? {
+                Some(positions) => positions,
+                None if is_interrupted => Vec::new(),
+                None => return Err(Failure(
+                    "`seal open` needs the checker's positions: --at P,P,.. or --positions FILE"
+                        .into(),
+                )),
+            };
         Ok(Asked {
             challenges,
             drawn,
@@ -140,60 +206,29 @@ impl Asked {
         self.first_round().map_or(".opening", |_| ".answer")
     }
 
-    /// Whether the request keeps roots or a claim that are not this opening's.
-    fn keeps_other_roots(&self, opening: &Opening) -> bool {
+    /// A sentence where the request keeps other roots than these of the first levels, or another claim.
+    fn kept(&self, roots: &[Root], claim: Option<Word>) -> Result<(), String> {
         let answered = self.request.as_ref().and_then(|r| r.answered.as_ref());
-        answered.map_or(false, |kept| {
-            kept.roots != opening.roots || kept.claim != opening.claim
+        match answered {
+            Some(kept) if !kept.roots.starts_with(roots) || claim.map_or(false, |claim| claim != kept.claim) => Err(
+                "the request keeps other roots or another claim than this file has by its challenges, so it follows another answer than this file's".into(),
+            ),
+            _ => Ok(()),
+        }
+    }
+
+    /// The opening at what was asked.
+    fn opening(&self, shape: &Shape, folded: &Folded) -> Result<Opening, Refusal> {
+        let query = |position: &usize| Ok((*position, folded.query(*position)?));
+        Ok(Opening {
+            shape: shape.clone(),
+            challenges: self.challenges.clone(),
+            roots: folded.roots(),
+            claim: folded.claim(),
+            tail: folded.tail()?,
+            queries: self.positions.iter().map(query).collect::<Result<_, _>>()?,
         })
     }
-}
-
-/// The table of a part of a project's file, as the file is now: with a byte more where it does not end with the part.
-fn read_part(path: &Path, part: &Part) -> Result<Result<Vec<Word>, String>, Failure> {
-    let more = usize::from(part.is_last());
-    let bytes = stretch(path, part.start, part.bytes + more).map_err(|e| unreadable(path, e))?;
-    Ok(table_of(&bytes).map_err(|_| another_file(path)))
-}
-
-/// The opening of a table; none where its root is not the seal's.
-fn opened(
-    seal: &Seal,
-    threads: Threads,
-    table: &[Word],
-    asked: &Asked,
-) -> Result<Option<Opening>, Refusal> {
-    let progress = Progress::start();
-    progress.say(&format!("committing {} words ..", table.len()));
-    let Shape {
-        k, domain, widths, ..
-    } = &seal.shape;
-    let deposit = Deposit::commit_on(threads, domain, *widths, *k, table)?;
-    if deposit.root() != seal.root {
-        return Ok(None);
-    }
-    progress.say(&format!("folding {} levels ..", seal.shape.n));
-    let folded = deposit.fold_on(threads, &asked.challenges)?;
-    let queries = asked
-        .positions
-        .iter()
-        .map(|p| Ok((*p, folded.query(*p)?)))
-        .collect::<Result<_, _>>()?;
-    Ok(Some(Opening {
-        shape: seal.shape.clone(),
-        challenges: asked.challenges.clone(),
-        roots: folded.roots(),
-        claim: folded.claim(),
-        tail: folded.tail()?,
-        queries,
-    }))
-}
-
-fn another_file(path: &Path) -> String {
-    format!(
-        "{} is not the file that was sealed: its root is another",
-        shown_path(path)
-    )
 }
 
 fn told(opening: &Opening, folder: &Path, is_answer: bool) -> Outcome {
@@ -213,4 +248,20 @@ fn told(opening: &Opening, folder: &Path, is_answer: bool) -> Outcome {
         .found("positions", Json::List(positions.collect()))
         .found("roots", texts(&opening.roots))
         .found("claim", Json::text(opening.claim))
+}
+
+fn told_begun(half: &HalfFolded, seal: &Seal, folder: &Path) -> Outcome {
+    let (level, shown) = (half.level(), folder.display());
+    let sentence = format!(
+        "folded up to level {level} of {} and kept the work in {shown}; `seal open` goes on from there with --resume {shown}",
+        seal.shape.n
+    );
+    let coordinates = half.coordinates().into_iter().map(Json::number);
+    Outcome::new(Verdict::Done, sentence)
+        .say()
+        .found("begun", Json::text(shown))
+        .found("widths", Json::text(seal.shape.widths))
+        .found("reached", Json::number(level))
+        .found("coordinates", Json::List(coordinates.collect()))
+        .found("roots", texts(half.roots()))
 }

@@ -83,9 +83,14 @@ impl Desk {
 
     /// A desk with the files that a version of this program made.
     pub fn kept(name: &str, version: &str) -> Desk {
+        Desk::copied(name, &kept(version))
+    }
+
+    /// A desk with a copy of what is in a folder.
+    pub fn copied(name: &str, from: &Path) -> Desk {
         let desk = Desk::new(name);
         let mut copy = Command::new("cp");
-        copy.arg("-r").arg(kept(version).join(".")).arg(&desk.0);
+        copy.arg("-r").arg(from.join(".")).arg(&desk.0);
         assert!(copy.status().unwrap().success());
         desk
     }
@@ -173,6 +178,16 @@ impl Desk {
         names
     }
 
+    /// Fails unless two folders have the same files, byte for byte.
+    pub fn same_files(&self, one: &str, other: &str) {
+        let names = self.names(one);
+        assert_eq!(names, self.names(other), "{one} and {other}");
+        for name in names {
+            let [a, b] = [one, other].map(|folder| self.read(&format!("{folder}/{name}")));
+            assert!(a == b, "{one}/{name} and {other}/{name}");
+        }
+    }
+
     /// The program, ready to be run in this folder.
     pub fn command<W: AsRef<OsStr>>(&self, words: impl IntoIterator<Item = W>) -> Command {
         let mut command = Command::new(env!("CARGO_BIN_EXE_seal"));
@@ -190,7 +205,19 @@ impl Desk {
         self.seal(line.split_whitespace())
     }
 
-    /// The same with at most 10 seconds and 2 GB, for what might stall or fill the machine.
+    /// Runs a command in a folder of the desk, as a shell does in which `seal` is the program.
+    pub fn shell(&self, folder: &str, command: &str) -> Run {
+        let program = Path::new(env!("CARGO_BIN_EXE_seal")).parent().unwrap();
+        let path = format!("{}:/usr/bin:/bin", program.display());
+        Run::of(
+            Command::new("sh")
+                .args(["-c", command])
+                .env("PATH", path)
+                .current_dir(self.path(folder)),
+        )
+    }
+
+    /// Runs the program with the words of a line and at most 10 seconds and 2 GB, for what might stall or fill the machine.
     pub fn limited(&self, line: &str) -> Run {
         let limited = "ulimit -v 2000000; exec timeout 10 \"$0\" \"$@\"";
         let mut command = Command::new("sh");
@@ -221,6 +248,20 @@ impl Desk {
     pub fn check(&self) -> Run {
         self.run(CHECK)
     }
+}
+
+/// The commands that a section of the page shows, each after the one who runs it.
+pub fn walk(section: &str) -> Vec<(String, String)> {
+    let page = fs::read_to_string(concat!(env!("CARGO_MANIFEST_DIR"), "/README.md")).unwrap();
+    let section = page
+        .split("\n## ")
+        .find(|text| text.starts_with(section))
+        .unwrap();
+    let command = |line: &str| {
+        let (who, command) = line.strip_prefix("    ")?.split_once("$ ")?;
+        Some((who.to_string(), command.to_string()))
+    };
+    section.lines().filter_map(command).collect()
 }
 
 /// Where the files are that a version of this program made, of those that are kept for ever.

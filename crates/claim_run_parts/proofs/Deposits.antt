@@ -1,6 +1,6 @@
 -- Committing, the calls and the trees, one after the other: no step is refused, and each finds what the one before left.
 use Prim.Native.Nat.{ℕ, zero, suc, _+_, _-_, _*_, _≤_}
-use mathlib.Core.Path.{_≡_, refl, sym, _∙_, ap, subst}
+use mathlib.Core.Path.{_≡_, refl, sym, _∙_, ap, ap₂, subst}
 use mathlib.Core.List.{List, _++_}
 use native.Mathlib.Omega.{arith}
 use lib.ListN.{length, take, drop, length-drop}
@@ -20,7 +20,7 @@ use Rattle.theory_record.specs.Scheme.{Scheme, scheme}
 use Rattle.theory_record.proofs.Ranges.{sizes-small}
 use Rattle.theory_record.proofs.Offsets.{first-length, level-within, tree-within}
 use Rattle.theory_claim.specs.Commit.{commitNumber, committedCodeword, committedTree}
-use Rattle.theory_claim.specs.Calls.{Call, afterFolds}
+use Rattle.theory_claim.specs.Calls.{Codeword, Call, afterFolds}
 use Rattle.theory_claim.specs.Claim.{Deposit, Claim}
 use Rattle.theory_claim.proofs.Claim.{claim}
 use Rattle.code_levels.proofs.Laying.{behind-more}
@@ -30,7 +30,8 @@ use Rattle.claim_run_parts.specs.helpers.Room.{CommitRoom}
 
 -- ---- level 0 and its tree, at the front
 
-module _ {s : Widths} {n k base table gammas levels trees : ℕ} (r : CommitRoom s n k base table gammas levels trees) where
+module _ {s : Widths} {n k base table gammas levels coordinates trees : ℕ}
+    (r : CommitRoom s n k base table gammas levels coordinates trees) where
   pub small : n + k ≤ 24
   small = sizes-small n k (r .sizes)
 
@@ -43,8 +44,8 @@ module _ {s : Widths} {n k base table gammas levels trees : ℕ} (r : CommitRoom
   tree-fits bytes e = omega (arith, r .trees-long, tree-within s n k 0 (omega arith))
 
 -- a table that is lent, with any challenges, is within the claim's ranges
-pub deposit-of : {s : Widths} {n k gammas levels trees : ℕ} (base table challenges : List ℕ)
-    → CommitRoom s n k (length base) (length table) gammas levels trees → length challenges ≡ 2 * n → Deposit n k base table challenges
+pub deposit-of : {s : Widths} {n k gammas levels coordinates trees : ℕ} (base table challenges : List ℕ)
+    → CommitRoom s n k (length base) (length table) gammas levels coordinates trees → length challenges ≡ 2 * n → Deposit n k base table challenges
 deposit-of base table challenges r long =
     record {
       n-least = r .sizes .n-least;
@@ -56,25 +57,25 @@ deposit-of base table challenges r long =
     }
 
 -- the claim of it
-pub claim-of : (set : WidthSet) {n k gammas levels trees : ℕ} (base table challenges : List ℕ)
-    → CommitRoom (widthsOf set) n k (length base) (length table) gammas levels trees → length challenges ≡ 2 * n → Claim set n k base table challenges
+pub claim-of : (set : WidthSet) {n k gammas levels coordinates trees : ℕ} (base table challenges : List ℕ)
+    → CommitRoom (widthsOf set) n k (length base) (length table) gammas levels coordinates trees → length challenges ≡ 2 * n → Claim set n k base table challenges
 claim-of set {n} {k} base table challenges r long = claim set n k base table challenges (deposit-of base table challenges r long)
 
 codeword-long : (n k : ℕ) (base table : List ℕ) → length (committedCodeword base n k table) ≡ levelLength n k 0
 unfolding committedCodeword
 codeword-long n k base table = length-encode n k _ table ∙ sym (first-length n k)
 
-module _ (set : WidthSet) {n k gammas levels trees : ℕ} (base table : List ℕ)
-    (r : CommitRoom (widthsOf set) n k (length base) (length table) gammas levels trees) where
+module _ (set : WidthSet) {n k gammas levels coordinates trees : ℕ} (base table : List ℕ)
+    (r : CommitRoom (widthsOf set) n k (length base) (length table) gammas levels coordinates trees) where
   abbrev C : Claim set n k base table (tab (2 * n) (λ v. 0))
   C = claim-of set base table (tab (2 * n) (λ v. 0)) r (length-tab (2 * n) (λ v. 0))
 
   -- committing is not refused
   pub commit-allowed : (size bytes : ℕ) → size ≡ 2 * levelLength n k 0 → bytes ≡ 32 * treeLength (widthsOf set) n k 0
-      → commitNumber (widthsOf set) n k (length base) (length table) gammas size bytes ≡ 0
+      → commitNumber (widthsOf set) n k (length base) (length table) gammas size coordinates bytes ≡ 0
   commit-allowed size bytes es eb =
       let s : size ≡ 2 * length (committedCodeword base n k (words table)) = es ∙ ap (λ (x : ℕ). 2 * x) (sym (codeword-long n k base (words table))) in
-      rw (r .gammas-long, s, eb) (C .commit-done)
+      rw (r .gammas-long, s, r .list-long ∙ sym (length-tab n (λ i. i)), eb) (C .commit-done)
 
   -- and leaves level 0's tree
   pub tree-left : {tree : List ℕ} → tree ≡ committedTree (scheme set base n k) (words table)
@@ -102,22 +103,25 @@ same-behind n k {size} front xs es el =
     ∙ drop-at (words front) _ (levelLength n k 0) (length-words-even front (levelLength n k 0) el)
     ∙ drop-words size xs ∙ ap (λ (i : ℕ). drop i (words xs)) es
 
--- the calls are on the committed codeword, and behind level 0 stands what was there before
-pub calls-left : {n k : ℕ} {c old first : List ℕ} {oldKept : List ℕ} {calls : List Call} {done : ℕ} {levels kept : List ℕ}
-    → levelValues n k first 0 ≡ c → drop (levelLength n k 0) first ≡ drop (levelLength n k 0) old
-    → Left n k (levelValues n k first 0) first oldKept calls done levels kept → Left n k c old oldKept calls done levels kept
-calls-left {n} {k} {c} {old} {first} {oldKept} {calls} {done} {levels} {kept} e b h =
-    let here = subst (λ (x : List ℕ). Left n k x first oldKept calls done levels kept) e h in
+-- the calls are on the committed codeword with its list, and behind level 0 stands what was there before
+pub calls-left : {n k : ℕ} {c : Codeword} {old first list oldKept : List ℕ} {calls : List Call} {done : ℕ} {levels coordinates kept : List ℕ}
+    → levelValues n k first 0 ≡ c .values → list ≡ c .coordinates → drop (levelLength n k 0) first ≡ drop (levelLength n k 0) old
+    → Left n k (record { values = levelValues n k first 0; coordinates = list }) first oldKept calls done levels coordinates kept
+    → Left n k c old oldKept calls done levels coordinates kept
+calls-left {n} {k} {c} {old} {first} {list} {oldKept} {calls} {done} {levels} {coordinates} {kept} e f b h =
+    let same : record { values = levelValues n k first 0; coordinates = list } ≡ c = ap₂ (λ (vs cs : List ℕ). record { values = vs; coordinates = cs }) e f in
+    let here = subst (λ (x : Codeword). Left n k x first oldKept calls done levels coordinates kept) same h in
     let m : ℕ = levelStart n k (suc done) - levelLength n k 0 in
     record {
       count = here .count;
       each = here .each;
       behind = here .behind ∙ behind-more (levelLength n k 0) m (levelStart n k (suc done)) first old (omega (arith, first-before n k done)) b;
+      list-is = here .list-is;
       kept-are = here .kept-are;
     }
 
 -- before any call
-pub after-none : (c : List ℕ) (calls : List Call) → afterFolds c calls 0 ≡ c
+pub after-none : (c : Codeword) (calls : List Call) → afterFolds c calls 0 .values ≡ c .values
 unfolding afterFolds
 after-none c calls = refl
 

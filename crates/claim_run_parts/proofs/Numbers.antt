@@ -3,7 +3,7 @@ use Prim.Native.Nat.{ℕ, suc, _+_, _*_, _^_, _<_, _≤_}
 use mathlib.Core.Path.{_≡_, sym, _∙_, ap}
 use mathlib.Core.List.{List, _++_}
 use borrow.Author.Tests.{eqb-true, leb-true, ltb-true, le-ltb, lt-ltb, le-leb}
-use lib.Dec.{leb, eqb}
+use lib.Dec.{eqb}
 use Rattle.theory_laws.specs.Questions.{pick, Question, firstNo}
 use Rattle.theory_laws.proofs.Questions.{yes-eq, no-eq, yes-eq-given, all-yes, first-stops, first-passes}
 use Rattle.theory_record.specs.Widths.{Widths, levelLength}
@@ -25,12 +25,17 @@ module _ {A : Type 0} (r x y : A) where
 
 pub ruleset asks-twice = (yes-eq-twice, no-eq-twice)
 
--- 5 of the roots, where every other length is right
-pub roots-asked : (s : Widths) (n k gammas levels half kept trees roots : ℕ) {len size bytes r : ℕ} → len ≡ levelsLength n k → size ≡ levelLength n k 0
-    → bytes ≡ 32 * treeStart s n k (suc n) → gammas ≡ 2 * (k * n) → levels ≡ 2 * len → half ≡ size → kept ≡ 2 * n → trees ≡ bytes
-    → r ≡ pick (eqb roots (32 * (n + 1))) 0 5 → r ≡ firstNo (depositQuestions s n k gammas levels half kept trees roots)
-roots-asked s n k gammas levels half kept trees roots {r = r} el es eb a b c d e f =
-    yes-eq r _ _ _ _ a (yes-eq-twice r _ _ _ _ _ el b (yes-eq-given r _ _ _ _ _ es c (yes-eq r _ _ _ _ d (yes-eq-given r _ _ _ _ _ eb e f))))
+-- 5 of the trees and the roots, where every other length is right
+module _ (s : Widths) (n k gammas levels coordinates half kept trees roots : ℕ) {len size r : ℕ} (el : len ≡ levelsLength n k) (es : size ≡ levelLength n k 0)
+    (a : gammas ≡ 2 * (k * n)) (b : levels ≡ 2 * len) (c : coordinates ≡ n) (d : half ≡ size) (e : kept ≡ 2 * n) where
+  pub trees-asked : r ≡ pick (eqb trees (32 * treeStart s n k (suc n))) (pick (eqb roots (32 * (n + 1))) 0 5) 5
+      → r ≡ firstNo (depositQuestions s n k gammas levels coordinates half kept trees roots)
+  trees-asked f =
+      yes-eq r _ _ _ _ a (yes-eq-twice r _ _ _ _ _ el b (yes-eq r _ _ _ _ c (yes-eq-given r _ _ _ _ _ es d (yes-eq r _ _ _ _ e f))))
+
+  pub roots-asked : {bytes : ℕ} → bytes ≡ 32 * treeStart s n k (suc n) → trees ≡ bytes → r ≡ pick (eqb roots (32 * (n + 1))) 0 5
+      → r ≡ firstNo (depositQuestions s n k gammas levels coordinates half kept trees roots)
+  roots-asked eb f g = trees-asked (yes-eq-given r _ _ _ _ _ eb f g)
 
 -- 11, by the length of level 0 as code computes it
 module _ (n k base position : ℕ) {size : ℕ} (low : base ≤ 200) (e : size ≡ levelLength n k 0) where
@@ -43,15 +48,15 @@ module _ (n k base position : ℕ) {size : ℕ} (low : base ≤ 200) (e : size �
   pub in-reach : position < size → 0 ≡ firstNo (lastQuestions n k base position)
   in-reach h = rw (le-leb base 200 low, ← size-is, lt-ltb position size h)
 
-module _ (s : Widths) (n k position base table calls challenges gammas levels half kept trees roots query tail one two : ℕ) where
+module _ (s : Widths) (n k position base table calls challenges gammas levels coordinates half kept trees roots query tail one two : ℕ) where
   abbrev N : ℕ
-  N = runNumber s n k position base table calls challenges gammas levels half kept trees roots query tail one two
+  N = runNumber s n k position base table calls challenges gammas levels coordinates half kept trees roots query tail one two
 
   abbrev fourth : List Question
   fourth = recordQuestions s n k query tail one two ++ lastQuestions n k base position
 
   abbrev third : List Question
-  third = depositQuestions s n k gammas levels half kept trees roots ++ fourth
+  third = depositQuestions s n k gammas levels coordinates half kept trees roots ++ fourth
 
   abbrev second : List Question
   second = inputQuestions n table calls challenges ++ third
@@ -70,16 +75,16 @@ module _ (s : Widths) (n k position base table calls challenges gammas levels ha
       pub no-input : (b ≡ 0 → ⊥) → b ≡ N
       no-input z = past-size b (first-stops (inputQuestions n table calls challenges) third b tt eb z)
 
-      module _ (zb : b ≡ 0) (c : ℕ) (ec : c ≡ firstNo (depositQuestions s n k gammas levels half kept trees roots)) where
+      module _ (zb : b ≡ 0) (c : ℕ) (ec : c ≡ firstNo (depositQuestions s n k gammas levels coordinates half kept trees roots)) where
         past-input : (r : ℕ) → r ≡ firstNo third → r ≡ N
         past-input r f = past-size r (first-passes (inputQuestions n table calls challenges) third b tt eb r zb f)
 
         pub no-deposit : (c ≡ 0 → ⊥) → c ≡ N
-        no-deposit z = past-input c (first-stops (depositQuestions s n k gammas levels half kept trees roots) fourth c tt ec z)
+        no-deposit z = past-input c (first-stops (depositQuestions s n k gammas levels coordinates half kept trees roots) fourth c tt ec z)
 
         module _ (zc : c ≡ 0) (d : ℕ) (ed : d ≡ firstNo (recordQuestions s n k query tail one two)) where
           past-deposit : (r : ℕ) → r ≡ firstNo fourth → r ≡ N
-          past-deposit r f = past-input r (first-passes (depositQuestions s n k gammas levels half kept trees roots) fourth c tt ec r zc f)
+          past-deposit r f = past-input r (first-passes (depositQuestions s n k gammas levels coordinates half kept trees roots) fourth c tt ec r zc f)
 
           pub no-record : (d ≡ 0 → ⊥) → d ≡ N
           no-record z = past-deposit d (first-stops (recordQuestions s n k query tail one two) (lastQuestions n k base position) d tt ed z)
@@ -89,14 +94,14 @@ module _ (s : Widths) (n k position base table calls challenges gammas levels ha
 
   -- where none says no
   module _ {q : ℕ} (e : q ≡ N) (z : q ≡ 0) where
-    pub rooms : Room s n k base table calls challenges gammas levels half kept trees roots × RecordRoom s n k position query tail one two
+    pub rooms : Room s n k base table calls challenges gammas levels coordinates half kept trees roots × RecordRoom s n k position query tail one two
     unfolding runNumber
     rooms =
-        let all = runQuestions s n k position base table calls challenges gammas levels half kept trees roots query tail one two in
+        let all = runQuestions s n k position base table calls challenges gammas levels coordinates half kept trees roots query tail one two in
         let y = sizes-fit n k (all-yes all tt (sym e ∙ z)) in
         let i = y .1 in
         let d = i .1 .1 .1 in
-        let r = d .1 .1 .1 .1 .1 .1 in
+        let r = d .1 .1 .1 .1 .1 .1 .1 in
         let l = r .1 .1 .1 .1 in (
           record {
             commit = record {
@@ -105,12 +110,13 @@ module _ (s : Widths) (n k position base table calls challenges gammas levels ha
               table-long = eqb-true _ _ (i .0);
               gammas-long = eqb-true _ _ (d .0);
               levels-long = eqb-true _ _ (d .1 .0);
-              trees-long = eqb-true _ _ (d .1 .1 .1 .1 .0);
+              list-long = eqb-true _ _ (d .1 .1 .0);
+              trees-long = eqb-true _ _ (d .1 .1 .1 .1 .1 .0);
             };
             calls-lent = record { calls-long = eqb-true _ _ (i .1 .0); challenges-long = eqb-true _ _ (i .1 .1 .0) };
-            half-long = eqb-true _ _ (d .1 .1 .0) ∙ first-length n k;
-            kept-long = eqb-true _ _ (d .1 .1 .1 .0);
-            roots-long = eqb-true _ _ (d .1 .1 .1 .1 .1 .0);
+            half-long = eqb-true _ _ (d .1 .1 .1 .0) ∙ first-length n k;
+            kept-long = eqb-true _ _ (d .1 .1 .1 .1 .0);
+            roots-long = eqb-true _ _ (d .1 .1 .1 .1 .1 .1 .0);
           },
           record {
             position-low = ltb-true _ _ (l .1 .0);

@@ -11,16 +11,16 @@ use Rattle.theory_record.specs.Widths.{Widths, levelLength, treeLength}
 use Rattle.theory_record.specs.Trees.{treesLent, rootsLent}
 use Rattle.theory_record.specs.Build.{levelValues}
 use Rattle.theory_record.specs.Scheme.{scheme}
-use Rattle.theory_claim.specs.Commit.{committedCodeword}
+use Rattle.theory_claim.specs.Commit.{committedInUse}
 use Rattle.claim_fold_calls.specs.Lent.{lentCalls}
 use Rattle.claim_fold_calls.specs.Left.{Left}
 
 -- what committing, the calls and the trees leave, lent the halves `old` for the levels and `oldKept` for the challenges
 
 module _ (set : WidthSet) (n k : ℕ) (base table calls challenges : List ℕ) where
-  pub record Deposited (old oldKept gammas′ levels kept trees roots : List ℕ) (done : ℕ) : Type 0 where
+  pub record Deposited (old oldKept gammas′ levels coordinates kept trees roots : List ℕ) (done : ℕ) : Type 0 where
     pub gammas-are : words gammas′ ≡ gammas hash base n k
-    pub left : Left n k (committedCodeword base n k (words table)) (words old) (words oldKept) (lentCalls calls (words challenges)) done levels kept
+    pub left : Left n k (committedInUse base n k (words table)) (words old) (words oldKept) (lentCalls calls (words challenges)) done levels coordinates kept
     pub trees-are : trees ≡ treesLent (scheme set base n k) (levelValues n k (words levels))
     pub roots-are : roots ≡ rootsLent (scheme set base n k) (levelValues n k (words levels))
 

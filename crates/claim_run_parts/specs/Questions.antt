@@ -10,19 +10,20 @@ use Rattle.theory_record.specs.Query.{sizeQuestions}
 use Rattle.theory_record.specs.Build.{levelsLength, treeStart}
 use Rattle.theory_compare.specs.Compare.{messageBuffer}
 
--- 5: a table of 2^n words; four numbers and a challenge for each call
+-- 5: a table of 2^n words; five numbers and a challenge for each call
 abbrev pub inputQuestions : ℕ → ℕ → ℕ → ℕ → List Question
 inputQuestions n table calls challenges =
     lent table (2 ^ n) ∷
-    (5 asks eqb calls (4 * (calls / 4))) ∷
-    lent challenges (calls / 4) ∷
+    (5 asks eqb calls (5 * (calls / 5))) ∷
+    lent challenges (calls / 5) ∷
     []
 
--- 5: room for the gammas, all levels, a fold of level 0, n challenges, all trees and all roots
-abbrev pub depositQuestions : Widths → ℕ → ℕ → ℕ → ℕ → ℕ → ℕ → ℕ → ℕ → List Question
-depositQuestions s n k gammas levels half kept trees roots =
+-- 5: room for the gammas, all levels, the list of coordinates, a fold of level 0, n challenges, all trees and all roots
+abbrev pub depositQuestions : Widths → ℕ → ℕ → ℕ → ℕ → ℕ → ℕ → ℕ → ℕ → ℕ → List Question
+depositQuestions s n k gammas levels coordinates half kept trees roots =
     lent gammas (k * n) ∷
     lent levels (levelsLength n k) ∷
+    (5 asks eqb coordinates n) ∷
     (5 asks eqb half (levelLength n k 0)) ∷
     lent kept n ∷
     (5 asks eqb trees (32 * treeStart s n k (suc n))) ∷
@@ -46,12 +47,12 @@ lastQuestions n k base position =
     []
 
 -- all of them, after 4
-module _ (s : Widths) (n k position base table calls challenges gammas levels half kept trees roots query tail one two : ℕ) where
+module _ (s : Widths) (n k position base table calls challenges gammas levels coordinates half kept trees roots query tail one two : ℕ) where
   abbrev pub runQuestions : List Question
   runQuestions =
       sizeQuestions n k
       ++ inputQuestions n table calls challenges
-      ++ depositQuestions s n k gammas levels half kept trees roots
+      ++ depositQuestions s n k gammas levels coordinates half kept trees roots
       ++ recordQuestions s n k query tail one two
       ++ lastQuestions n k base position
 

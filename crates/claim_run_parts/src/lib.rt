@@ -32,7 +32,7 @@ ghost use Rattle.compare_records.specs.Answers.{comparison};
 ghost use Rattle.claim_run_parts.specs.Parts.{lastRoot};
 ghost use Rattle.claim_run_parts.specs.helpers.Room.{CommitLent, CommitLeft, DepositLent, DepositLeft, LastRoom, tailLent};
 
-// A table committed: its gammas, level 0 at the front of the levels and level 0's tree at the front of the trees.
+// A table committed: its gammas, level 0 at the front of the levels, its list, and level 0's tree at the front of the trees.
 fn commit_first(
     set: WidthSet,
     n: usize,
@@ -41,10 +41,11 @@ fn commit_first(
     table: &[u64],
     gammas: &mut [u64],
     levels: &mut [u64],
+    coordinates: &mut [usize],
     trees: &mut [u8],
 )
-    requires { ⌜ CommitLent set n k base table gammas levels trees ⌝ }
-    ensures { λ _. ⌜ CommitLeft set n k base table gammas levels trees ⌝ }
+    requires { ⌜ CommitLent set n k base table gammas levels coordinates trees ⌝ }
+    ensures { λ _. ⌜ CommitLeft set n k base table gammas levels coordinates trees ⌝ }
 {
     let size = 2 * level_length(n, k, 0);
     let bytes = tree_bytes(set, n, k, 0);
@@ -56,12 +57,14 @@ fn commit_first(
         table,
         gammas,
         &mut levels[..size],
+        coordinates,
         &mut trees[..bytes],
     );
 }
 
-// A table committed, the calls of a lent list on its codeword, and the trees and roots of all levels: how many calls are done. The challenges of
-// the done ones are kept; `half` is room for a fold and is left with zeros.
+// A table committed, the calls of a lent list on its codeword, and the trees and roots of all levels: how many calls are done. The list that
+// is left stands at the front of `coordinates`, zeros behind it, and the challenges of the done ones are kept; `half` is room for a fold and is left
+// with zeros.
 pub fn deposit(
     set: WidthSet,
     n: usize,
@@ -72,17 +75,18 @@ pub fn deposit(
     challenges: &[u64],
     gammas: &mut [u64],
     levels: &mut [u64],
+    coordinates: &mut [usize],
     half: &mut [u64],
     kept: &mut [u64],
     trees: &mut [u8],
     roots: &mut [u8],
 ) -> usize
-    requires { ⌜ DepositLent set n k base table calls challenges gammas levels half kept trees roots ⌝ }
-    ensures { λ done. ⌜ DepositLeft set n k base table calls challenges gammas levels kept trees roots done ⌝ }
+    requires { ⌜ DepositLent set n k base table calls challenges gammas levels coordinates half kept trees roots ⌝ }
+    ensures { λ done. ⌜ DepositLeft set n k base table calls challenges gammas levels coordinates kept trees roots done ⌝ }
     ensures { λ _. ⌜ now (half .exit) ≡ tab (length (now (half .entry))) (λ v. 0) ⌝ }
 {
-    commit_first(set, n, k, base, table, gammas, levels, trees);
-    let done = fold_calls(n, k, calls, challenges, levels, half, kept);
+    commit_first(set, n, k, base, table, gammas, levels, coordinates, trees);
+    let done = fold_calls(n, k, calls, challenges, levels, coordinates, half, kept);
     level_trees(set, n, k, base, levels, trees, roots);
     done
 }

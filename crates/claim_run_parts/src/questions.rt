@@ -23,34 +23,38 @@ fn input_number(n: usize, table: usize, calls: usize, challenges: usize) -> u32
     if !holds(table, n) {
         return 5;
     }
-    if calls != 4 * (calls / 4) {
+    if calls != 5 * (calls / 5) {
         return 5;
     }
-    if challenges != 2 * (calls / 4) {
+    if challenges != 2 * (calls / 5) {
         return 5;
     }
     0
 }
 
-// 5, of the room for the gammas, the levels, a fold, the challenges, the trees and the roots.
+// 5, of the room for the gammas, the levels, the list of coordinates, a fold, the challenges, the trees and the roots.
 fn deposit_number(
     set: WidthSet,
     n: usize,
     k: usize,
     gammas: usize,
     levels: usize,
+    coordinates: usize,
     half: usize,
     kept: usize,
     trees: usize,
     roots: usize,
 ) -> u32
     requires { ⌜ SizesFit n k ⌝ }
-    ensures { λ r. ⌜ r ≡ firstNo (depositQuestions (widthsOf set) n k gammas levels half kept trees roots) ⌝ }
+    ensures { λ r. ⌜ r ≡ firstNo (depositQuestions (widthsOf set) n k gammas levels coordinates half kept trees roots) ⌝ }
 {
     if gammas != 2 * (k * n) {
         return 5;
     }
     if levels != 2 * levels_length(n, k) {
+        return 5;
+    }
+    if coordinates != n {
         return 5;
     }
     if half != level_length(n, k, 0) {
@@ -122,6 +126,7 @@ pub fn run_number(
     challenges: usize,
     gammas: usize,
     levels: usize,
+    coordinates: usize,
     half: usize,
     kept: usize,
     trees: usize,
@@ -131,7 +136,8 @@ pub fn run_number(
     one: usize,
     two: usize,
 ) -> u32
-    ensures { λ r. ⌜ r ≡ runNumber (widthsOf set) n k position base table calls challenges gammas levels half kept trees roots query tail one two ⌝ }
+    ensures { λ r. ⌜ r ≡ runNumber (widthsOf set) n k position base table calls challenges gammas levels coordinates half kept trees roots
+        query tail one two ⌝ }
 {
     let a = size_number(n, k);
     if a != 0 {
@@ -141,7 +147,18 @@ pub fn run_number(
     if b != 0 {
         return b;
     }
-    let c = deposit_number(set, n, k, gammas, levels, half, kept, trees, roots);
+    let c = deposit_number(
+        set,
+        n,
+        k,
+        gammas,
+        levels,
+        coordinates,
+        half,
+        kept,
+        trees,
+        roots,
+    );
     if c != 0 {
         return c;
     }

@@ -1,21 +1,23 @@
 -- The claim applied to what a run leaves, clause by clause.
 use Prim.Native.Nat.{ℕ, suc, _+_, _-_, _*_, _<_, _≤_}
-use mathlib.Core.Path.{_≡_, refl, sym, _∙_, ap, subst}
+use mathlib.Core.Path.{_≡_, refl, sym, _∙_, ap, ap₂, subst}
 use mathlib.Core.Logic.{inl, inr, ⊎-elim}
 use mathlib.Core.List.{List, [], _∷_, _++_}
 use native.Mathlib.Omega.{arith}
-use lib.ListN.{length, take, drop, getD, length-drop, length-map}
+use lib.ListN.{length, take, drop, getD, length-append, length-drop, length-map}
 use lib.Seq.{take-at, take-all}
-use Rattle.theory_laws.specs.Table.{at}
+use Rattle.theory_laws.specs.Table.{tab, at}
+use Rattle.theory_laws.proofs.Table.{length-tab}
 use Rattle.theory_laws.specs.Lists.{part, flat, Bytes}
 use Rattle.theory_field.specs.Words.{words}
 use Rattle.theory_field.proofs.Words.{length-words-even}
-use Rattle.theory_multilinear.specs.Folds.{Fold, atFirst}
+use Rattle.theory_multilinear.specs.Folds.{Fold, Folds, atFirst}
+use Rattle.theory_multilinear.specs.Codeword.{allCoordinates}
 use Rattle.theory_code.specs.Questions.{foldNumber}
 use Rattle.theory_blake3.proofs.HashMode.{length-hash}
 use Rattle.theory_record.specs.Widths.{Widths, widthsOf, levelLength, treeLength}
 use Rattle.theory_record.specs.Trees.{treeFor, rootFor, levelsLent, treesLent, rootsLent}
-use Rattle.theory_record.specs.Query.{Answer, accepted, rootAt, checkQuery}
+use Rattle.theory_record.specs.Query.{Answer, rootAt, checkQuery}
 use Rattle.theory_record.specs.Tail.{checkTail}
 use Rattle.theory_record.specs.Build.{levelsLength, levelValues, buildQuery, buildTail}
 use Rattle.theory_record.specs.Scheme.{Scheme, scheme}
@@ -25,20 +27,22 @@ use Rattle.theory_record.proofs.Totals.{endToEnd-ext, part-endToEnd, total-same
 use Rattle.theory_record.proofs.Offsets.{level-within, tree-within, length-levelValues}
 use Rattle.theory_record.proofs.Accepted.{length-rootFor}
 use Rattle.theory_compare.specs.Compare.{Comparison, compared, firstMessage, secondMessage}
-use Rattle.theory_claim.specs.Calls.{Call, callNumber, doneFolds, afterFolds}
+use Rattle.theory_claim.specs.Calls.{Codeword, Call, callNumber, doneFolds, afterFolds, leftBy}
 use Rattle.theory_claim.specs.Claim.{Lent, LastLent, After, Outcome, Claim}
+use Rattle.theory_claim.specs.Claim as P
+use Rattle.theory_claim.proofs.Calls.{after-all}
 use Rattle.theory_claim.proofs.Lent as L
 use Rattle.code_levels.proofs.Laying.{levels-laid}
 use Rattle.claim_fold_calls.specs.Left.{challengesOf}
 use Rattle.claim_whole_run.specs.Whole as whole
 use Rattle.claim_run_parts.specs.Parts.{Deposited, lastLevel, lastTree, lastRoot}
-use Rattle.claim_whole_run.specs.Whole.{Given, Buffers, Claimed, AfterCalls}
+use Rattle.claim_whole_run.specs.Whole.{Given, Buffers, PartWay, Claimed, AfterCalls}
 use Rattle.claim_run_parts.specs.helpers.Room.{Room, RecordRoom, LastRoom}
 use Rattle.claim_run_parts.proofs.Deposits.{deposit-of, claim-of}
 
 -- room for the last level, its tree and its root
-pub last-room : {s : Widths} {n k base table calls challenges gammas levels half kept trees roots : ℕ}
-    → Room s n k base table calls challenges gammas levels half kept trees roots → LastRoom s n k levels trees roots
+pub last-room : {s : Widths} {n k base table calls challenges gammas levels coordinates half kept trees roots : ℕ}
+    → Room s n k base table calls challenges gammas levels coordinates half kept trees roots → LastRoom s n k levels trees roots
 last-room {s} {n} {k} r =
     record {
       small = sizes-small n k (r .commit .sizes);
@@ -48,10 +52,11 @@ last-room {s} {n} {k} r =
     }
 
 -- lengths that a step kept
-pub room-same : {s : Widths} {n k base table calls challenges gammas levels half kept trees roots levels′ kept′ trees′ roots′ : ℕ}
-    → Room s n k base table calls challenges gammas levels half kept trees roots → levels′ ≡ levels → kept′ ≡ kept → trees′ ≡ trees → roots′ ≡ roots
-    → Room s n k base table calls challenges gammas levels′ half kept′ trees′ roots′
-room-same r el ek et er = rw (el, ek, et, er) r
+pub room-same : {s : Widths} {n k base table calls challenges gammas levels coordinates half kept trees roots levels′ coordinates′ kept′ trees′ roots′ : ℕ}
+    → Room s n k base table calls challenges gammas levels coordinates half kept trees roots
+    → levels′ ≡ levels → coordinates′ ≡ coordinates → kept′ ≡ kept → trees′ ≡ trees → roots′ ≡ roots
+    → Room s n k base table calls challenges gammas levels′ coordinates′ half kept′ trees′ roots′
+room-same r el ec ek et er = rw (el, ec, ek, et, er) r
 
 -- the challenges of folds at variable 0
 challenges-first : (r : List ℕ) → challengesOf (atFirst r) ≡ r
@@ -60,11 +65,12 @@ challenges-first (x ∷ r) = ap (λ (rs : List ℕ). x ∷ rs) (challenges-first
 
 module _ (G : Given) (old new : Buffers) (h done : ℕ)
     (room : Room (widthsOf (G .set)) (G .n) (G .k) (length (G .base)) (length (G .table)) (length (G .calls)) (length (G .challenges))
-    (length (old .gammas)) (length (new .levels)) h (length (new .kept)) (length (new .trees)) (length (new .roots)))
-    (d : Deposited (G .set) (G .n) (G .k) (G .base) (G .table) (G .calls) (G .challenges) (old .levels) (old .kept) (new .gammas) (new .levels) (new .kept)
-    (new .trees) (new .roots) done) where
+    (length (old .gammas)) (length (new .levels)) (length (new .coordinates)) h (length (new .kept)) (length (new .trees)) (length (new .roots)))
+    (old-list : length (old .coordinates) ≡ G .n)
+    (d : Deposited (G .set) (G .n) (G .k) (G .base) (G .table) (G .calls) (G .challenges) (old .levels) (old .kept) (new .gammas) (new .levels)
+    (new .coordinates) (new .kept) (new .trees) (new .roots) done) where
   open Given G using (set, n, k, position, base, table)
-  open Buffers new using (levels, kept, trees, roots)
+  open Buffers new using (levels, coordinates, kept, trees, roots)
 
   abbrev s : Widths
   s = widthsOf set
@@ -72,7 +78,7 @@ module _ (G : Given) (old new : Buffers) (h done : ℕ)
   abbrev S : Scheme
   S = scheme set base n k
 
-  abbrev c : List ℕ
+  abbrev c : Codeword
   c = whole.codeword G
 
   abbrev xs : List Call
@@ -92,10 +98,55 @@ module _ (G : Given) (old new : Buffers) (h done : ℕ)
   length-values l g = length-levelValues n k l (words levels) g words-long
 
   -- the fold of a level by the challenge that is kept for it
-  pub fold-done : (l : ℕ) → l < n → callNumber (values l) (whole.keptCall G old new l) ≡ 0
+  pub fold-done : (l : ℕ) → l < n → callNumber (whole.inUse G old new l) (whole.keptCall G old new l) ≡ 0
   unfolding callNumber
   fold-done l g =
-      ap (λ (m : ℕ). foldNumber (n - l) k 0 (2 * m) (2 * levelLength n k (suc l))) (length-values l (omega arith)) ∙ theorem .fold-done l g
+      ap (λ (m : ℕ). foldNumber (n - l) k n 0 (drop l (allCoordinates n)) (2 * m) (2 * levelLength n k (suc l))) (length-values l (omega arith))
+      ∙ theorem .fold-done l g
+
+  -- ---- after any calls
+
+  abbrev fs : List Fold
+  fs = doneFolds c xs
+
+  abbrev left : Codeword
+  left = leftBy c xs
+
+  part-way : P.PartWay set n k base table kept xs
+  part-way = theorem .part-way xs
+
+  -- the coordinates that are left and the folds that were done are n
+  left-long : length (left .coordinates) ≡ n - done
+  left-long =
+      omega (
+        arith,
+        room .commit .list-long,
+        ap length (d .left .list-is) ∙ length-append (left .coordinates) (tab done (λ v. 0)),
+        length-tab done (λ v. 0),
+      )
+
+  -- the codeword that is left, in the buffers
+  values-left : values done ≡ left .values
+  values-left =
+      d .left .each done (omega arith) ∙ ap (λ (l : ℕ). afterFolds c xs l .values) (d .left .count) ∙ ap (λ (x : Codeword). x .values) (after-all xs c)
+
+  list-left : take (n - done) coordinates ≡ left .coordinates
+  list-left = ap (take (n - done)) (d .left .list-is) ∙ take-at (left .coordinates) (tab done (λ v. 0)) (n - done) left-long
+
+  left-is : left ≡ record { values = values done; coordinates = take (n - done) coordinates }
+  left-is = ap₂ (λ (vs cs : List ℕ). record { values = vs; coordinates = cs }) (sym values-left) (sym list-left)
+
+  pub part-way-left : PartWay G old new done
+  part-way-left =
+      record {
+        count = d .left .count;
+        folds-done = subst (λ (m : ℕ). Folds n m fs) left-long (part-way .folds-done);
+        list-is = d .left .list-is ∙ ap (λ (cs : List ℕ). cs ++ tab done (λ v. 0)) (part-way .list-is);
+        left-is = left-is;
+        entry = rw (values-left, list-left, ← left-long) (part-way .entry);
+        shift-done = rw (list-left, ← left-long) (part-way .shift-done);
+        next-done = rw (list-left, ← left-long) (part-way .next-done);
+      }
 
   -- the root of a level
   root-at : (l : ℕ) → l ≤ n → rootAt roots l ≡ rootFor S l (values l)
@@ -123,7 +174,7 @@ module _ (G : Given) (old new : Buffers) (h done : ℕ)
 
   module _ (all-first : doneFolds c xs ≡ atFirst (words kept)) where
     abbrev level : ℕ → List ℕ
-    level = afterFolds c xs
+    level l = afterFolds c xs l .values
 
     after : After set n k base table kept xs
     after = theorem .after-calls xs all-first
@@ -133,7 +184,7 @@ module _ (G : Given) (old new : Buffers) (h done : ℕ)
         ap length all-first ∙ length-map (words kept) (λ (x : ℕ). record { var = 0; by = x }) ∙ length-words-even kept n (room .kept-long)
 
     all-done : done ≡ n
-    all-done = d .left .count ∙ ap length (take-all n (doneFolds c xs) (omega (arith, first-long))) ∙ first-long
+    all-done = d .left .count ∙ first-long
 
     each : (l : ℕ) → l ≤ n → values l ≡ level l
     each l g = d .left .each l (omega (arith, all-done))
@@ -165,6 +216,7 @@ module _ (G : Given) (old new : Buffers) (h done : ℕ)
         record {
           kept-are = refl;
           level-long = λ l g. ap length (each all-first l g) ∙ after all-first .level-long l g;
+          level-list = after all-first .level-list;
           last-left = after all-first .last-left ∙ sym (each all-first n (omega arith));
           last-entry = λ eps low. ap (λ (ws : List ℕ). at ws eps) (each all-first n (omega arith)) ∙ after all-first .last-entry eps low;
           query-accepted =
@@ -176,10 +228,8 @@ module _ (G : Given) (old new : Buffers) (h done : ℕ)
     -- what is kept is r, all of it
     kept-is : (r : List ℕ) → length r ≡ n → doneFolds c xs ≡ atFirst r → words kept ≡ r
     kept-is r long all-first =
-        let f : length (doneFolds c xs) ≡ n = ap length all-first ∙ length-map r (λ (x : ℕ). record { var = 0; by = x }) ∙ long in
-        let t : take n (doneFolds c xs) ≡ atFirst r = take-all n (doneFolds c xs) (omega (arith, f)) ∙ all-first in
         let e : words kept ≡ r ++ drop done (words (old .kept)) =
-        d .left .kept-are ∙ ap (λ (fs : List Fold). challengesOf fs ++ drop done (words (old .kept))) t
+        d .left .kept-are ∙ ap (λ (fs : List Fold). challengesOf fs ++ drop done (words (old .kept))) all-first
         ∙ ap (λ (rs : List ℕ). rs ++ drop done (words (old .kept))) (challenges-first r) in
         sym (take-all n (words kept) (omega (arith, length-words-even kept n (room .kept-long)))) ∙ ap (take n) e
         ∙ take-at r (drop done (words (old .kept))) n long
@@ -211,10 +261,10 @@ module _ (G : Given) (old new : Buffers) (h done : ℕ)
             }),
           ))
 
-      pub claimed-by : Bytes (new .query) → Bytes (new .tail) → Bytes (G .first) → Bytes (G .second) → Claimed G old new query tail found
+      pub claimed-by : Bytes (new .query) → Bytes (new .tail) → Bytes (G .first) → Bytes (G .second) → Claimed G old new done query tail found
       claimed-by bq bt bu bv =
           record {
-            commit-done = rw (room .commit .gammas-long) (theorem .commit-done);
+            commit-done = rw (room .commit .gammas-long, old-list ∙ sym (length-tab n (λ i. i))) (theorem .commit-done);
             fold-done = fold-done;
             tree-done = theorem .tree-done;
             root-last = root-last;
@@ -222,8 +272,10 @@ module _ (G : Given) (old new : Buffers) (h done : ℕ)
                 theorem .query-done levels trees (old .query) position (room .commit .levels-long) (room .commit .trees-long) (q .query-long) (q .position-low);
             tail-done = theorem .tail-done (lastLevel n k levels) (lastTree s n k trees) (old .tail) last-long last-tree-long (q .tail-long);
             calls-exist = theorem .calls-exist;
+            any-folds = theorem .any-folds;
             refused-among = λ before after x e z. ap (doneFolds c) e ∙ theorem .refused-among before after x z;
-            refused-exist = λ l. theorem .refused-exist (values l);
+            refused-exist = λ l. theorem .refused-exist (whole.inUse G old new l);
+            part-way = part-way-left;
             after-calls = after-calls;
             query-exactly = rw answer-is (theorem .query-exactly position kept roots (new .query) bq);
             first-exactly = theorem .query-exactly position kept roots (G .first) bu;

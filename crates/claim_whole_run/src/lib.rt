@@ -39,6 +39,7 @@ fn made(
     second: &[u8],
     gammas: &mut [u64],
     levels: &mut [u64],
+    coordinates: &mut [usize],
     half: &mut [u64],
     kept: &mut [u64],
     trees: &mut [u8],
@@ -48,9 +49,10 @@ fn made(
     one: &mut [u8],
     two: &mut [u8],
 ) -> Answers
-    requires { ⌜ DepositLent set n k base table calls challenges gammas levels half kept trees roots × RecordLent set n k position query tail one two ⌝ }
+    requires { ⌜ DepositLent set n k base table calls challenges gammas levels coordinates half kept trees roots
+        × RecordLent set n k position query tail one two ⌝ }
     ensures { λ r. ⌜ RunDone (given set n k position (word claim) base table calls challenges first second)
-        (buffers gammas levels half kept trees roots query tail one two) r ⌝ }
+        (buffers gammas levels coordinates half kept trees roots query tail one two) r ⌝ }
 {
     let done = deposit(
         set,
@@ -62,6 +64,7 @@ fn made(
         challenges,
         gammas,
         levels,
+        coordinates,
         half,
         kept,
         trees,
@@ -91,10 +94,11 @@ fn made(
     }
 }
 
-// The whole run under one set of widths: a table committed, the calls of a lent list on its codeword, the levels' trees and roots, the query record
-// at a position and the tail record, built and checked, the tail's for a claim, and two lent records for that position compared under the kept
-// challenges and the roots. Where the done calls are n folds at variable 0 by r, the query record is accepted, and the tail record exactly for the
-// claim P(r). It refuses with 4, 5, 7 and 11, and then changes no lent byte.
+// The whole run under one set of widths: a table committed, the calls of a lent list on its codeword with its list of coordinates, the levels'
+// trees and roots, the query record at a position and the tail record, built and checked, the tail's for a claim, and two lent records for that
+// position compared under the kept challenges and the roots. What any calls leave is settled, the codeword block by block. Where the done calls are
+// n folds at variable 0 by r, the query record is accepted, and the tail record exactly for the claim P(r). It refuses with 4, 5, 7 and 11, and then
+// changes no lent byte.
 pub fn run(
     set: WidthSet,
     n: usize,
@@ -109,6 +113,7 @@ pub fn run(
     second: &[u8],
     gammas: &mut [u64],
     levels: &mut [u64],
+    coordinates: &mut [usize],
     half: &mut [u64],
     kept: &mut [u64],
     trees: &mut [u8],
@@ -119,7 +124,7 @@ pub fn run(
     two: &mut [u8],
 ) -> Answers
     ensures { λ r. ⌜ RunLeft (given set n k position (word claim) base table calls challenges first second)
-        (buffers gammas levels half kept trees roots query tail one two) r ⌝ }
+        (buffers gammas levels coordinates half kept trees roots query tail one two) r ⌝ }
 {
     let number = run_number(
         set,
@@ -132,6 +137,7 @@ pub fn run(
         challenges.len(),
         gammas.len(),
         levels.len(),
+        coordinates.len(),
         half.len(),
         kept.len(),
         trees.len(),
@@ -171,6 +177,7 @@ pub fn run(
         second,
         gammas,
         levels,
+        coordinates,
         half,
         kept,
         trees,

@@ -1,20 +1,34 @@
 -- Sizes and lengths: what the questions, all answered yes, say of them, and that what is computed of them fits.
 use mathlib.Core.Path.{_≡_, sym, ap, _∙_}
+use mathlib.Core.Bool.{true}
 use mathlib.Core.List.{List, [], _∷_}
 use Prim.Native.Nat.{ℕ, zero, suc, _+_, _-_, _*_, _/_, _^_, _≤_, _<_}
 use native.Mathlib.Nat.{mul-le-mul, pow-suc}
 use native.Mathlib.Omega.{arith}
 use lib.Arith.{digits-lt}
-use lib.Dec.{ltb}
+use lib.Dec.{eqb}
+use lib.ListN.{length}
 use lib.Pow.{pow-mono}
-use borrow.Author.Tests.{leb-true, ltb-true, eqb-true, le-leb, lt-ltb, eq-eqb}
+use borrow.Author.Tests.{leb-true, ltb-true, eqb-true, le-leb, eq-eqb}
 use Rattle.theory_laws.proofs.Questions.{all-yes}
-use Rattle.theory_laws.specs.Questions.{_asks_, onDone}
+use Rattle.theory_laws.specs.Questions.{both, onDone}
+use Rattle.theory_laws.proofs.Lists.{both-true}
 use Rattle.field_runs.specs.Runs.{Paired}
 use Rattle.code_codeword.specs.declared.Folded.{Folded}
-use Rattle.code_codeword.specs.Answers.{foldedOf}
-use Rattle.theory_code.specs.Questions.{sized, lent, shiftNumber, encodeNumber, foldNumber}
-use Rattle.code_codeword.specs.helpers.Sizes.{ShiftSizes, EncodeSizes}
+use Rattle.theory_code.specs.Questions.{
+  sized,
+  lent,
+  encodeNumber,
+  rising,
+  shiftQuestions,
+  shiftNumber,
+  foldQuestions,
+  foldNumber,
+  earlierQuestions,
+  earlierNumber,
+}
+use Rattle.theory_code.proofs.Rising.{rising-below}
+use Rattle.code_codeword.specs.helpers.Sizes.{ShiftSizes, EncodeSizes, Below}
 
 pub gammas-fit : {n k : ℕ} → n ≤ 20 → k ≤ 4 → k * n ≤ 80
 gammas-fit hn hk = mul-le-mul hk hn
@@ -38,13 +52,34 @@ has-bit (suc m) i halves h e = record { m = m; has = omega arith; size = e }
 
 -- ---- where no question said no
 
-pub shift-sizes : (n k gammas out number : ℕ) → number ≡ shiftNumber n k gammas out → number ≡ 0 → ShiftSizes n k gammas × (out ≡ 2 * n)
+-- a list that holds what it should: n numbers, each below the original n
+pub record ListSizes (n original : ℕ) (coordinates : List ℕ) : Type 0 where
+  pub long : length coordinates ≡ n
+  pub below : Below original coordinates
+
+list-sizes : (n original : ℕ) (coordinates : List ℕ) → both (eqb (length coordinates) n) (rising 0 original coordinates) ≡ true → ListSizes n original coordinates
+list-sizes n original coordinates e =
+    let h = both-true (eqb (length coordinates) n) (rising 0 original coordinates) e in
+    record { long = eqb-true (length coordinates) n (h .0); below = rising-below 0 original coordinates (h .1) }
+
+pub shift-sizes : (n k original : ℕ) (coordinates : List ℕ) (gammas out number : ℕ) → number ≡ shiftNumber n k original coordinates gammas out → number ≡ 0
+    → ShiftSizes original k gammas × Below original coordinates × (out ≡ 2 * length coordinates)
 unfolding shiftNumber
-shift-sizes n k gammas out number e z =
-    let y = all-yes (sized n k (lent gammas (k * n) ∷ lent out n ∷ [])) tt (sym e ∙ z) in (
-      record { n≤ = leb-true n 20 (y .0); k≤ = leb-true k 4 (y .1 .0); gammas= = eqb-true gammas (2 * (k * n)) (y .1 .1 .0) },
-      eqb-true out (2 * n) (y .1 .1 .1 .0),
+shift-sizes n k original coordinates gammas out number e z =
+    let y = all-yes (shiftQuestions n k original coordinates gammas out) tt (sym e ∙ z) in
+    let l = list-sizes n original coordinates (y .1 .1 .1 .1 .1 .0) in (
+      record { n≤ = leb-true original 20 (y .1 .1 .0); k≤ = leb-true k 4 (y .1 .0); gammas= = eqb-true gammas (2 * (k * original)) (y .1 .1 .1 .0) },
+      l .below,
+      eqb-true out (2 * n) (y .1 .1 .1 .1 .0) ∙ ap (λ (m : ℕ). 2 * m) (sym (l .long)),
     )
+
+-- where the earlier reading is not refused, the list has n entries
+pub earlier-long : (n k original : ℕ) (coordinates : List ℕ) (number : ℕ) → number ≡ earlierNumber n k original coordinates → number ≡ 0
+    → length coordinates ≡ n
+unfolding earlierNumber
+earlier-long n k original coordinates number e z =
+    let y = all-yes (earlierQuestions n k original coordinates) tt (sym e ∙ z) in
+    list-sizes n original coordinates (y .1 .1 .1 .0) .long
 
 pub encode-sizes : (n k table gammas out number : ℕ) → number ≡ encodeNumber n k table gammas out → number ≡ 0
     → EncodeSizes n k table gammas × (out ≡ 2 * 2 ^ (n + k))
@@ -58,21 +93,28 @@ encode-sizes n k table gammas out number e z =
       eqb-true out (2 * 2 ^ (n + k)) (y .1 .1 .1 .1 .0),
     )
 
--- what a fold that is not refused has: a variable, and a codeword whose places have its bit
-pub record FoldSizes (n var src out : ℕ) : Type 0 where
+-- what a fold that is not refused has: a variable, with its entry in the list, and a codeword whose places have its bit
+pub record FoldSizes (n var : ℕ) (coordinates : List ℕ) (src out : ℕ) : Type 0 where
   pub below : var < n
+  pub list-long : length coordinates ≡ n
   pub paired : Paired var src
   pub halved : src ≡ 2 * out
 
-pub fold-sizes : (n k var src out number : ℕ) → number ≡ foldNumber n k var src out → number ≡ 0 → FoldSizes n var src out
+pub fold-sizes : (n k original var : ℕ) (coordinates : List ℕ) (src out number : ℕ) → number ≡ foldNumber n k original var coordinates src out → number ≡ 0
+    → FoldSizes n var coordinates src out
 unfolding foldNumber
-fold-sizes n k var src out number e z =
-    let y = all-yes (sized n k (lent src (2 ^ (n + k)) ∷ lent out (2 ^ (n + k) / 2) ∷ (6 asks ltb var n) ∷ [])) tt (sym e ∙ z) in
-    let h = ltb-true var n (y .1 .1 .1 .1 .0) in
+fold-sizes n k original var coordinates src out number e z =
+    let y = all-yes (foldQuestions n k original var coordinates src out) tt (sym e ∙ z) in
+    let h = ltb-true var n (y .1 .1 .1 .1 .1 .1 .0) in
     let p = pow-halved (n + k) (omega arith) in
-    let es = eqb-true src (2 * 2 ^ (n + k)) (y .1 .1 .0) in
-    let eo = eqb-true out (2 * (2 ^ (n + k) / 2)) (y .1 .1 .1 .0) in
-    record { below = h; paired = has-bit (n + k) var src (omega arith) es; halved = omega arith }
+    let es = eqb-true src (2 * 2 ^ (n + k)) (y .1 .1 .1 .0) in
+    let eo = eqb-true out (2 * (2 ^ (n + k) / 2)) (y .1 .1 .1 .1 .0) in
+    record {
+      below = h;
+      list-long = list-sizes n original coordinates (y .1 .1 .1 .1 .1 .0) .long;
+      paired = has-bit (n + k) var src (omega arith) es;
+      halved = omega arith;
+    }
 
 -- the answers of a refused fold
 pub refused-same : (p q : ℕ) → p ≡ q → _≡_ {A = Folded} (record { number = p; n = 0 }) (record { number = q; n = 0 })
@@ -91,19 +133,8 @@ encode-accepts n k table gammas out z e =
       eq-eqb out (2 * 2 ^ (n + k)) e,
     )
 
-pub fold-accepts : (n k var src out : ℕ) → n ≤ 20 → k ≤ 4 → src ≡ 2 * 2 ^ (n + k) → out ≡ 2 ^ (n + k) → var < n → foldNumber n k var src out ≡ 0
-unfolding foldNumber
-fold-accepts n k var src out hn hk es eo h =
-    let p = pow-halved (n + k) (omega arith) in
-    rw (le-leb n 20 hn, le-leb k 4 hk, eq-eqb src (2 * 2 ^ (n + k)) es, eq-eqb out (2 * (2 ^ (n + k) / 2)) (omega arith), lt-ltb var n h)
-
 -- so that the work is done
 pub encode-done : (n k table gammas out number : ℕ) (x y : List ℕ) → number ≡ encodeNumber n k table gammas out
     → EncodeSizes n k table gammas → out ≡ 2 * 2 ^ (n + k) → onDone number x y ≡ x
 encode-done n k table gammas out number x y e z h =
     ap (λ (q : ℕ). onDone q x y) (e ∙ encode-accepts n k table gammas out z h)
-
-pub fold-done : (n k var src out : ℕ) (a : Folded) (x y : List ℕ) → a ≡ foldedOf n (foldNumber n k var src out)
-    → n ≤ 20 → k ≤ 4 → src ≡ 2 * 2 ^ (n + k) → out ≡ 2 ^ (n + k) → var < n → onDone (a .number) x y ≡ x
-fold-done n k var src out a x y e hn hk es eo h =
-    ap (λ (b : Folded). onDone (b .number) x y) (e ∙ ap (foldedOf n) (fold-accepts n k var src out hn hk es eo h))

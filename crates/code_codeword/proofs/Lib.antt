@@ -1,3 +1,4 @@
 pub mod Lengths
 pub mod Shift
 pub mod Blocks
+pub mod Lists

@@ -9,14 +9,18 @@ ghost use Rattle.theory_field.specs.Words.{words};
 ghost use Rattle.field_gf128.specs.Word.{word};
 ghost use Rattle.theory_multilinear.specs.Fold.{foldList};
 ghost use Rattle.theory_multilinear.specs.Codeword as C;
-ghost use Rattle.theory_code.specs.Questions.{shiftNumber, encodeNumber, foldNumber};
-ghost use Rattle.code_codeword.specs.Answers.{blockOf, encodedOf, foldedOf};
-ghost use Rattle.code_codeword.specs.helpers.Sizes.{ShiftSizes, EncodeSizes};
+ghost use Rattle.theory_code.specs.Questions.{encodeNumber, shiftNumber, foldNumber, earlierNumber};
+ghost use Rattle.code_codeword.specs.Answers.{blockOf, encodedOf, foldedOf, droppedOf};
+ghost use Rattle.code_codeword.specs.helpers.Sizes.{ShiftSizes, EncodeSizes, Below};
 ghost use Rattle.code_codeword.specs.helpers.Shifted.{Passes};
 
+pub mod coordinates;
 pub mod folding;
 pub mod sizes;
 
+use coordinates::all_coordinates;
+use coordinates::are_unfolded;
+use coordinates::drop_coordinate;
 use field_gf128::Word;
 use field_words::copy;
 use folding::fold_within;
@@ -43,8 +47,15 @@ pub fn coordinate(n: usize, k: usize, eps: usize, gammas: &[u64], i: usize) -> W
 }
 
 // The number that `l_of` answers.
-fn l_of_number(n: usize, k: usize, gammas: usize, out: usize) -> u32
-    ensures { λ r. ⌜ r ≡ shiftNumber n k gammas out ⌝ }
+fn l_of_number(
+    n: usize,
+    k: usize,
+    original: usize,
+    coordinates: &[usize],
+    gammas: usize,
+    out: usize,
+) -> u32
+    ensures { λ r. ⌜ r ≡ shiftNumber n k original (now (coordinates .entry)) gammas out ⌝ }
 {
     if n > 20 {
         return 4;
@@ -52,39 +63,96 @@ fn l_of_number(n: usize, k: usize, gammas: usize, out: usize) -> u32
     if k > 4 {
         return 4;
     }
-    if gammas != 2 * (k * n) {
+    if original > 20 {
+        return 4;
+    }
+    if gammas != 2 * (k * original) {
         return 5;
     }
     if out != 2 * n {
         return 5;
     }
+    if !are_unfolded(n, original, coordinates) {
+        return 36;
+    }
     0
 }
 
-// L(eps), once the questions are answered.
-fn coordinates(n: usize, k: usize, eps: usize, gammas: &[u64], out: &mut [u64])
-    requires { ⌜ ShiftSizes n k (length (now gammas)) × (length (now out) ≡ 2 * n) ⌝ }
-    ensures { λ _. ⌜ words (now (out .exit)) ≡ C.shift n k (words (now (gammas .entry))) eps ⌝ }
+// L(eps) at a list of coordinates, once the questions are answered.
+fn shift_over(
+    original: usize,
+    k: usize,
+    eps: usize,
+    coordinates: &[usize],
+    gammas: &[u64],
+    out: &mut [u64],
+)
+    requires { ⌜ ShiftSizes original k (length (now gammas)) × Below original (now coordinates) × (length (now out) ≡ 2 * length (now coordinates)) ⌝ }
+    ensures { λ _. ⌜ words (now (out .exit)) ≡ C.shiftOver original k (words (now (gammas .entry))) (now (coordinates .entry)) eps ⌝ }
 {
     let mut i = 0;
-    while i < n {
-        let d = coordinate(n, k, eps, gammas, i);
+    while i < coordinates.len() {
+        let d = coordinate(original, k, eps, gammas, coordinates[i]);
         field_words::put(out, i, d);
         i += 1;
     }
 }
 
-// L(eps), a point of n coordinates, of k × n gammas lent with j outer: of a codeword folded part way, the first n of each row. It
-// refuses n past 20 or k past 4 with 4, and lengths that are not theirs with 5.
-pub fn l_of(n: usize, k: usize, eps: usize, gammas: &[u64], out: &mut [u64]) -> u32
-    ensures { λ r. ⌜ r ≡ shiftNumber n k (length (now (gammas .entry))) (length (now (out .entry))) ⌝ }
-    ensures { λ r. ⌜ words (now (out .exit)) ≡ onDone r (C.shift n k (words (now (gammas .entry))) eps) (words (now (out .entry))) ⌝ }
+// L(eps) of a codeword in use, a point of n coordinates, of k × n gammas for the original n, lent with j outer: its coordinates at those of the
+// list, which are not folded away. It refuses n or an original n past 20 or k past 4 with 4, lengths that are not theirs with 5, and a list that does not
+// hold exactly n strictly rising numbers below the original n with 36.
+pub fn l_of(
+    n: usize,
+    k: usize,
+    original: usize,
+    eps: usize,
+    coordinates: &[usize],
+    gammas: &[u64],
+    out: &mut [u64],
+) -> u32
+    ensures { λ r. ⌜ r ≡ shiftNumber n k original (now (coordinates .entry)) (length (now (gammas .entry))) (length (now (out .entry))) ⌝ }
+    ensures { λ r. ⌜ words (now (out .exit))
+        ≡ onDone r (C.shiftOver original k (words (now (gammas .entry))) (now (coordinates .entry)) eps) (words (now (out .entry))) ⌝ }
 {
-    let number = l_of_number(n, k, gammas.len(), out.len());
+    let number = l_of_number(n, k, original, coordinates, gammas.len(), out.len());
     if number != 0 {
         return number;
     }
-    coordinates(n, k, eps, gammas, out);
+    shift_over(original, k, eps, coordinates, gammas, out);
+    0
+}
+
+// The number that `earlier_reading` answers.
+fn earlier_number(n: usize, k: usize, original: usize, coordinates: &[usize]) -> u32
+    ensures { λ r. ⌜ r ≡ earlierNumber n k original (now (coordinates .entry)) ⌝ }
+{
+    if n > 20 {
+        return 4;
+    }
+    if k > 4 {
+        return 4;
+    }
+    if original > 20 {
+        return 4;
+    }
+    if !are_unfolded(n, original, coordinates) {
+        return 36;
+    }
+    0
+}
+
+// A codeword in use as it was read earlier, and as the Rust reads it: its list becomes 0 to n - 1, whichever variables were folded away, and all else
+// stays. There is no way back. It refuses n or an original n past 20 or k past 4 with 4, and a list that does not hold exactly n strictly rising
+// numbers below the original n with 36.
+pub fn earlier_reading(n: usize, k: usize, original: usize, coordinates: &mut [usize]) -> u32
+    ensures { λ r. ⌜ r ≡ earlierNumber n k original (now (coordinates .entry)) ⌝ }
+    ensures { λ r. ⌜ now (coordinates .exit) ≡ onDone r (C.allCoordinates n) (now (coordinates .entry)) ⌝ }
+{
+    let number = earlier_number(n, k, original, coordinates);
+    if number != 0 {
+        return number;
+    }
+    all_coordinates(coordinates);
     0
 }
 
@@ -218,13 +286,24 @@ pub struct Folded {
 }
 
 // The number that `fold` answers.
-fn fold_number(n: usize, k: usize, var: usize, src: usize, out: usize) -> u32
-    ensures { λ r. ⌜ r ≡ foldNumber n k var src out ⌝ }
+fn fold_number(
+    n: usize,
+    k: usize,
+    original: usize,
+    var: usize,
+    coordinates: &[usize],
+    src: usize,
+    out: usize,
+) -> u32
+    ensures { λ r. ⌜ r ≡ foldNumber n k original var (now (coordinates .entry)) src out ⌝ }
 {
     if n > 20 {
         return 4;
     }
     if k > 4 {
+        return 4;
+    }
+    if original > 20 {
         return 4;
     }
     if !holds(src, n + k) {
@@ -233,26 +312,41 @@ fn fold_number(n: usize, k: usize, var: usize, src: usize, out: usize) -> u32
     if !holds_half(out, n + k) {
         return 5;
     }
+    if !are_unfolded(n, original, coordinates) {
+        return 36;
+    }
     if var >= n {
         return 6;
     }
     0
 }
 
-// The codeword folded at a variable by r, into a buffer of half its length: a + r × (a + b) for each pair of places that differ in
-// bit var. The new n is n - 1. It refuses n past 20 or k past 4 with 4, lengths that are not theirs with 5, and a variable that is
-// not below n with 6.
-pub fn fold(n: usize, k: usize, var: usize, r: Word, src: &[u64], out: &mut [u64]) -> Folded
-    ensures { λ a. ⌜ a ≡ foldedOf n (foldNumber n k var (length (now (src .entry))) (length (now (out .entry)))) ⌝ }
+// A codeword in use folded at a variable by r, into a buffer of half its length: a + r × (a + b) for each pair of places that differ in
+// bit var. The new n is n - 1, and the list is left without the variable's entry, 0 after its end. It refuses n or an original n past 20 or k past 4 with
+// 4, lengths that are not theirs with 5, a list that does not hold exactly n strictly rising numbers below the original n with 36, and a variable that is not
+// below n with 6.
+pub fn fold(
+    n: usize,
+    k: usize,
+    original: usize,
+    var: usize,
+    r: Word,
+    coordinates: &mut [usize],
+    src: &[u64],
+    out: &mut [u64],
+) -> Folded
+    ensures { λ a. ⌜ a ≡ foldedOf n (foldNumber n k original var (now (coordinates .entry)) (length (now (src .entry))) (length (now (out .entry)))) ⌝ }
+    ensures { λ a. ⌜ now (coordinates .exit) ≡ onDone (a .number) (droppedOf var (now (coordinates .entry))) (now (coordinates .entry)) ⌝ }
     ensures { λ a. ⌜ words (now (out .exit)) ≡ onDone (a .number) (foldList var (word r) (words (now (src .entry)))) (words (now (out .entry))) ⌝ }
 {
     // Room for the products by r, made before the questions are put: docs/DECISIONS.md, 54.
     let mut multiples = [0u64; 8192];
-    let number = fold_number(n, k, var, src.len(), out.len());
+    let number = fold_number(n, k, original, var, coordinates, src.len(), out.len());
     if number != 0 {
         return Folded { number, n: 0 };
     }
     fold_within(var, r, src, out, &mut multiples);
+    drop_coordinate(var, coordinates);
     Folded {
         number: 0,
         n: n - 1,

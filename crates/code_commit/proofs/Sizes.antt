@@ -23,32 +23,34 @@ use Rattle.code_commit.specs.Level.{levelQuestions, levelTreeNumber}
 use Rattle.code_commit.specs.helpers.LevelTree.{LevelTree}
 use Rattle.theory_record.specs.Scheme.{scheme}
 
-pub record CommitSizes (s : Widths) (n k base table gammas codeword tree : ℕ) : Type 0 where
+pub record CommitSizes (s : Widths) (n k base table gammas codeword coordinates tree : ℕ) : Type 0 where
   pub n≤ : n ≤ 20
   pub k≤ : k ≤ 4
   pub table= : table ≡ 2 * 2 ^ n
   pub gammas= : gammas ≡ 2 * (k * n)
   pub codeword= : codeword ≡ 2 * 2 ^ (n + k)
+  pub list= : coordinates ≡ n
   pub tree= : tree ≡ 32 * treeLength s n k 0
   pub base≤ : base ≤ 200
 
-module _ {s : Widths} {n k base table gammas codeword tree : ℕ} where
-  pub commit-sizes : {number : ℕ} → number ≡ commitNumber s n k base table gammas codeword tree → number ≡ 0
-      → CommitSizes s n k base table gammas codeword tree
+module _ {s : Widths} {n k base table gammas codeword coordinates tree : ℕ} where
+  pub commit-sizes : {number : ℕ} → number ≡ commitNumber s n k base table gammas codeword coordinates tree → number ≡ 0
+      → CommitSizes s n k base table gammas codeword coordinates tree
   unfolding commitNumber
   commit-sizes e z =
-      let y = all-yes (commitQuestions s n k base table gammas codeword tree) tt (sym e ∙ z) in
+      let y = all-yes (commitQuestions s n k base table gammas codeword coordinates tree) tt (sym e ∙ z) in
       record {
         n≤ = leb-true n 20 (y .0);
         k≤ = leb-true k 4 (y .1 .0);
         table= = eqb-true _ _ (y .1 .1 .0);
         gammas= = eqb-true _ _ (y .1 .1 .1 .0);
         codeword= = eqb-true _ _ (y .1 .1 .1 .1 .0);
-        tree= = eqb-true _ _ (y .1 .1 .1 .1 .1 .0);
-        base≤ = leb-true base 200 (y .1 .1 .1 .1 .1 .1 .0);
+        list= = eqb-true _ _ (y .1 .1 .1 .1 .1 .0);
+        tree= = eqb-true _ _ (y .1 .1 .1 .1 .1 .1 .0);
+        base≤ = leb-true base 200 (y .1 .1 .1 .1 .1 .1 .1 .0);
       }
 
-  module _ (h : CommitSizes s n k base table gammas codeword tree) where
+  module _ (h : CommitSizes s n k base table gammas codeword coordinates tree) where
     pub derive-allowed : deriveNumber n k base gammas ≡ 0
     unfolding deriveNumber
     derive-allowed = rw (le-leb n 20 (h .n≤), le-leb k 4 (h .k≤), eq-eqb gammas (2 * (k * n)) (h .gammas=), le-leb base 200 (h .base≤))

@@ -9,10 +9,11 @@ use Rattle.theory_record.specs.Lent.{Slice}
 use Rattle.theory_claim.specs.Commit.{commitAnswer, codewordOf}
 use Rattle.code_commit.specs.Level.{levelTreeNumber}
 
--- the number of committing: of a base domain and a table, and of room for the gammas, the codeword and level 0's tree
-abbrev pub commitLent : WidthSet → ℕ → ℕ → Slice → Slice → Slice → Slice → Slice → ℕ
-commitLent set n k base table gammas codeword tree =
-    commitAnswer set n k (now (base .entry)) (now (table .entry)) (now (gammas .entry)) (now (codeword .entry)) (now (tree .entry))
+-- the number of committing: of a base domain and a table, and of room for the gammas, the codeword, its list and level 0's tree
+abbrev pub commitLent : WidthSet → ℕ → ℕ → Slice → Slice → Slice → Slice → Slice → Slice → ℕ
+commitLent set n k base table gammas codeword coordinates tree =
+    commitAnswer set n k (now (base .entry)) (now (table .entry)) (now (gammas .entry)) (now (codeword .entry)) (now (coordinates .entry))
+    (now (tree .entry))
 
 -- the codeword of a base domain and a table
 abbrev pub codewordLent : ℕ → ℕ → Slice → Slice → List ℕ

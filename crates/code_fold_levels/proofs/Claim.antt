@@ -19,7 +19,7 @@ use Rattle.code_fold_levels.specs.Levels.{foldedLevel}
 
 module _ (set : WidthSet) (n k : ℕ) (base table challenges : List ℕ) (d : Deposit n k base table challenges) (calls : List Call)
     (done : doneFolds (committed set n k base table challenges) calls ≡ atFirst (words challenges)) (old : List ℕ)
-    (front : levelValues n k (words old) 0 ≡ committed set n k base table challenges) (levels trees roots : List ℕ)
+    (front : levelValues n k (words old) 0 ≡ committed set n k base table challenges .values) (levels trees roots : List ℕ)
     (long : length levels ≡ 2 * levelsLength n k)
     (levels-left : words levels ≡ levelsLent n (foldedLevel n k challenges old))
     (trees-left : trees ≡ treesLent (scheme set base n k) (foldedLevel n k challenges old))

@@ -47,10 +47,12 @@ number-of n q = go (eqb q 0) refl
     go true e = sym (eqb-true q 0 e)
     go false e = refl
 
-pub fold-number : (m k var size : ℕ) {src out room : ℕ} {a : Folded} → a ≡ foldedOf m (foldNumber m k var src out) → src ≡ 2 * size → out ≡ room
-    → a .number ≡ foldNumber m k var (2 * size) room
-fold-number m k var size {src} {out} e f g =
-    ap (λ (x : Folded). x .number) e ∙ number-of m (foldNumber m k var src out) ∙ ap₂ (λ (x y : ℕ). foldNumber m k var x y) f g
+pub fold-number : (m k original var : ℕ) (list : List ℕ) (size : ℕ) {src out room : ℕ} {a : Folded}
+    → a ≡ foldedOf m (foldNumber m k original var list src out) → src ≡ 2 * size → out ≡ room
+    → a .number ≡ foldNumber m k original var list (2 * size) room
+fold-number m k original var list size {src} {out} e f g =
+    ap (λ (x : Folded). x .number) e ∙ number-of m (foldNumber m k original var list src out)
+    ∙ ap₂ (λ (x y : ℕ). foldNumber m k original var list x y) f g
 
 -- what it leaves in the front of its buffer
 pub fold-front : (room q var by : ℕ) (half ys zs src vs : List ℕ) → length ys ≡ room

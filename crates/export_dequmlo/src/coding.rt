@@ -9,8 +9,9 @@ ghost use Rattle.theory_field.specs.Words.{words};
 ghost use Rattle.field_gf128.specs.Word.{word};
 ghost use Rattle.theory_blake3.specs.Digest.{hash};
 ghost use Rattle.theory_multilinear.specs.Fold.{foldList};
+ghost use Rattle.theory_multilinear.specs.Codeword.{allCoordinates};
 ghost use Rattle.theory_code.specs.Questions.{foldNumber};
-ghost use Rattle.code_codeword.specs.Answers.{foldedOf};
+ghost use Rattle.code_codeword.specs.Answers.{foldedOf, droppedOf};
 ghost use Rattle.theory_code.specs.Gammas as G;
 ghost use Rattle.theory_claim.specs.Commit.{committedTree};
 ghost use Rattle.code_commit.specs.Lent.{commitLent, codewordLent};
@@ -19,7 +20,7 @@ ghost use Rattle.code_fold_levels.specs.Levels.{foldLevelsLent, foldedLent};
 ghost use Rattle.export_dequmlo.specs.Answers.{folded};
 ghost use Rattle.export_dequmlo.specs.Sets.{schemeBy, withSet};
 
-// The gammas of a base domain, the codeword of a table of 2^n words, and level 0's tree: 4, 5, 7.
+// The gammas of a base domain, the codeword of a table of 2^n words, its list, 0 to n - 1, and level 0's tree: 4, 5, 7.
 #[no_mangle]
 pub extern "C" fn dequmlo_commit(
     widths: u32,
@@ -29,17 +30,29 @@ pub extern "C" fn dequmlo_commit(
     table: &[u64],
     gammas: &mut [u64],
     codeword: &mut [u64],
+    coordinates: &mut [usize],
     tree: &mut [u8],
 ) -> u32
-    ensures { λ r. ⌜ r ≡ withSet widths (λ set. commitLent set n k base table gammas codeword tree) 4 ⌝ }
+    ensures { λ r. ⌜ r ≡ withSet widths (λ set. commitLent set n k base table gammas codeword coordinates tree) 4 ⌝ }
     ensures { λ r. ⌜ words (now (gammas .exit)) ≡ onDone r (G.gammas hash (now (base .entry)) n k) (words (now (gammas .entry))) ⌝ }
     ensures { λ r. ⌜ words (now (codeword .exit)) ≡ onDone r (codewordLent n k base table) (words (now (codeword .entry))) ⌝ }
+    ensures { λ r. ⌜ now (coordinates .exit) ≡ onDone r (allCoordinates n) (now (coordinates .entry)) ⌝ }
     ensures { λ r. ⌜ now (tree .exit) ≡ onDone r (committedTree (schemeBy widths base n k) (words (now (table .entry)))) (now (tree .entry)) ⌝ }
 {
     if widths > 1 {
         return 4;
     }
-    code_commit::commit(set_of(widths), n, k, base, table, gammas, codeword, tree)
+    code_commit::commit(
+        set_of(widths),
+        n,
+        k,
+        base,
+        table,
+        gammas,
+        codeword,
+        coordinates,
+        tree,
+    )
 }
 
 // The number, and the n of the folded codeword, 0 where it is refused.
@@ -49,20 +62,25 @@ pub struct Folded {
     pub n: usize,
 }
 
-// The codeword folded at a variable by r, into a buffer of half its length: 4, 5, 6.
+// A codeword in use folded at a variable by r, into a buffer of half its length, and its list left without the variable's entry, 0 after its end: 4, 5, 36,
+// 6.
 #[no_mangle]
 pub extern "C" fn dequmlo_fold(
     n: usize,
     k: usize,
+    original: usize,
     var: usize,
     r: Word,
+    coordinates: &mut [usize],
     codeword: &[u64],
     out: &mut [u64],
 ) -> Folded
-    ensures { λ a. ⌜ folded a ≡ foldedOf n (foldNumber n k var (length (now (codeword .entry))) (length (now (out .entry)))) ⌝ }
+    ensures { λ a. ⌜ folded a
+        ≡ foldedOf n (foldNumber n k original var (now (coordinates .entry)) (length (now (codeword .entry))) (length (now (out .entry)))) ⌝ }
+    ensures { λ a. ⌜ now (coordinates .exit) ≡ onDone (a .number) (droppedOf var (now (coordinates .entry))) (now (coordinates .entry)) ⌝ }
     ensures { λ a. ⌜ words (now (out .exit)) ≡ onDone (a .number) (foldList var (word r) (words (now (codeword .entry)))) (words (now (out .entry))) ⌝ }
 {
-    let a = code_codeword::fold(n, k, var, r, codeword, out);
+    let a = code_codeword::fold(n, k, original, var, r, coordinates, codeword, out);
     Folded {
         number: a.number,
         n: a.n,

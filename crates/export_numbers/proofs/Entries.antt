@@ -83,7 +83,7 @@ unfolding known among
     inverseOf refusal blocks.runNumber blocks.hashNumber packNumber eqNumber ring.partialNumber ring.foldNumber evalNumber sidesNumber
     digestOf hasher.numberOf hasher.updateOf hasher.finalizeOf parts.numberOf
     leafNumber nodeNumber buildNumber openNumber rootNumber leavesNumber parentsNumber
-    code.deriveNumber code.shiftNumber code.encodeNumber code.foldNumber blockNumber halfNumber foldPartNumber
+    code.deriveNumber code.shiftNumber code.encodeNumber code.foldNumber code.earlierNumber blockNumber halfNumber foldPartNumber
     commitNumber sizeNumber lengthNumber domainNumber levelTreeNumber
     levelPart.nextPartNumber levelPart.levelLeavesNumber levelPart.levelParentsNumber foldLevelsNumber
     buildQueryNumber buildTailNumber checkTail compared compareNumber sizesNumber run.runNumber list.tailNumber
@@ -110,14 +110,16 @@ every-entry =
       parents = λ domain children out. asked (parentsQuestions domain children out) refl;
       root = λ domain count width place values path. asked (rootQuestions domain count width place values path) refl;
       derive = λ n k domain out. asked (code.deriveQuestions n k domain out) refl;
-      l-of = λ n k gammas out. asked (code.shiftQuestions n k gammas out) refl;
+      l-of = λ n k original coordinates gammas out. asked (code.shiftQuestions n k original coordinates gammas out) refl;
       encode = λ n k table gammas out. asked (code.encodeQuestions n k table gammas out) refl;
       block = λ n k eps table gammas out. asked (blockQuestions n k eps table gammas out) refl;
       half = λ n k half table gammas out. asked (halfQuestions n k half table gammas out) refl;
-      fold = λ n k var src out.
-          either-known (λ (r : Folded). r .number) (eqb (code.foldNumber n k var src out) 0) _ _ refl (asked (code.foldQuestions n k var src out) refl);
+      fold = λ n k original var coordinates src out.
+          either-known (λ (r : Folded). r .number) (eqb (code.foldNumber n k original var coordinates src out) 0) _ _ refl
+          (asked (code.foldQuestions n k original var coordinates src out) refl);
+      earlier-reading = λ n k original coordinates. asked (code.earlierQuestions n k original coordinates) refl;
       fold-part = λ n k var first src out. asked (foldPartQuestions n k var first src out) refl;
-      commit = λ s n k base table gammas codeword tree. asked (commitQuestions s n k base table gammas codeword tree) refl;
+      commit = λ s n k base table gammas codeword coordinates tree. asked (commitQuestions s n k base table gammas codeword coordinates tree) refl;
       sizes = λ widths n k.
           either-known (λ (r : Sizes). r .number) (eqb (sizesNumber widths n k) 0) _ _ refl
           (set-known (λ x. x) widths (λ _. sizeNumber n k) 4 (λ _. asked (sizeQuestions n k) refl) refl);
@@ -137,8 +139,8 @@ every-entry =
       compare = λ S position challenges roots first second old old′.
           either-known (λ (r : Comparison). r .number) (eqb (compareNumber S position challenges roots first second old old′) 0) _ _ refl
           (asked (compareQuestions S position challenges roots first second old old′) refl);
-      whole-run = λ s n k position base table calls challenges gammas levels half kept trees roots query tail one two.
-          asked (run.runQuestions s n k position base table calls challenges gammas levels half kept trees roots query tail one two) refl;
+      whole-run = λ s n k position base table calls challenges gammas levels coordinates half kept trees roots query tail one two.
+          asked (run.runQuestions s n k position base table calls challenges gammas levels coordinates half kept trees roots query tail one two) refl;
       tail-list = λ input. asked (list.tailQuestions input) refl;
       by-number = set-known;
     }

@@ -18,7 +18,7 @@ use Rattle.hash_hasher.specs.Hasher.{updateOf, finalizeOf}
 use Rattle.hash_serialize_parts.specs.Parts as parts
 use Rattle.theory_merkle.specs.Numbers.{leafNumber, nodeNumber, buildNumber, openNumber, rootNumber}
 use Rattle.theory_merkle.specs.PartQuestions.{leavesNumber, parentsNumber}
-use Rattle.theory_code.specs.Questions.{deriveNumber, shiftNumber, encodeNumber, foldNumber}
+use Rattle.theory_code.specs.Questions.{deriveNumber, encodeNumber, shiftNumber, foldNumber, earlierNumber}
 use Rattle.theory_code.specs.PartQuestions.{blockNumber, halfNumber, foldPartNumber}
 use Rattle.code_codeword.specs.Answers.{foldedOf}
 use Rattle.theory_claim.specs.Commit.{commitNumber}
@@ -79,7 +79,7 @@ pub record EveryEntry : Type 1 where
   -- derive
   pub derive : (n k domain out : ℕ) → Known (deriveNumber n k domain out)
   -- l_of
-  pub l-of : (n k gammas out : ℕ) → Known (shiftNumber n k gammas out)
+  pub l-of : (n k original : ℕ) (coordinates : List ℕ) (gammas out : ℕ) → Known (shiftNumber n k original coordinates gammas out)
   -- encode
   pub encode : (n k table gammas out : ℕ) → Known (encodeNumber n k table gammas out)
   -- a block of the codeword
@@ -87,11 +87,13 @@ pub record EveryEntry : Type 1 where
   -- half a block of the codeword
   pub half : (n k half table gammas out : ℕ) → Known (halfNumber n k half table gammas out)
   -- fold
-  pub fold : (n k var src out : ℕ) → Known (foldedOf n (foldNumber n k var src out) .number)
+  pub fold : (n k original var : ℕ) (coordinates : List ℕ) (src out : ℕ) → Known (foldedOf n (foldNumber n k original var coordinates src out) .number)
+  -- the earlier reading
+  pub earlier-reading : (n k original : ℕ) (coordinates : List ℕ) → Known (earlierNumber n k original coordinates)
   -- a fold, in part
   pub fold-part : (n k var first src out : ℕ) → Known (foldPartNumber n k var first src out)
   -- commit
-  pub commit : (s : Widths) (n k base table gammas codeword tree : ℕ) → Known (commitNumber s n k base table gammas codeword tree)
+  pub commit : (s : Widths) (n k base table gammas codeword coordinates tree : ℕ) → Known (commitNumber s n k base table gammas codeword coordinates tree)
   -- sizes
   pub sizes : (widths n k : ℕ) → Known (sizesOf widths n k .number)
   -- length of a level's domain
@@ -120,8 +122,8 @@ pub record EveryEntry : Type 1 where
   pub compare : (S : Scheme) (position : ℕ) (challenges roots first second old old′ : List ℕ)
       → Known (compared S position challenges roots first second old old′ .number)
   -- the whole run (10.4)
-  pub whole-run : (s : Widths) (n k position base table calls challenges gammas levels half kept trees roots query tail one two : ℕ)
-      → Known (run.runNumber s n k position base table calls challenges gammas levels half kept trees roots query tail one two)
+  pub whole-run : (s : Widths) (n k position base table calls challenges gammas levels coordinates half kept trees roots query tail one two : ℕ)
+      → Known (run.runNumber s n k position base table calls challenges gammas levels coordinates half kept trees roots query tail one two)
   -- the program tail-list
   pub tail-list : (input : List ℕ) → Known (tailNumber input)
   -- an exported function that is given the number of a set of widths: where the entry's answer under each set has such a number, and so has the one that is

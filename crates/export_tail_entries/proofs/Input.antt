@@ -9,7 +9,6 @@ use lib.Dec.{leb}
 use borrow.Author.Tests.{leb-true, eqb-true, ne-eqb}
 use lib.Pow.{pow-mono}
 use lib.ListN.{length, take, drop}
-use lib.Seq.{length-take-le}
 use Rattle.theory_laws.specs.Questions.{_asks_, onDone}
 use Rattle.theory_laws.specs.Table.{tab, at}
 use Rattle.theory_laws.specs.Lists.{part, leValue}
@@ -24,11 +23,9 @@ use Rattle.theory_multilinear.specs.Levels.{level}
 use Rattle.theory_multilinear.proofs.Codeword.{length-encode}
 use Rattle.theory_multilinear.proofs.Levels.{length-level, last-level-at}
 use Rattle.field_bytes.specs.Words.{wordsFrom}
-use Rattle.theory_code.specs.Questions.{encodeNumber, foldNumber}
-use Rattle.code_codeword.specs.Answers.{foldedOf}
-use Rattle.code_codeword.specs.declared.Folded.{Folded}
+use Rattle.theory_code.specs.Questions.{encodeNumber}
 use Rattle.theory_field.proofs.Words.{take-words}
-use Rattle.code_codeword.proofs.Lengths.{pow-halved, encode-done, fold-done}
+use Rattle.code_codeword.proofs.Lengths.{pow-halved, encode-done}
 use Rattle.export_tail_entries.specs.Tail.{zeros, gammasAt, challengesAt, inputSize, sizeQuestions, tailNumber, codewordOf, inputLevel, tailsOf}
 use Rattle.export_tail_entries.specs.helpers.Room.{Whole}
 use Rattle.export_tail_entries.proofs.Padded.{length-front, padded, unpadded}
@@ -85,18 +82,15 @@ unfolding inputLevel
 length-inputLevel n k l m s e = length-level l m (codewordOf n k s) _ (length-codewordOf n k s ∙ ap (λ (x : ℕ). 2 ^ x) (sym e))
 
 -- a level of 2^(m + k) words folded, zeros after it
-pub fold-padded : (m k r half : ℕ) (answer : Folded) (from z out : List ℕ) → 0 < m → k ≤ 4 → m + k ≤ 8 → half ≡ 2 ^ (m + k) → length from ≡ 512
-    → z ≡ zeros 512 → length out ≡ length (take half z) → answer ≡ foldedOf m (foldNumber m k 0 (length (take (2 * half) from)) (length (take half z)))
-    → words out ≡ onDone (answer .number) (foldList 0 r (words (take (2 * half) from))) (words (take half z))
+pub fold-padded : (m k r half : ℕ) (from z out : List ℕ) → 0 < m → m + k ≤ 8 → half ≡ 2 ^ (m + k) → length from ≡ 512
+    → z ≡ zeros 512 → length out ≡ length (take half z) → words out ≡ foldList 0 r (words (take (2 * half) from))
     → words (out ++ drop half z) ≡ tab 256 (at (foldList 0 r (take (2 ^ (m + k)) (words from))))
-fold-padded m k r half answer from z out hm hk h eh lf ez lo ea eo =
+fold-padded m k r half from z out hm h eh lf ez lo eo =
     let small : half ≤ 256 = omega (arith, power-small {e = m + k} (omega arith)) in
     let front : length (take half z) ≡ half = length-front half z (omega arith) ez in
     padded (half / 2) half out z (eh ∙ pow-halved (m + k) (omega arith) ∙ ap (λ (x : ℕ). 2 * (x / 2)) (sym eh)) (omega arith) (lo ∙ front) ez
     ∙ ap (λ (x : List ℕ). tab 256 (at x))
-    (eo ∙ fold-done m k 0 (length (take (2 * half) from)) (length (take half z)) answer _ _ ea (omega arith) hk
-    (length-take-le (2 * half) from (omega arith) ∙ ap (_*_ 2) eh) (front ∙ eh) hm
-    ∙ ap (foldList 0 r) (take-words half from ∙ ap (λ (x : ℕ). take x (words from)) eh))
+    (eo ∙ ap (foldList 0 r) (take-words half from ∙ ap (λ (x : ℕ). take x (words from)) eh))
 
 -- the challenge that is read
 challenge : (n k l r : ℕ) (s : List ℕ) → l < n → r ≡ leValue (part 16 (challengesAt n k + 16 * l) s) → r ≡ at (wordsFrom (challengesAt n k) n s) l

@@ -10,6 +10,7 @@ ghost use Rattle.theory_multilinear.specs.Fold.{foldList};
 ghost use Rattle.export_tail_entries.specs.Tail.{zeros, challengesAt, inputSize, sizeNumber, tailNumber};
 ghost use Rattle.export_tail_entries.specs.Tail.{codewordOf, inputLevel, answer, tailsOf};
 ghost use Rattle.export_tail_entries.specs.helpers.Room.{Whole, Buffers};
+use code_codeword::folding::fold_into;
 use code_codeword::sizes::power;
 use field_gf128::Word;
 
@@ -131,7 +132,7 @@ fn folded(m: usize, k: usize, r: Word, level: [u64; 512]) -> [u64; 512]
     let mut out = blank();
     let half = power(m + k);
     let whole = 2 * half;
-    code_codeword::fold(m, k, 0, r, &from[..whole], &mut out[..half]);
+    fold_into(0, r, &from[..whole], &mut out[..half]);
     out
 }
 

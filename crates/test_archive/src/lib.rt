@@ -206,11 +206,13 @@ pub extern "C" fn dequmlo_test_derive(n: usize, k: usize, domain: &[u8], out: &m
 pub extern "C" fn dequmlo_test_l_of(
     n: usize,
     k: usize,
+    original: usize,
     eps: usize,
+    coordinates: &[usize],
     gammas: &[u64],
     out: &mut [u64],
 ) -> u32 {
-    code_codeword::l_of(n, k, eps, gammas, out)
+    code_codeword::l_of(n, k, original, eps, coordinates, gammas, out)
 }
 
 #[no_mangle]
@@ -228,16 +230,28 @@ pub extern "C" fn dequmlo_test_encode(
 pub extern "C" fn dequmlo_test_fold(
     n: usize,
     k: usize,
+    original: usize,
     var: usize,
     r: Word,
+    coordinates: &mut [usize],
     src: &[u64],
     out: &mut [u64],
 ) -> NumberedN {
-    let a = code_codeword::fold(n, k, var, r, src, out);
+    let a = code_codeword::fold(n, k, original, var, r, coordinates, src, out);
     NumberedN {
         number: a.number,
         n: a.n,
     }
+}
+
+#[no_mangle]
+pub extern "C" fn dequmlo_test_earlier_reading(
+    n: usize,
+    k: usize,
+    original: usize,
+    coordinates: &mut [usize],
+) -> u32 {
+    code_codeword::earlier_reading(n, k, original, coordinates)
 }
 
 #[no_mangle]
@@ -516,7 +530,9 @@ pub extern "C" fn dequmlo_test_commit(
     table: &[u64],
     gammas: &mut [u64],
     codeword: &mut [u64],
+    coordinates: &mut [usize],
     tree: &mut [u8],
 ) -> u32 {
-    code_commit::commit(WidthSet::Present, n, k, base, table, gammas, codeword, tree)
+    let set = WidthSet::Present;
+    code_commit::commit(set, n, k, base, table, gammas, codeword, coordinates, tree)
 }

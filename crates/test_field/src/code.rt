@@ -1,15 +1,10 @@
-// The code: code.rs.
+// The code: code.rs. Codewords folded part way are in half_folded.
 use test_lines::answer::Answer;
 use test_lines::answer::no_room;
 use test_lines::answer::one;
 use test_lines::answer::two;
 use test_lines::request::Numbers;
 use test_lines::words::first;
-
-fn fold(n: Numbers, a: &[u64], b: &[u64], w: &mut [u64]) -> Answer {
-    let r = code_codeword::fold(n.0, n.1, n.2, first(a), b, w);
-    two(r.number, r.n)
-}
 
 // The length of a gamma's message.
 fn gamma_message(n: Numbers, s: &[u8]) -> Answer {
@@ -22,13 +17,11 @@ fn gamma_message(n: Numbers, s: &[u8]) -> Answer {
 pub fn answer(place: usize, n: Numbers, a: &[u64], b: &[u64], s: &[u8], w: &mut [u64]) -> Answer {
     match place {
         0 => one(code_gamma::derive(n.0, n.1, s, w)),
-        1 => one(code_codeword::l_of(n.0, n.1, n.2, a, w)),
-        2 => one(code_codeword::encode(n.0, n.1, a, b, w)),
-        3 => fold(n, a, b, w),
-        4 => gamma_message(n, s),
-        5 => one(code_parts::codeword_block(n.0, n.1, n.2, a, b, w)),
-        6 => one(code_parts::fold_part(n.0, n.1, n.2, first(a), n.3, b, w)),
-        7 => one(code_parts::codeword_half(n.0, n.1, n.2, a, b, w)),
+        1 => one(code_codeword::encode(n.0, n.1, a, b, w)),
+        2 => gamma_message(n, s),
+        3 => one(code_parts::codeword_block(n.0, n.1, n.2, a, b, w)),
+        4 => one(code_parts::fold_part(n.0, n.1, n.2, first(a), n.3, b, w)),
+        5 => one(code_parts::codeword_half(n.0, n.1, n.2, a, b, w)),
         _ => no_room(),
     }
 }

@@ -6,6 +6,7 @@ ghost use lib.ListN.{length};
 mod blocks;
 mod code;
 mod field;
+mod half_folded;
 mod ring;
 
 use std::num::wrapping_add_usize;
@@ -13,6 +14,7 @@ use test_lines::answer::Answer;
 use test_lines::answer::no_room;
 use test_lines::answer::print;
 use test_lines::answer::print_answer;
+use test_lines::lists::lent;
 use test_lines::parts::first;
 use test_lines::parts::first_halves;
 use test_lines::parts::next;
@@ -23,6 +25,7 @@ use test_lines::request::OUT_BYTES;
 use test_lines::request::OUT_WORDS;
 use test_lines::request::bytes_in;
 use test_lines::request::item;
+use test_lines::request::list_in;
 use test_lines::request::numbers_in;
 use test_lines::request::words_in;
 
@@ -31,6 +34,7 @@ fn answer(
     operation: usize,
     words: &[u64],
     bytes: &[u8],
+    list: &mut [usize],
     w: &mut [u64],
     x: &mut [u64],
     y: &mut [u8],
@@ -47,12 +51,14 @@ fn answer(
         3 => ring::answer(place, n, a, b, c, w, x),
         4 => code::answer(place, n, a, b, s, w),
         5 => blocks::answer(place, a, s, bytes_in(words, bytes, 1), w, y),
+        6 => half_folded::answer(place, n, a, b, c, list, w),
         _ => no_room(),
     }
 }
 
 // Answers a request and prints the answer; the outputs hold what they hold before they are lent.
 fn respond(line: usize, operation: usize, words: &[u64], bytes: &[u8]) {
+    let mut list = [0usize; 32];
     let mut w = [0xa5a5_a5a5_a5a5_a5a5u64; 8192];
     let mut x = [0xa5a5_a5a5_a5a5_a5a5u64; 4];
     let mut y = [0xa5u8; 8192];
@@ -60,11 +66,12 @@ fn respond(line: usize, operation: usize, words: &[u64], bytes: &[u8]) {
         operation,
         words,
         bytes,
+        lent(&mut list, list_in(words)),
         first_halves(&mut w, item(words, OUT_WORDS, 0)),
         first_halves(&mut x, item(words, OUT_WORDS, 1)),
         first(&mut y, item(words, OUT_BYTES, 0)),
     );
-    print_answer(line, words, a, &w, &x, &y, &[]);
+    print_answer(line, words, a, &list, &w, &x, &y, &[]);
 }
 
 // A line: what it keeps is put after what is kept already, and what it asks is answered. Answers how many bytes are kept.
@@ -104,13 +111,13 @@ fold_sides nwwwWp
 none n
 none n
 derive nnbW
-l_of nnnwW
 encode nnwwW
-fold nnnwwW
 gamma_message nnbnn
 codeword_block nnnwwW
 fold_part nnnwnwW
 codeword_half nnnwwW
+none n
+none n
 import_block bo
 export_block wB
 import_run bW
@@ -119,6 +126,9 @@ ghash bbB
 none n
 none n
 none n
+l_of nnnnlwW
+fold nnnnwLwW
+earlier_reading nnnL
 ";
     let operation = request::read(s, table, kept, bytes, &mut words);
     if operation < 8 {
@@ -173,6 +183,7 @@ code.txt
 differences.txt
 blocks.txt
 gcm.txt
+half_folded.txt
 rust_field.txt
 rust_runs.txt
 rust_ring.txt

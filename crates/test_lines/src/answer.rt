@@ -1,14 +1,17 @@
-// An answer: up to four numbers, then the outputs. An output of at most 64 bytes is printed as it is, words 32 digits each and joined by commas,
-// half of one after `h`; of a longer one `#` and the first 16 bytes of its digest; of none `-`.
+// An answer: up to four numbers, the list that was lent for writing, then the outputs. An output of at most 64 bytes is printed as it is, words 32
+// digits each and joined by commas, half of one after `h`; of a longer one `#` and the first 16 bytes of its digest; of none `-`.
 ghost use mathlib.Core.Path.{_≡_};
 ghost use lib.ListN.{length};
 use crate::bytes::half_in;
 use crate::bytes::put_halves;
+use crate::lists;
 use crate::parts::halves;
 use crate::parts::part;
 use crate::request::OUT_BYTES;
 use crate::request::OUT_WORDS;
+use crate::request::has_list;
 use crate::request::item;
+use crate::request::list_in;
 use bytes_numbers::wide;
 use libc::STDOUT_FILENO;
 use std::num::wrapping_add_usize;
@@ -156,11 +159,24 @@ fn print_output_bytes(head: &[u64], i: usize, y: &[u8]) {
     }
 }
 
-// Prints a line's number, the answer's numbers and the outputs: w and x are words, y and z bytes.
+// The list that was lent for writing, where a request has one.
+fn print_list(head: &[u64], list: &[usize]) {
+    if !has_list(head) {
+        return;
+    }
+    print(b" ");
+    match list_in(head).len() {
+        0 => print(b"-"),
+        count => lists::print(list, count),
+    }
+}
+
+// Prints a line's number, the answer's numbers, the list that was lent for writing and the outputs: w and x are words, y and z bytes.
 pub fn print_answer(
     line: usize,
     head: &[u64],
     a: Answer,
+    list: &[usize],
     w: &[u64],
     x: &[u64],
     y: &[u8],
@@ -168,6 +184,7 @@ pub fn print_answer(
 ) {
     io::print_decimal(STDOUT_FILENO, line as u64);
     print_numbers(a);
+    print_list(head, list);
     print_output_words(head, 0, w);
     print_output_words(head, 1, x);
     print_output_bytes(head, 0, y);

@@ -3,6 +3,7 @@
 pub mod answer;
 pub mod bytes;
 mod draw;
+pub mod lists;
 pub mod parts;
 mod pieces;
 pub mod request;

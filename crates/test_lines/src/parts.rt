@@ -20,12 +20,23 @@ pub fn halves(s: &[u64], from: usize, to: usize) -> &[u64] {
     &s[start..end]
 }
 
+pub fn numbers(s: &[usize], from: usize, to: usize) -> &[usize] {
+    let end = least(to, s.len());
+    let start = least(from, end);
+    &s[start..end]
+}
+
 pub fn first(s: &mut [u8], count: usize) -> &mut [u8] {
     let end = least(count, s.len());
     &mut s[..end]
 }
 
 pub fn first_halves(s: &mut [u64], count: usize) -> &mut [u64] {
+    let end = least(count, s.len());
+    &mut s[..end]
+}
+
+pub fn first_numbers(s: &mut [usize], count: usize) -> &mut [usize] {
     let end = least(count, s.len());
     &mut s[..end]
 }

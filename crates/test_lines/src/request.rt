@@ -1,10 +1,11 @@
 // A request: the operation that a line names, and what it is lent. A program has a table of its operations, a line for each: its name, and a
-// letter for each argument. `n` is a number; `w` words, `l` a list of numbers, `b` bytes, each put after the last; `W` and `B` are how many
-// halves of words and bytes an output has. With no argument, at the end, `o` is an output of one word, `p` of two words, `c` of 128 words, `d` of a
-// digest.
+// letter for each argument. `n` is a number; `w` words, `l` a list of numbers, `b` bytes, each put after the last; `L` is a list of numbers that is lent
+// for writing, at most one; `W` and `B` are how many halves of words and bytes an output has. With no argument, at the end, `o` is an output of one
+// word, `p` of two words, `c` of 128 words, `d` of a digest.
 //
 // What a request says stands in the head of the buffer of words, in rows of 8 halves: how many items a row has, and then these. They are the
-// numbers; where each input begins and the last one ends, of those that are words and those that are bytes; and the lengths of the outputs.
+// numbers; where each input begins and the last one ends, of those that are words and those that are bytes; the lengths of the outputs; and where the
+// list that is lent for writing begins and ends.
 ghost use mathlib.Core.Path.{_≡_};
 ghost use lib.ListN.{length};
 use crate::bytes::half_in;
@@ -31,7 +32,9 @@ pub const OUT_WORDS: usize = 24;
 
 pub const OUT_BYTES: usize = 32;
 
-const HEAD: usize = 320;
+const LIST: usize = 40;
+
+const HEAD: usize = 384;
 
 // Item i of a row; 0 where it has none.
 pub fn item(head: &[u64], row: usize, i: usize) -> usize {
@@ -72,6 +75,15 @@ pub fn words_in(words: &[u64], i: usize) -> &[u64] {
     )
 }
 
+// The list that is lent for writing, as it is before; none is empty.
+pub fn list_in(words: &[u64]) -> &[u64] {
+    halves(words, item(words, LIST, 0) / 8, item(words, LIST, 1) / 8)
+}
+
+pub fn has_list(words: &[u64]) -> bool {
+    half_in(words, LIST) != 0
+}
+
 // Input i of those that are bytes.
 pub fn bytes_in<'a>(words: &[u64], bytes: &'a [u8], i: usize) -> &'a [u8] {
     part(
@@ -85,11 +97,20 @@ pub fn bytes_in<'a>(words: &[u64], bytes: &'a [u8], i: usize) -> &'a [u8] {
 fn row_of(letter: u8) -> usize {
     match letter {
         b'n' => NUMBERS,
-        b'l' | b'w' => WORDS,
+        b'l' | b'L' | b'w' => WORDS,
         b'b' => BYTES,
         b'B' | b'd' => OUT_BYTES,
         _ => OUT_WORDS,
     }
+}
+
+// Puts the list that is lent for writing, and notes where it stands: where it ends.
+fn put_list(s: &[u8], bytes: &mut [u8], words: &mut [u64]) -> usize {
+    let at = last(words, WORDS);
+    let end = put_argument(b'L', s, bytes, words, at);
+    push(words, LIST, at);
+    push(words, LIST, end);
+    end
 }
 
 // What the argument for a letter comes to: a number, a length, or where the input ends that it puts.
@@ -99,6 +120,7 @@ fn value(letter: u8, s: &[u8], bytes: &mut [u8], words: &mut [u64]) -> usize {
             let at = last(words, row_of(letter));
             put_argument(letter, s, bytes, words, at)
         }
+        b'L' => put_list(s, bytes, words),
         b'o' => 2,
         b'p' => 4,
         b'c' => 256,

@@ -17,6 +17,7 @@ use test_lines::answer::no_room;
 use test_lines::answer::one;
 use test_lines::answer::print;
 use test_lines::answer::print_answer;
+use test_lines::lists::lent;
 use test_lines::parts::first;
 use test_lines::parts::first_halves;
 use test_lines::parts::next;
@@ -27,6 +28,7 @@ use test_lines::request::OUT_BYTES;
 use test_lines::request::OUT_WORDS;
 use test_lines::request::bytes_in;
 use test_lines::request::item;
+use test_lines::request::list_in;
 use test_lines::request::numbers_in;
 use test_lines::request::words_in;
 
@@ -51,6 +53,7 @@ fn on_all(
     place: usize,
     words: &[u64],
     bytes: &[u8],
+    list: &mut [usize],
     w: &mut [u64],
     x: &mut [u64],
     y: &mut [u8],
@@ -60,12 +63,12 @@ fn on_all(
     let a = words_in(words, 0);
     let s = bytes_in(words, bytes, 0);
     match place {
-        0 => one(code_commit::commit(level::set_of(n.0), n.1, n.2, s, a, w, x, y)),
+        0 => one(code_commit::commit(level::set_of(n.0), n.1, n.2, s, a, w, x, list, y)),
         1 => level::fold_levels(n, a, words_in(words, 1), s, w, x, y, z),
         2 => level::tails(s, w),
         3 => pair::compare(words, bytes, y, z),
         4 => pair::walk(n.0, n.1, n.2, s, bytes_in(words, bytes, 1), y, z),
-        5 => whole::answer(words, bytes, w, y, z),
+        5 => whole::answer(words, bytes, list, w, y, z),
         _ => no_room(),
     }
 }
@@ -75,6 +78,7 @@ fn answer(
     operation: usize,
     words: &[u64],
     bytes: &[u8],
+    list: &mut [usize],
     w: &mut [u64],
     x: &mut [u64],
     y: &mut [u8],
@@ -82,7 +86,7 @@ fn answer(
 ) -> Answer {
     match operation / 8 {
         2..=5 => on_bytes(operation, words, bytes, y),
-        6 => on_all(operation % 8, words, bytes, w, x, y, z),
+        6 => on_all(operation % 8, words, bytes, list, w, x, y, z),
         7 => level::part(operation % 8, words, bytes, w, y),
         _ => no_room(),
     }
@@ -90,6 +94,7 @@ fn answer(
 
 // Answers a request and prints the answer; the outputs hold what they hold before they are lent.
 fn respond(line: usize, operation: usize, words: &[u64], bytes: &[u8]) {
+    let mut list = [0usize; 32];
     let mut w = [0xa5a5_a5a5_a5a5_a5a5u64; 8192];
     let mut x = [0xa5a5_a5a5_a5a5_a5a5u64; 2048];
     let mut y = [0xa5u8; 65536];
@@ -98,12 +103,13 @@ fn respond(line: usize, operation: usize, words: &[u64], bytes: &[u8]) {
         operation,
         words,
         bytes,
+        lent(&mut list, list_in(words)),
         first_halves(&mut w, item(words, OUT_WORDS, 0)),
         first_halves(&mut x, item(words, OUT_WORDS, 1)),
         first(&mut y, item(words, OUT_BYTES, 0)),
         first(&mut z, item(words, OUT_BYTES, 1)),
     );
-    print_answer(line, words, a, &w, &x, &y, &z);
+    print_answer(line, words, a, &list, &w, &x, &y, &z);
 }
 
 // A line: what it keeps is put after what is kept already, and what it asks is answered. Answers how many bytes are kept.
@@ -158,12 +164,12 @@ sizes nnn
 none n
 none n
 none n
-commit nnnbwWWB
+commit nnnbwWWLB
 fold_levels nnnbwwWWBB
 tails bW
 compare bnnnnwbbbBB
 walk nnnbbBB
-run nnnnbwlwwbblWBB
+run nnnnbwlwwbblLWBB
 none n
 none n
 next_part nnnwnwW

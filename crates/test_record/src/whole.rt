@@ -6,20 +6,17 @@ use claim_whole_run::Answers;
 use field_gf128::Word;
 use test_lines::answer::Answer;
 use test_lines::answer::no_room;
-use test_lines::bytes::half_in;
 use test_lines::bytes::put_all;
 use test_lines::bytes::put_halves;
+use test_lines::lists::number;
+use test_lines::lists::put;
 use test_lines::parts::first;
 use test_lines::parts::first_halves;
+use test_lines::parts::numbers;
 use test_lines::request::Numbers;
 use test_lines::request::bytes_in;
 use test_lines::request::numbers_in;
 use test_lines::request::words_in;
-
-// Number i of a list.
-fn number(list: &[u64], i: usize) -> usize {
-    half_in(list, i) as usize
-}
 
 // The roots, both records and both messages.
 fn put_left(
@@ -48,6 +45,7 @@ fn run(
     u: &[u8],
     v: &[u8],
     sizes: &[u64],
+    coordinates: &mut [usize],
     kept: &mut [u64],
     y: &mut [u8],
 ) -> Answers {
@@ -74,6 +72,7 @@ fn run(
         v,
         first_halves(&mut gammas, number(sizes, 0)),
         first_halves(&mut levels, number(sizes, 1)),
+        coordinates,
         first_halves(&mut half, number(sizes, 2)),
         kept,
         first(&mut trees, number(sizes, 3)),
@@ -108,40 +107,33 @@ fn answer_of(r: Answers, z: &mut [u8]) -> Answer {
     }
 }
 
-// The numbers of as many calls as there is room for.
-fn put_numbers(out: &mut [usize], a: &[u64]) {
-    let mut i: usize = 0;
-    while i < out.len() {
-        out[i] = number(a, i);
-        i += 1;
-    }
-}
-
-fn calls(numbers: &[usize], count: usize) -> &[usize] {
-    if count <= numbers.len() {
-        return &numbers[..count];
-    }
-    &numbers[..0]
-}
-
-// The table, the calls, at most 32, their challenges, the claim, and the lengths of what is lent beside the kept challenges.
-pub fn answer(words: &[u64], bytes: &[u8], kept: &mut [u64], y: &mut [u8], z: &mut [u8]) -> Answer {
+// The table, the calls, of at most 64 numbers, their challenges, the claim, and the lengths of what is lent beside the coordinates and the kept
+// challenges.
+pub fn answer(
+    words: &[u64],
+    bytes: &[u8],
+    coordinates: &mut [usize],
+    kept: &mut [u64],
+    y: &mut [u8],
+    z: &mut [u8],
+) -> Answer {
     let b = words_in(words, 1);
-    if b.len() > 32 {
+    if b.len() > 64 {
         return no_room();
     }
-    let mut numbers = [0usize; 32];
-    put_numbers(&mut numbers, b);
+    let mut calls = [0usize; 64];
+    put(&mut calls, b);
     let r = run(
         numbers_in(words),
         test_lines::words::first(words_in(words, 3)),
         bytes_in(words, bytes, 0),
         words_in(words, 0),
-        calls(&numbers, b.len()),
+        numbers(&calls, 0, b.len()),
         words_in(words, 2),
         bytes_in(words, bytes, 1),
         bytes_in(words, bytes, 2),
         words_in(words, 4),
+        coordinates,
         kept,
         y,
     );

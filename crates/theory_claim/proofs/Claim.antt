@@ -1,28 +1,32 @@
 -- The single claim is proved, from nothing but the ranges.
-use Prim.Native.Nat.{ℕ, suc, _+_, _-_, _*_, _^_, _<_, _≤_}
-use mathlib.Core.Path.{_≡_, refl, sym, _∙_, ap}
+use Prim.Native.Nat.{ℕ, suc, _+_, _-_, _*_, _/_, _^_, _<_, _≤_}
+use mathlib.Core.Path.{_≡_, refl, sym, _∙_, ap, subst}
 use mathlib.Core.Logic.{_↔_, _⊎_, ⊎-elim, inl, inr}
 use mathlib.Core.List.{List, []}
+use mathlib.Core.Bool.{true}
 use native.Mathlib.Omega.{arith}
 use borrow.Author.Tests.{le-leb, eq-eqb}
-use lib.ListN.{length, getD}
+use lib.ListN.{length, drop, getD}
 use Rattle.theory_laws.specs.Table.{at}
 use Rattle.theory_laws.specs.Lists.{flat}
 use Rattle.theory_laws.proofs.Questions.{yes-all}
 use Rattle.theory_laws.proofs.Lists.{Bytes, length-flat}
+use Rattle.theory_laws.proofs.Table.{length-tab}
 use Rattle.theory_field.specs.Words.{words}
 use Rattle.theory_field.proofs.Words.{length-words-even}
-use Rattle.theory_multilinear.specs.Folds.{atFirst}
+use Rattle.theory_multilinear.specs.Folds.{Fold, Folds, folds, foldsList, atFirst, remaining, shifted}
 use Rattle.theory_multilinear.specs.Multilinear.{mle}
 use Rattle.theory_multilinear.specs.Points.{addPoint}
-use Rattle.theory_multilinear.specs.Codeword.{shift}
+use Rattle.theory_multilinear.specs.Codeword.{shift, allCoordinates, shiftOver, block}
 use Rattle.theory_multilinear.specs.Levels.{level}
 use Rattle.theory_multilinear.proofs.Levels.{last-level-at}
-use Rattle.theory_multilinear.proofs.Codeword.{length-encode, encode-lt}
+use Rattle.theory_multilinear.proofs.Codeword.{length-encode, encode-lt, folds-code, folds-code-at}
+use Rattle.theory_multilinear.proofs.Folds.{folds-first}
 use Rattle.theory_merkle.proofs.Tree.{treeOf-root}
 use Rattle.theory_blake3.specs.Digest.{hash}
 use Rattle.theory_blake3.proofs.HashMode.{length-hash}
 use Rattle.theory_code.specs.Gammas.{gammas}
+use Rattle.theory_code.specs.Questions.{rising, foldNumber}
 use Rattle.theory_record.specs.declared.WidthSet.{WidthSet}
 use Rattle.theory_record.specs.Widths.{Widths, widthsOf, levelLength, levelWidth, levelGroups, treeLength}
 use Rattle.theory_record.specs.Domain.{levelDomain}
@@ -33,12 +37,11 @@ use Rattle.theory_record.specs.Tail.{checkTail}
 use Rattle.theory_record.specs.Build.{treeStart, buildQueryNumber, buildQuery, buildTailNumber, buildTail}
 use Rattle.theory_record.proofs.Ranges.{SizesFit, sizes-small}
 use Rattle.theory_record.proofs.Runs.{Words}
-use Rattle.theory_record.proofs.Chain.{Sized, length-treesLent}
+use Rattle.theory_record.proofs.Chain.{length-treesLent}
 use Rattle.theory_record.proofs.Widths.{powers, narrow, level-shape}
 use Rattle.theory_record.proofs.Accepted.{length-treeFor, treeFor-long}
 use Rattle.theory_record.proofs.BuildAllowed.{QueryBuild, TailBuild, build-query, build-query-done, build-tail, build-tail-done}
 use Rattle.theory_record.specs.Build.{levelsLength}
-use Rattle.theory_record.specs.Accepted.{AcceptedQuery, AcceptedTail}
 use Rattle.theory_record.proofs.Committed.{codeword-sized, committed-query, committed-tail, claim-is-P}
 use Rattle.theory_merkle.specs.Numbers.{buildNumber}
 use Rattle.theory_record.proofs.Domain.{levelDomain-fits}
@@ -47,9 +50,23 @@ use Rattle.theory_record.proofs.LevelTree.{build-allowed, groups-some}
 use Rattle.theory_record.proofs.Exactly.{query-exactly, tail-exactly}
 use Rattle.theory_compare.proofs.Found.{leaves-fit}
 use Rattle.theory_compare.proofs.Compare.{Equal, Different, compare-accepted}
-use Rattle.theory_claim.specs.Calls.{Call, callNumber, doneFolds, afterFolds, leftBy}
-use Rattle.theory_claim.specs.Claim.{Deposit, committed, levelOf, Lent, LastLent, After, Collided, Outcome, Claim, Theorem}
-use Rattle.theory_claim.proofs.Calls.{left-level, refused-among, refused-exist, calls-exist}
+use Rattle.theory_claim.specs.Calls.{Codeword, Call, doneFolds, afterFolds, leftBy}
+use Rattle.theory_claim.specs.Claim.{Deposit, committed, left, done, levelOf, PartWay, Lent, LastLent, After, Collided, Outcome, Claim, Theorem}
+use Rattle.theory_claim.proofs.Calls.{
+  left-done,
+  after-list,
+  left-level,
+  done-folds,
+  folds-count,
+  refused-among,
+  refused-exist,
+  fold-lent,
+  shift-lent,
+  InUse,
+  rising-all,
+  rising-remaining,
+  calls-exist,
+}
 use Rattle.theory_claim.proofs.Levels.{fold-done, level-is, levels-lent, trees-lent, roots-lent}
 use Rattle.theory_compare.specs.Compare.{messageBuffer}
 use Rattle.theory_record.specs.Scheme.{Scheme, scheme}
@@ -61,8 +78,11 @@ module _ (set : WidthSet) (n k : ℕ) (base table challenges : List ℕ) (d : De
   abbrev s : Widths
   s = widthsOf set
 
+  abbrev start : Codeword
+  start = committed set n k base table challenges
+
   abbrev c : List ℕ
-  c = committed set n k base table challenges
+  c = start .values
 
   sizes : SizesFit n k
   sizes = record { n-most = d .n-most; k-most = d .k-most; n-least = d .n-least }
@@ -78,11 +98,25 @@ module _ (set : WidthSet) (n k : ℕ) (base table challenges : List ℕ) (d : De
   unfolding committedCodeword
   c-words = encode-lt n k _ (words table)
 
+  list-long : length (start .coordinates) ≡ n
+  list-long = length-tab n (λ i. i)
+
+  in-use : InUse k n n start
+  in-use =
+      record {
+        m-most = d .n-most;
+        k-most = d .k-most;
+        original-most = d .n-most;
+        values-long = c-long;
+        list-long = list-long;
+        list-rises = rising-all n;
+      }
+
   -- ---- 0
-  commit-done : commitNumber s n k (length base) (length table) (2 * (k * n)) (2 * length c) (32 * treeLength s n k 0) ≡ 0
+  commit-done : commitNumber s n k (length base) (length table) (2 * (k * n)) (2 * length c) (length (start .coordinates)) (32 * treeLength s n k 0) ≡ 0
   unfolding commitNumber
   commit-done =
-      yes-all (commitQuestions s n k (length base) (length table) (2 * (k * n)) (2 * length c) (32 * treeLength s n k 0)) (
+      yes-all (commitQuestions s n k (length base) (length table) (2 * (k * n)) (2 * length c) (length (start .coordinates)) (32 * treeLength s n k 0)) (
         le-leb n 20 (d .n-most),
         (
           le-leb k 4 (d .k-most),
@@ -90,7 +124,10 @@ module _ (set : WidthSet) (n k : ℕ) (base table challenges : List ℕ) (d : De
             eq-eqb _ _ (d .table-long),
             (
               eq-eqb (2 * (k * n)) _ refl,
-              (eq-eqb _ _ (ap (λ (x : ℕ). 2 * x) c-long), (eq-eqb (32 * treeLength s n k 0) _ refl, (le-leb _ 200 (d .base-short), tt))),
+              (
+                eq-eqb _ _ (ap (λ (x : ℕ). 2 * x) c-long),
+                (eq-eqb _ n list-long, (eq-eqb (32 * treeLength s n k 0) _ refl, (le-leb _ 200 (d .base-short), tt))),
+              ),
             ),
           ),
         ),
@@ -121,8 +158,72 @@ module _ (set : WidthSet) (n k : ℕ) (base table challenges : List ℕ) (d : De
       → buildTailNumber s n k last tree out ≡ 0
   tail-done last tree out l t o = build-tail s n k last tree out (record { sizes = sizes; level-long = l; tree-long = t; out-long = o })
 
-  -- ---- 2: after calls whose done ones are n folds at variable 0 by r
-  module _ (calls : List Call) (done : doneFolds c calls ≡ atFirst (words challenges)) where
+  -- ---- 2: after any calls
+  module _ (calls : List Call) where
+    abbrev fs : List Fold
+    fs = done set n k base table challenges calls
+
+    abbrev m : ℕ
+    m = length (left set n k base table challenges calls .coordinates)
+
+    values-are : left set n k base table challenges calls .values ≡ foldsList fs c
+    values-are = ap (λ (x : Codeword). x .values) (left-done calls start)
+
+    list-is : left set n k base table challenges calls .coordinates ≡ remaining fs (allCoordinates n)
+    list-is = ap (λ (x : Codeword). x .coordinates) (left-done calls start)
+
+    folds-done : Folds n m fs
+    folds-done = subst (λ (i : ℕ). Folds i m fs) list-long (done-folds calls start)
+
+    values-long : length (left set n k base table challenges calls .values) ≡ 2 ^ (m + k)
+    unfolding committedCodeword
+    values-long = ap length (values-are ∙ folds-code fs k (gammas hash base n k) (words table) folds-done) ∙ length-tab (2 ^ (m + k)) _
+
+    entry : (eps v : ℕ) → eps < 2 ^ k → v < 2 ^ m
+        → at (left set n k base table challenges calls .values) (eps * 2 ^ m + v)
+        ≡ block (shiftOver n k (gammas hash base n k) (left set n k base table challenges calls .coordinates) eps)
+        (folds (shifted fs (shift n k (gammas hash base n k) eps)) (at (words table))) v
+    unfolding committedCodeword
+    entry eps v he hv =
+        ap (λ (x : List ℕ). at x (eps * 2 ^ m + v)) values-are
+        ∙ folds-code-at fs k eps v (gammas hash base n k) (words table) folds-done he hv
+        ∙ ap (λ (x : List ℕ). block (shiftOver n k (gammas hash base n k) x eps) (folds (shifted fs (shift n k (gammas hash base n k) eps)) (at (words table))) v)
+        (sym list-is)
+
+    m-most : m ≤ 20
+    m-most = omega (arith, folds-count fs folds-done, d .n-most)
+
+    list-rises : rising 0 n (left set n k base table challenges calls .coordinates) ≡ true
+    list-rises = rw list-is (rising-remaining fs 0 n (allCoordinates n) (rising-all n))
+
+    next-done : (var : ℕ) → var < m
+        → foldNumber m k n var (left set n k base table challenges calls .coordinates) (2 * 2 ^ (m + k)) (2 * (2 ^ (m + k) / 2)) ≡ 0
+    next-done var h =
+        fold-lent m k n var (left set n k base table challenges calls .coordinates) (2 * 2 ^ (m + k)) (2 * (2 ^ (m + k) / 2))
+        (record {
+          n-most = m-most;
+          k-most = d .k-most;
+          original-most = d .n-most;
+          src-long = refl;
+          out-long = refl;
+          list-long = refl;
+          list-rises = list-rises;
+          below = h;
+        })
+
+    part-way : PartWay set n k base table challenges calls
+    part-way =
+        record {
+          folds-done = folds-done;
+          list-is = list-is;
+          values-long = values-long;
+          entry = entry;
+          shift-done = shift-lent m k n _ (2 * (k * n)) (2 * m) m-most (d .k-most) (d .n-most) refl refl refl list-rises;
+          next-done = next-done;
+        }
+
+  -- after calls whose done ones are n folds at variable 0 by r
+  module _ (calls : List Call) (done : doneFolds start calls ≡ atFirst (words challenges)) where
     abbrev levels : ℕ → List ℕ
     levels = levelOf set n k base table challenges calls
 
@@ -134,9 +235,12 @@ module _ (set : WidthSet) (n k : ℕ) (base table challenges : List ℕ) (d : De
         ap length (level-is set n k base table challenges (d .challenges-long) calls done l h)
         ∙ codeword-sized n k c (words challenges) c-long (sizes-small n k sizes) c-words .long l h
 
-    last-left : leftBy c calls ≡ levels n
+    level-list : (l : ℕ) → l ≤ n → afterFolds start calls l .coordinates ≡ drop l (allCoordinates n)
+    level-list l h = after-list calls start (words challenges) done l (rw r-long h)
+
+    last-left : leftBy start calls .values ≡ levels n
     last-left =
-        left-level calls c (words challenges) done ∙ ap folded r-long
+        left-level calls start (words challenges) done ∙ ap folded r-long
         ∙ sym (level-is set n k base table challenges (d .challenges-long) calls done n (omega arith))
 
     last-entry : (eps : ℕ) → eps < 2 ^ k → at (levels n) eps ≡ mle (at (words table)) (addPoint (words challenges) (shift n k (gammas hash base n k) eps))
@@ -173,7 +277,15 @@ module _ (set : WidthSet) (n k : ℕ) (base table challenges : List ℕ) (d : De
         (committed-tail S length-hash (powers set) (d .base-short) sizes c c-long c-words challenges (d .challenges-long) claim)
 
     after : After set n k base table challenges calls
-    after = record { level-long = level-long; last-left = last-left; last-entry = last-entry; query-record = query-record; tail-record = tail-record }
+    after =
+        record {
+          level-long = level-long;
+          level-list = level-list;
+          last-left = last-left;
+          last-entry = last-entry;
+          query-record = query-record;
+          tail-record = tail-record;
+        }
 
   -- ---- 4
   two-records : (position : ℕ) (rs roots u v old old′ : List ℕ) → Bytes u → Bytes v → length old ≡ messageBuffer → length old′ ≡ messageBuffer
@@ -212,9 +324,11 @@ module _ (set : WidthSet) (n k : ℕ) (base table challenges : List ℕ) (d : De
         root-last = λ l h values. root-last l values;
         query-done = query-done;
         tail-done = tail-done;
-        calls-exist = calls-exist k n (words challenges) c (d .n-most) (d .k-most) (omega (arith, r-long)) c-long;
-        refused-among = λ before behind x bad. refused-among before behind c x bad;
+        calls-exist = calls-exist k n (atFirst (words challenges)) start in-use (folds-first n 0 (words challenges) (omega (arith, r-long)));
+        any-folds = λ fs hs. calls-exist k n fs start in-use hs;
+        refused-among = λ before behind x bad. refused-among before behind start x bad;
         refused-exist = refused-exist;
+        part-way = part-way;
         after-calls = after;
         query-exactly = λ position rs roots bytes b. query-exactly S position rs roots bytes b;
         tail-exactly = λ root claim bytes b. tail-exactly S root claim bytes b few-groups;

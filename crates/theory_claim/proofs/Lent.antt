@@ -39,11 +39,11 @@ module _ (set : WidthSet) (n k : ℕ) (base table challenges : List ℕ) (d : De
   s = widthsOf set
 
   abbrev folded : ℕ → List ℕ
-  folded = level (committed set n k base table challenges) (words challenges)
+  folded = level (committed set n k base table challenges .values) (words challenges)
 
-  pub folded-lent : length levels ≡ 2 * levelsLength n k → words levels ≡ levelsLent n (level (committed set n k base table challenges) (words challenges))
-      → trees ≡ treesLent (scheme set base n k) (level (committed set n k base table challenges) (words challenges))
-      → roots ≡ rootsLent (scheme set base n k) (level (committed set n k base table challenges) (words challenges))
+  pub folded-lent : length levels ≡ 2 * levelsLength n k → words levels ≡ levelsLent n (level (committed set n k base table challenges .values) (words challenges))
+      → trees ≡ treesLent (scheme set base n k) (level (committed set n k base table challenges .values) (words challenges))
+      → roots ≡ rootsLent (scheme set base n k) (level (committed set n k base table challenges .values) (words challenges))
       → Lent set n k base table challenges calls levels trees roots
   folded-lent long el et er =
       record {

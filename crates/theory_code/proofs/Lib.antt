@@ -1,1 +1,2 @@
 pub mod Gammas
+pub mod Rising

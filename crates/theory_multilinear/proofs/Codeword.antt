@@ -1,6 +1,6 @@
 -- The codeword: blocks end to end, its entries, and the codeword folded at any variables.
 use mathlib.Core.Path.{_≡_, refl, sym, ap, _∙_, fun-ext}
-use mathlib.Core.List.{List, [], _∷_, _++_, map}
+use mathlib.Core.List.{List, [], _∷_, _++_}
 use Prim.Native.Nat.{ℕ, suc, _+_, _*_, _%_, _^_, _≤_, _<_}
 use native.Mathlib.Nat.{suc-mul, mul-comm}
 use native.Mathlib.Omega.{arith}
@@ -13,7 +13,7 @@ use Rattle.theory_laws.proofs.Places.{ins-high, ins-low}
 use Rattle.theory_multilinear.specs.Multilinear.{mle}
 use Rattle.theory_multilinear.specs.Fold.{foldAt}
 use Rattle.theory_multilinear.specs.Folds.{Fold, folds, foldsList, Folds, none, more, remaining, shifted}
-use Rattle.theory_multilinear.specs.Codeword.{shiftAt, shift, block, inBlocks, encode}
+use Rattle.theory_multilinear.specs.Codeword.{shiftAt, shift, allCoordinates, shiftOver, block, inBlocks, encode}
 use Rattle.theory_multilinear.specs.Points.{vertex, addPoint}
 use Rattle.theory_laws.proofs.Table.{at-tab-lt}
 use Rattle.theory_multilinear.proofs.Folds.{foldsList-tab, remaining-map}
@@ -77,8 +77,9 @@ first-block n k gammas t l h =
 
 -- L read at a list of coordinates: a fold drops its variable's
 pub remaining-shift : (fs : List Fold) (n k : ℕ) (gammas : List ℕ) (eps : ℕ)
-    → remaining fs (shift n k gammas eps) ≡ map (shiftAt n k gammas eps) (remaining fs (tab n (λ i. i)))
-remaining-shift fs n k gammas eps = ap (remaining fs) (shift-map n k gammas eps) ∙ remaining-map fs (shiftAt n k gammas eps) (tab n (λ i. i))
+    → remaining fs (shift n k gammas eps) ≡ shiftOver n k gammas (remaining fs (allCoordinates n)) eps
+unfolding shiftOver
+remaining-shift fs n k gammas eps = ap (remaining fs) (shift-map n k gammas eps) ∙ remaining-map fs (shiftAt n k gammas eps) (allCoordinates n)
 
 -- SPECIFICATION 6.5: block eps of the folded codeword is block eps of the encoding, under the remaining coordinates, of the table
 -- folded at the same variables, each challenge r replaced by r plus the entry of L(eps) there
@@ -91,10 +92,10 @@ folds-code {n = n} {m = m} fs k gammas t hs =
     ∙ ap (tab (2 ^ (m + k))) (folds-inBlocks fs (λ eps. block (shift n k gammas eps) (at t)) hs
     ∙ ap (inBlocks m) (fun-ext (λ eps. folds-block fs (shift n k gammas eps) (at t) hs (length-shift n k gammas eps))))
 
--- the same of an entry, L(eps) being read at the coordinates that remain of 0 .. n - 1
+-- the same of an entry, L(eps) being read at the coordinates that remain of 0 to n - 1
 pub folds-code-at : {n m : ℕ} (fs : List Fold) (k eps v : ℕ) (gammas t : List ℕ) → Folds n m fs → eps < 2 ^ k → v < 2 ^ m
     → at (foldsList fs (encode n k gammas t)) (eps * 2 ^ m + v)
-    ≡ block (map (shiftAt n k gammas eps) (remaining fs (tab n (λ i. i)))) (folds (shifted fs (shift n k gammas eps)) (at t)) v
+    ≡ block (shiftOver n k gammas (remaining fs (allCoordinates n)) eps) (folds (shifted fs (shift n k gammas eps)) (at t)) v
 folds-code-at {n = n} {m = m} fs k eps v gammas t hs he hv =
     ap (λ l. at l (eps * 2 ^ m + v)) (folds-code fs k gammas t hs)
     ∙ at-blocks m k eps v (λ eps. block (remaining fs (shift n k gammas eps)) (folds (shifted fs (shift n k gammas eps)) (at t))) he hv

@@ -1,7 +1,7 @@
 -- The code (SPECIFICATION 6.2 and 6.3): the shifts L(eps), and the codeword of a table, whose entries are P(v + L(eps)). Rests on the
 -- multilinear extension.
 use Prim.Native.Nat.{ℕ, _+_, _*_, _/_, _%_, _^_}
-use mathlib.Core.List.{List}
+use mathlib.Core.List.{List, map}
 use lib.ListN.{length}
 use Rattle.theory_laws.specs.Xor.{bit, sel}
 use Rattle.theory_laws.specs.Sum.{sum}
@@ -20,6 +20,14 @@ shiftAt n k gammas eps i = sum k (λ j. sel (bit j eps) (gamma n gammas j i))
 -- L(eps), a point of n coordinates
 unfoldable pub shift : ℕ → ℕ → List ℕ → ℕ → List ℕ
 shift n k gammas eps = tab n (shiftAt n k gammas eps)
+
+-- the coordinates of a committed codeword, of which none is folded away: 0 to n - 1
+abbrev pub allCoordinates : ℕ → List ℕ
+allCoordinates n = tab n (λ i. i)
+
+-- L(eps) of a codeword folded part way: of its n coordinates those of a list, which are not folded away
+unfoldable pub shiftOver : ℕ → ℕ → List ℕ → List ℕ → ℕ → List ℕ
+shiftOver n k gammas coordinates eps = map (shiftAt n k gammas eps) coordinates
 
 -- entry v of a block whose shift is d: P(v + d)
 unfoldable pub block : List ℕ → (ℕ → ℕ) → ℕ → ℕ

@@ -13,7 +13,8 @@ use Rattle.theory_field.proofs.Inverse.{inverse-unique}
 use Rattle.theory_multilinear.specs.Equality.{prod, factor, eqAt, eqTable}
 use Rattle.theory_multilinear.specs.Multilinear.{mle}
 use Rattle.theory_multilinear.specs.Fold.{line, foldAt, foldList}
-use Rattle.theory_multilinear.specs.Codeword.{gamma, shiftAt, shift, block, inBlocks, encode}
+use Rattle.theory_multilinear.specs.Folds.{foldsList, dropAt, remaining, shifted}
+use Rattle.theory_multilinear.specs.Codeword.{gamma, shiftAt, shift, shiftOver, block, inBlocks, encode}
 use Rattle.theory_multilinear.specs.Points.{vertex, addPoint}
 use Rattle.theory_multilinear.specs.Phi.{phi}
 use Rattle.theory_multilinear.specs.Partials.{partial, partialEvals, materialize, indicator}
@@ -34,7 +35,7 @@ inverse-of-2 = sym (inverse-unique 2 0x80000000000000000000000000000043 (lit< tt
 
 pub all-hold : AllHold (cases ++ compareCases)
 unfolding codeword reduction xtime mulBits _⊗_ sq sel _⊕_ sum tab ins prod factor eqAt eqTable mle line foldAt foldList
-    gamma shiftAt shift vertex addPoint block inBlocks encode phi partial partialEvals materialize indicator
+    foldsList dropAt remaining shifted gamma shiftAt shift shiftOver vertex addPoint block inBlocks encode phi partial partialEvals materialize indicator
     flat leBytes same prefixed serializePrefix serializeParts leafLabel nodeLabel wordsBytes leafPrefix leafRest leafMessage nodeMessage
     differing lastDiffering messages messagesOf collision widthsOf widthFor levelLength levelWidth decimalWithin decimal levelDomain
     pairOf openingFound pairFound levelsFound inBuffer
@@ -42,4 +43,4 @@ all-hold = (refl, (refl, (refl, (ap one inverse-of-2, rest))))
   where
     -- all but the first four
     rest : AllHold (drop 4 (cases ++ compareCases))
-    rest = (refl, (refl, (refl, (refl, (refl, (refl, (refl, (refl, (refl, (refl, (refl, (refl, (refl, (refl, (refl, tt)))))))))))))))
+    rest = (refl, (refl, (refl, (refl, (refl, (refl, (refl, (refl, (refl, (refl, (refl, (refl, (refl, (refl, (refl, (refl, (refl, (refl, tt))))))))))))))))))

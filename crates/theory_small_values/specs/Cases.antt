@@ -8,7 +8,8 @@ use Rattle.theory_laws.specs.Table.{at}
 use Rattle.theory_field.specs.Field.{_⊗_, sq, inverse}
 use Rattle.theory_multilinear.specs.Equality.{eqTable}
 use Rattle.theory_multilinear.specs.Fold.{foldList}
-use Rattle.theory_multilinear.specs.Codeword.{encode}
+use Rattle.theory_multilinear.specs.Folds.{foldsList, remaining, shifted}
+use Rattle.theory_multilinear.specs.Codeword.{shift, allCoordinates, shiftOver, encode}
 use Rattle.theory_multilinear.specs.Partials.{partialEvals, indicator}
 use Rattle.theory_record.specs.declared.WidthSet.{WidthSet}
 use Rattle.theory_record.specs.Widths.{widthsOf, widthFor}
@@ -45,6 +46,11 @@ cases =
     ∷ (codeword gives (5 ∷ 9 ∷ 33 ∷ 45 ∷ []))
     -- folded by 2
     ∷ (foldList 0 2 codeword gives (29 ∷ 57 ∷ []))
+    -- the second of these is the table 5, 9 folded by 2 + 7: 7 is the coordinate of L(1) that is folded away
+    ∷ (foldsList (shifted (record { var = 0; by = 2 } ∷ []) (shift 1 1 (one 7) 1)) (5 ∷ 9 ∷ []) gives one 57)
+    -- the coordinates that two folds at variable 1 leave of four, and L(1) read from these
+    ∷ (remaining (record { var = 1; by = 2 } ∷ record { var = 1; by = 3 } ∷ []) (allCoordinates 4) gives (0 ∷ 3 ∷ []))
+    ∷ (shiftOver 4 1 (7 ∷ 8 ∷ 9 ∷ 10 ∷ []) (0 ∷ 3 ∷ []) 1 gives (7 ∷ 10 ∷ []))
     -- the widths of lengths 1, 2, 8, 16 under the present set
     ∷ (map (widthFor (widthsOf WidthSet.Present)) (1 ∷ 2 ∷ 8 ∷ 16 ∷ []) gives (1 ∷ 2 ∷ 2 ∷ 8 ∷ []))
     -- and of 1, 2, 32, 64 under the wide set

@@ -1,7 +1,7 @@
 //! The code layer of the archive.
 
 use super::{lowered, pair, raised, Pair};
-use crate::code::Code;
+use crate::code::{Code, InUse};
 use oracle::Word;
 
 /// A number, and the n of a folded codeword.
@@ -23,7 +23,10 @@ extern "C" {
     fn dequmlo_test_l_of(
         n: usize,
         k: usize,
+        original: usize,
         eps: usize,
+        coordinates: *const usize,
+        coordinates_length: usize,
         gammas: *const u64,
         gammas_length: usize,
         out: *mut u64,
@@ -42,13 +45,23 @@ extern "C" {
     fn dequmlo_test_fold(
         n: usize,
         k: usize,
+        original: usize,
         var: usize,
         r: Pair,
+        coordinates: *mut usize,
+        coordinates_length: usize,
         src: *const u64,
         src_length: usize,
         out: *mut u64,
         out_length: usize,
     ) -> Folded;
+    fn dequmlo_test_earlier_reading(
+        n: usize,
+        k: usize,
+        original: usize,
+        coordinates: *mut usize,
+        coordinates_length: usize,
+    ) -> u32;
 }
 
 pub const CODE: Code = Code {
@@ -56,6 +69,7 @@ pub const CODE: Code = Code {
     l_of,
     encode,
     fold,
+    earlier_reading,
 };
 
 fn derive(n: usize, k: usize, domain: &str) -> (u64, Vec<Word>) {
@@ -74,15 +88,18 @@ fn derive(n: usize, k: usize, domain: &str) -> (u64, Vec<Word>) {
     (u64::from(number), raised(&out))
 }
 
-fn l_of(n: usize, k: usize, gammas: &[Word], eps: usize) -> (u64, Vec<Word>) {
+fn l_of(in_use: &InUse, gammas: &[Word], eps: usize) -> (u64, Vec<Word>) {
     let lent = lowered(gammas);
-    let mut out = vec![0; 2 * n];
-    // SAFETY: both slices are whole, and live through the call.
+    let mut out = vec![0; 2 * in_use.n];
+    // SAFETY: the three slices are whole, and live through the call.
     let number = unsafe {
         dequmlo_test_l_of(
-            n,
-            k,
+            in_use.n,
+            in_use.k,
+            in_use.original,
             eps,
+            in_use.coordinates.as_ptr(),
+            in_use.coordinates.len(),
             lent.as_ptr(),
             lent.len(),
             out.as_mut_ptr(),
@@ -111,21 +128,43 @@ fn encode(n: usize, k: usize, gammas: &[Word], table: &[Word]) -> (u64, Vec<Word
     (u64::from(number), raised(&out))
 }
 
-fn fold(n: usize, k: usize, var: usize, r: Word, values: &[Word]) -> (u64, Vec<Word>, usize) {
+/// The list that is left is the first entries of the lent one; what is behind must be 0.
+fn fold(in_use: &mut InUse, var: usize, r: Word, values: &[Word]) -> (u64, Vec<Word>) {
     let src = lowered(values);
     let mut out = vec![0; src.len() / 2];
-    // SAFETY: both slices are whole, and live through the call.
+    // SAFETY: the three slices are whole, and live through the call.
     let folded = unsafe {
         dequmlo_test_fold(
-            n,
-            k,
+            in_use.n,
+            in_use.k,
+            in_use.original,
             var,
             pair(r),
+            in_use.coordinates.as_mut_ptr(),
+            in_use.coordinates.len(),
             src.as_ptr(),
             src.len(),
             out.as_mut_ptr(),
             out.len(),
         )
     };
-    (u64::from(folded.number), raised(&out), folded.n)
+    in_use.n = folded.n;
+    if in_use.coordinates.last() == Some(&0) {
+        in_use.coordinates.pop();
+    }
+    (u64::from(folded.number), raised(&out))
+}
+
+fn earlier_reading(in_use: &mut InUse) -> u64 {
+    // SAFETY: the slice is whole, and lives through the call.
+    let number = unsafe {
+        dequmlo_test_earlier_reading(
+            in_use.n,
+            in_use.k,
+            in_use.original,
+            in_use.coordinates.as_mut_ptr(),
+            in_use.coordinates.len(),
+        )
+    };
+    u64::from(number)
 }

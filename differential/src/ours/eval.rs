@@ -1,6 +1,7 @@
 //! Parameters, widths, level domains and committing, of the archive.
 
 use super::{cut, lowered, raised};
+use crate::code::InUse;
 use crate::eval::Eval;
 use oracle::query::{fold_tree_width as width, Commitment, Params};
 use oracle::Word;
@@ -35,6 +36,8 @@ extern "C" {
         gammas_length: usize,
         codeword: *mut u64,
         codeword_length: usize,
+        coordinates: *mut usize,
+        coordinates_length: usize,
         tree: *mut u8,
         tree_length: usize,
     ) -> u32;
@@ -46,6 +49,7 @@ pub const EVAL: Eval = Eval {
     level_domain,
     parameters,
     commit,
+    code: super::code::CODE,
 };
 
 fn level_domain(base: &str, level: usize) -> Vec<u8> {
@@ -74,12 +78,14 @@ fn parameters(number: usize) -> Params {
     }
 }
 
-fn commit(n: usize, k: usize, base: &str, table: &[Word]) -> (u64, Commitment) {
+fn commit(n: usize, k: usize, base: &str, table: &[Word]) -> (u64, Commitment, InUse) {
     let count = 1 << (n + k);
     let table = lowered(table);
     let (mut gammas, mut codeword) = (vec![0; 2 * n * k], vec![0; 2 * count]);
     let mut tree = vec![0; 32 * (2 * (count / width(count)) - 1)];
-    // SAFETY: the five slices are whole, and live through the call.
+    let mut in_use = InUse::committed(n, k);
+    in_use.coordinates.fill(usize::MAX);
+    // SAFETY: the six slices are whole, and live through the call.
     let number = unsafe {
         dequmlo_test_commit(
             n,
@@ -92,6 +98,8 @@ fn commit(n: usize, k: usize, base: &str, table: &[Word]) -> (u64, Commitment) {
             gammas.len(),
             codeword.as_mut_ptr(),
             codeword.len(),
+            in_use.coordinates.as_mut_ptr(),
+            in_use.coordinates.len(),
             tree.as_mut_ptr(),
             tree.len(),
         )
@@ -101,5 +109,5 @@ fn commit(n: usize, k: usize, base: &str, table: &[Word]) -> (u64, Commitment) {
         codeword: raised(&codeword),
         digests: cut(&tree),
     };
-    (u64::from(number), made)
+    (u64::from(number), made, in_use)
 }

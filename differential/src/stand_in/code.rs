@@ -3,15 +3,22 @@
 
 use super::field::{eq_table, mul};
 use super::Wrong;
-use crate::code::Code;
+use crate::code::{Code, InUse};
 use oracle::Word;
 
 /// Written from the definitions.
 pub const RIGHT: Code = Code {
     derive: |n, k, domain| (0, derive(n, k, domain)),
-    l_of: |n, k, gammas, eps| (0, l_of(n, k, gammas, eps)),
+    l_of: |in_use, gammas, eps| (0, l_in_use(in_use, gammas, eps)),
     encode: |n, k, gammas, table| (0, encode(n, k, gammas, table)),
-    fold: |n, _, var, r, values| (0, fold(var, r, values), n - 1),
+    fold: |in_use, var, r, values| {
+        drop_entry(in_use, var);
+        (0, fold(var, r, values))
+    },
+    earlier_reading: |in_use| {
+        in_use.coordinates = (0..in_use.n).collect();
+        0
+    },
 };
 
 pub const WRONG: &[Wrong<Code>] = &[
@@ -27,11 +34,19 @@ pub const WRONG: &[Wrong<Code>] = &[
         "l_of",
         "the gammas read with i outer",
         Code {
-            l_of: |n, k, gammas, eps| {
-                let set = || (0..k).filter(|j| eps >> j & 1 == 1);
-                let at = |i: usize| set().fold(Word(0), |d, j| d + gammas[i * k + j]);
-                (0, (0..n).map(at).collect())
+            l_of: |in_use, gammas, eps| {
+                let set = || (0..in_use.k).filter(|j| eps >> j & 1 == 1);
+                let at = |&i: &usize| set().fold(Word(0), |d, j| d + gammas[i * in_use.k + j]);
+                (0, in_use.coordinates.iter().map(at).collect())
             },
+            ..RIGHT
+        },
+    ),
+    (
+        "l_of",
+        "rows of n gammas",
+        Code {
+            l_of: |in_use, gammas, eps| (0, l_of(in_use.n, in_use.k, gammas, eps)),
             ..RIGHT
         },
     ),
@@ -47,9 +62,9 @@ pub const WRONG: &[Wrong<Code>] = &[
         "fold",
         "b kept",
         Code {
-            fold: |n, _, var, r, values| {
-                let kept = folded(values, var, |a, b| a + mul(r, a + b) + b);
-                (0, kept, n - 1)
+            fold: |in_use, var, r, values| {
+                drop_entry(in_use, var);
+                (0, folded(values, var, |a, b| a + mul(r, a + b) + b))
             },
             ..RIGHT
         },
@@ -58,7 +73,53 @@ pub const WRONG: &[Wrong<Code>] = &[
         "fold",
         "n not lowered",
         Code {
-            fold: |n, _, var, r, values| (0, fold(var, r, values), n),
+            fold: |in_use, var, r, values| {
+                in_use.coordinates.remove(var);
+                (0, fold(var, r, values))
+            },
+            ..RIGHT
+        },
+    ),
+    (
+        "fold",
+        "the list's last entry dropped",
+        Code {
+            fold: drops_last,
+            ..RIGHT
+        },
+    ),
+    (
+        "earlier_reading",
+        "the list kept",
+        Code {
+            earlier_reading: |_| 0,
+            ..RIGHT
+        },
+    ),
+    (
+        "earlier_reading",
+        "the original n lowered to n",
+        Code {
+            earlier_reading: |in_use| {
+                *in_use = InUse::committed(in_use.n, in_use.k);
+                0
+            },
+            ..RIGHT
+        },
+    ),
+    (
+        "half_folded",
+        "the list's last entry dropped",
+        Code {
+            fold: drops_last,
+            ..RIGHT
+        },
+    ),
+    (
+        "half_folded",
+        "the first n coordinates read",
+        Code {
+            l_of: |in_use, gammas, eps| (0, l_in_use(&in_use.earlier(), gammas, eps)),
             ..RIGHT
         },
     ),
@@ -94,6 +155,23 @@ fn l_of(n: usize, k: usize, gammas: &[Word], eps: usize) -> Vec<Word> {
     (0..n)
         .map(|i| set().fold(Word(0), |d, j| d + gammas[j * n + i]))
         .collect()
+}
+
+/// The entries of L(eps) at the coordinates that are left.
+fn l_in_use(in_use: &InUse, gammas: &[Word], eps: usize) -> Vec<Word> {
+    let whole = l_of(in_use.original, in_use.k, gammas, eps);
+    in_use.coordinates.iter().map(|&i| whole[i]).collect()
+}
+
+/// Lowers n, and drops an entry of the list.
+fn drop_entry(in_use: &mut InUse, gone: usize) {
+    in_use.n -= 1;
+    in_use.coordinates.remove(gone);
+}
+
+fn drops_last(in_use: &mut InUse, var: usize, r: Word, values: &[Word]) -> (u64, Vec<Word>) {
+    drop_entry(in_use, in_use.n - 1);
+    (0, fold(var, r, values))
 }
 
 /// Entry eps × 2^n + v: P(v + L(eps)), coordinate i of v being its bit i.

@@ -1,6 +1,7 @@
 //! Stand-ins for parameters, widths, level domains and committing.
 
 use super::{code, tree, Wrong};
+use crate::code::{Code, InUse};
 use crate::eval::Eval;
 use oracle::query::{Commitment, Params};
 use oracle::Word;
@@ -10,7 +11,11 @@ pub const RIGHT: Eval = Eval {
     fold_tree_width: width,
     level_domain,
     parameters,
-    commit: |n, k, base, table| (0, commit(n, k, base, &level_domain(base, 0), table)),
+    commit: |n, k, base, table| {
+        let made = commit(n, k, base, &level_domain(base, 0), table);
+        (0, made, InUse::committed(n, k))
+    },
+    code: code::RIGHT,
 };
 
 pub const WRONG: &[Wrong<Eval>] = &[
@@ -46,7 +51,44 @@ pub const WRONG: &[Wrong<Eval>] = &[
         "commit",
         "the tree under the base domain",
         Eval {
-            commit: |n, k, base, table| (0, commit(n, k, base, base.as_bytes(), table)),
+            commit: |n, k, base, table| {
+                let made = commit(n, k, base, base.as_bytes(), table);
+                (0, made, InUse::committed(n, k))
+            },
+            ..RIGHT
+        },
+    ),
+    (
+        "commit",
+        "the coordinates counted from 1",
+        Eval {
+            commit: |n, k, base, table| {
+                let (number, made, mut in_use) = (RIGHT.commit)(n, k, base, table);
+                in_use.coordinates.iter_mut().for_each(|i| *i += 1);
+                (number, made, in_use)
+            },
+            ..RIGHT
+        },
+    ),
+    (
+        "resumed",
+        "L of the list that is left",
+        Eval {
+            code: Code {
+                earlier_reading: |_| 0,
+                ..code::RIGHT
+            },
+            ..RIGHT
+        },
+    ),
+    (
+        "resumed",
+        "a fold at variable 0, whichever it is",
+        Eval {
+            code: Code {
+                fold: |in_use, _, r, values| (code::RIGHT.fold)(in_use, 0, r, values),
+                ..code::RIGHT
+            },
             ..RIGHT
         },
     ),

@@ -131,10 +131,57 @@ fn codewords_are_shifted_extensions() {
         let (gammas, table) = (random.words(n * k), random.words(1 << n));
         let codeword = code::encode(n, k, &gammas, &table);
         for (place, &entry) in codeword.iter().enumerate() {
-            let shift = code::l_of(n, k, &gammas, place >> n);
+            let shift = code::l_of(n, k, n, &gammas, place >> n);
             let bit = |i: usize| word((place >> i & 1) as u128);
             let z: Vec<Word> = (0..n).map(|i| bit(i) + shift[i]).collect();
             assert_eq!(entry, extension(&table, &z));
+        }
+    }
+}
+
+/// A committed table folded at any variables: L is what the request `l_of` takes it
+/// from, the first n entries of L before the folds.
+#[test]
+fn folded_codewords_read_the_first_coordinates() {
+    start();
+    let mut random = Random(5);
+    for (n, k) in [(1, 0), (1, 1), (3, 2), (5, 4), (6, 3)] {
+        let table = random.words(1 << n);
+        let (mut codeword, _) = query::commit(k, "d", &table);
+        let gammas = code::derive(n, k, "d");
+        for left in (0..n).rev() {
+            codeword = codeword.fold(random.below(left + 1), random.word());
+            for eps in 0..1 << k {
+                let shift = code::shift(&codeword, eps);
+                assert_eq!(shift, code::l_of(left, k, n, &gammas, eps));
+                assert_eq!(shift, code::l_of(n, k, n, &gammas, eps)[..left]);
+            }
+        }
+    }
+}
+
+/// Block eps of a folded codeword is shifted by the entries of L(eps) at the
+/// coordinates that are left; those that are gone are in the challenges of the table.
+#[test]
+fn folded_codewords_are_shifted_by_what_is_left() {
+    start();
+    let mut random = Random(6);
+    for (n, k) in [(1, 1), (2, 1), (3, 2), (4, 4), (5, 3)] {
+        let (gammas, table) = (random.words(n * k), random.words(1 << n));
+        let mut codeword = code::encode(n, k, &gammas, &table);
+        let mut tables = vec![table; 1 << k];
+        let mut left: Vec<usize> = (0..n).collect();
+        while let Some(last) = left.len().checked_sub(1) {
+            let (var, r) = (random.below(last + 1), random.word());
+            codeword = code::fold(last + 1, k, var, r, &codeword).0;
+            let gone = left.remove(var);
+            for (eps, table) in tables.iter_mut().enumerate() {
+                let shift = code::l_of(n, k, n, &gammas, eps);
+                *table = code::fold(last + 1, 0, var, r + shift[gone], table).0;
+                let rest: Vec<Word> = left.iter().map(|&i| shift[i]).collect();
+                let shifted = &code::encode(last, 1, &rest, table)[1 << last..];
+                assert_eq!(&codeword[eps << last..(eps + 1) << last], shifted);
+            }
         }
     }
 }

@@ -47,6 +47,15 @@ mul-t18 c = search needs
 shared-slice-read-t20 : tie.Need-shared-slice-read-t20
 shared-slice-read-t20 c = let start : tie.Start = search in let p = start .pre .0 in search needs
 
+add-t21 : tie.Need-add-t21
+add-t21 c = let start : tie.Start = search in let p = start .pre .0 in search needs
+
+mul-t22 : tie.Need-mul-t22
+mul-t22 c = search needs
+
+shared-slice-read-t24 : tie.Need-shared-slice-read-t24
+shared-slice-read-t24 c = let start : tie.Start = search in let p = start .pre .0 in search needs
+
 returns : tie.Need-returns
 returns c = let got : tie.After-get = search in same-by _ (got .get .ensures)
 
@@ -67,4 +76,7 @@ call-at-spec =
     add-t17
     mul-t18
     shared-slice-read-t20
+    add-t21
+    mul-t22
+    shared-slice-read-t24
     returns)

@@ -21,25 +21,25 @@ use Rattle.claim_fold_calls.proofs.call_at.Reads as call-at-reads
 use Rattle.field_words.proofs.clear.Reads as clear-reads
 
 abbrev Inv-loop : tie.InvT-loop
-Inv-loop n k calls challenges levels₀ half₀ kept₀ count at₀ i₀ levels half kept at i =
+Inv-loop n k calls challenges levels₀ coordinates₀ half₀ kept₀ count at₀ i₀ levels coordinates half kept at i =
     (length half ≡ length half₀)
-    × Reached n k (levelValues n k (words levels₀) 0) (words levels₀) (words kept₀) (lentCalls calls (words challenges))
-    (callsFrom calls (words challenges) i (count - i)) (at .done) (at .from) levels kept
+    × Reached n k (record { values = levelValues n k (words levels₀) 0; coordinates = coordinates₀ }) (words levels₀) (words kept₀)
+    (lentCalls calls (words challenges)) (callsFrom calls (words challenges) i (count - i)) (at .done) (at .from) levels coordinates kept
 
 abbrev μ-loop : tie.MeasureT-loop
-μ-loop n k calls challenges levels₀ half₀ kept₀ count at₀ i₀ levels half kept at i = count - i
+μ-loop n k calls challenges levels₀ coordinates₀ half₀ kept₀ count at₀ i₀ levels coordinates half kept at i = count - i
 
 loop-holds : tie.Need-loop-holds Inv-loop μ-loop
 loop-holds c =
     let start : tie.Start Inv-loop μ-loop = search in
     let p = start .pre in
-    (refl, reached-begin _ _ _ _ _ _ (p .0 .levels-long) (p .1))
+    (refl, reached-begin _ _ _ _ _ _ _ (p .room .levels-long) (p .list-long) (p .kept-long))
 
 call-at-requires : tie.Need-call-at-requires Inv-loop μ-loop
 call-at-requires c κs =
     let start : tie.Start Inv-loop μ-loop = search in
     let turn : tie.In-loop Inv-loop μ-loop = search in
-    (start .pre .2, omega (arith, turn .loop-test .taken, start .pre .2 .calls-long))
+    (start .pre .calls-lent, omega (arith, turn .loop-test .taken, start .pre .calls-lent .calls-long))
 
 call-requires : tie.Need-call-requires Inv-loop μ-loop
 call-requires c κs =
@@ -50,11 +50,12 @@ call-requires c κs =
     let s = head .loop .inv in
     record {
       level = record {
-        room = record { n-most = p .0 .n-most; k-most = p .0 .k-most; levels-long = s .1 .levels-long; half-long = s .0 ∙ p .0 .half-long };
+        room = record { n-most = p .room .n-most; k-most = p .room .k-most; levels-long = s .1 .levels-long; half-long = s .0 ∙ p .room .half-long };
         within = s .1 .within;
         from= = s .1 .from=;
       };
       below = ltb-true _ _ (passed .if1 .taken);
+      list-long = s .1 .list-long;
       kept-long = s .1 .kept-long;
     }
 
@@ -67,17 +68,20 @@ add-i c =
 loop-less : tie.Need-loop-less Inv-loop μ-loop
 loop-less c = search needs
 
+abbrev passed-of : tie.After-call-at Inv-loop μ-loop → tie.Then1 Inv-loop μ-loop
+passed-of c = search
+
 loop-again : tie.Need-loop-again Inv-loop μ-loop
 loop-again c =
     let head : tie.At-loop Inv-loop μ-loop = search in
     let turn : tie.In-loop Inv-loop μ-loop = search in
-    let passed : tie.Then1 Inv-loop μ-loop = search in
-    let read : tie.After-call-at Inv-loop μ-loop = search in
     let called : tie.After-call Inv-loop μ-loop = search in
+    let read : tie.After-call-at Inv-loop μ-loop = search in
+    let passed = passed-of read in
     let s = head .loop .inv in
     let run = called .call in (
-      run .kept .1 .1 .1 .1 .1 .0 ∙ s .0,
-      turned _ _ _ _ (s .1) (turn .loop-test .taken) (ltb-true _ _ (passed .if1 .taken)) (run .kept .1 .1 .1 .1 .0) (run .kept .1 .1 .1 .1 .1 .1 .0)
+      run .kept .1 .1 .1 .1 .1 .1 .0 ∙ s .0,
+      turned _ _ _ _ (s .1) (turn .loop-test .taken) (ltb-true _ _ (passed .if1 .taken)) (run .kept .1 .1 .1 .1 .0) (run .kept .1 .1 .1 .1 .1 .1 .1 .0)
           (same-call (run .ensures) (read .call-at .ensures)),
     )
 
@@ -88,19 +92,25 @@ same-length : tie.Need-same-length Inv-loop μ-loop
 same-length c =
     let start : tie.Start Inv-loop μ-loop = search in
     let head : tie.At-loop Inv-loop μ-loop = search in
-    head .loop .inv .1 .levels-long ∙ sym (start .pre .0 .levels-long)
+    head .loop .inv .1 .levels-long ∙ sym (start .pre .room .levels-long)
 
 same-length-2 : tie.Need-same-length-2 Inv-loop μ-loop
 same-length-2 c =
+    let start : tie.Start Inv-loop μ-loop = search in
+    let head : tie.At-loop Inv-loop μ-loop = search in
+    head .loop .inv .1 .list-long ∙ sym (start .pre .list-long)
+
+same-length-3 : tie.Need-same-length-3 Inv-loop μ-loop
+same-length-3 c =
     let head : tie.At-loop Inv-loop μ-loop = search in
     let cleared : tie.After-clear Inv-loop μ-loop = search in
     cleared .clear .kept .0 ∙ head .loop .inv .0
 
-same-length-3 : tie.Need-same-length-3 Inv-loop μ-loop
-same-length-3 c =
+same-length-4 : tie.Need-same-length-4 Inv-loop μ-loop
+same-length-4 c =
     let start : tie.Start Inv-loop μ-loop = search in
     let head : tie.At-loop Inv-loop μ-loop = search in
-    head .loop .inv .1 .kept-long ∙ sym (start .pre .1)
+    head .loop .inv .1 .kept-long ∙ sym (start .pre .kept-long)
 
 returns : tie.Need-returns Inv-loop μ-loop
 returns c =
@@ -128,4 +138,5 @@ fold-calls-spec =
     same-length
     same-length-2
     same-length-3
+    same-length-4
     returns)

@@ -63,6 +63,9 @@ same-length-2 c = search needs
 same-length-3 : tie.Need-same-length-3
 same-length-3 c = search needs
 
+same-length-4 : tie.Need-same-length-4
+same-length-4 c = search needs
+
 returns : tie.Need-returns
 returns c =
     let done : tie.After-commit = search in
@@ -82,9 +85,10 @@ returns c =
       gammas-are = made _ _ _ _ _ (e .0) z (e .1 .0);
       level-is = first-level _ _ (done .commit .last .1 .1 .1 .1 .1 .1 .0) _ front ∙ made _ _ _ _ _ (e .0) z (e .1 .1 .0);
       behind = same-behind _ _ (done .commit .last .1 .1 .1 .1 .1 .1 .0) (a .levels .now) es front;
+      list-is = made _ _ _ _ _ (e .0) z (e .1 .1 .1 .0);
       tree-is =
-          take-at (done .commit .last .1 .1 .1 .1 .1 .1 .1 .0) _ _ (kept .1 .1 .1 .1 .1 .1 .1 .0 ∙ bytes)
-          ∙ tree-left (a .set) (a .base .now) (a .table .now) (start .pre) (made _ _ _ _ _ (e .0) z (e .1 .1 .1));
+          take-at (done .commit .last .1 .1 .1 .1 .1 .1 .1 .1 .0) _ _ (kept .1 .1 .1 .1 .1 .1 .1 .1 .0 ∙ bytes)
+          ∙ tree-left (a .set) (a .base .now) (a .table .now) (start .pre) (made _ _ _ _ _ (e .0) z (e .1 .1 .1 .1));
     }
 
 pub commit-first-spec : {M : Type 1} → statement M
@@ -102,4 +106,5 @@ commit-first-spec =
     same-length
     same-length-2
     same-length-3
+    same-length-4
     returns)

@@ -5,6 +5,7 @@ use mathlib.Core.List.{List}
 use lib.ListN.{length, take, drop}
 use denote.Ref.{RefT, now}
 use Rattle.theory_field.specs.Words.{words}
+use Rattle.theory_multilinear.specs.Codeword.{allCoordinates}
 use Rattle.theory_blake3.specs.Digest.{hash}
 use Rattle.theory_code.specs.Gammas.{gammas}
 use Rattle.theory_record.specs.declared.WidthSet.{WidthSet}
@@ -21,18 +22,19 @@ use Rattle.theory_compare.specs.Lent.{Slice}
 use Rattle.claim_fold_calls.specs.helpers.Laid.{CallsLent}
 use Rattle.claim_run_parts.specs.Parts.{Deposited, lastLevel, lastTree}
 
--- for committing: a table of 2^n words, room for the gammas, and at least for level 0 and its tree
-pub record CommitRoom (s : Widths) (n k base table gammas levels trees : ℕ) : Type 0 where
+-- for committing: a table of 2^n words, room for the gammas and the list of coordinates, and at least for level 0 and its tree
+pub record CommitRoom (s : Widths) (n k base table gammas levels coordinates trees : ℕ) : Type 0 where
   pub sizes : SizesFit n k
   pub base-short : base ≤ 200
   pub table-long : table ≡ 2 * 2 ^ n
   pub gammas-long : gammas ≡ 2 * (k * n)
   pub levels-long : levels ≡ 2 * levelsLength n k
+  pub list-long : coordinates ≡ n
   pub trees-long : trees ≡ 32 * treeStart s n k (suc n)
 
--- and for the levels: four numbers and a challenge for each call, room for a fold, n challenges and all roots
-pub record Room (s : Widths) (n k base table calls challenges gammas levels half kept trees roots : ℕ) : Type 0 where
-  pub commit : CommitRoom s n k base table gammas levels trees
+-- and for the levels: five numbers and a challenge for each call, room for a fold, n challenges and all roots
+pub record Room (s : Widths) (n k base table calls challenges gammas levels coordinates half kept trees roots : ℕ) : Type 0 where
+  pub commit : CommitRoom s n k base table gammas levels coordinates trees
   pub calls-lent : CallsLent calls challenges
   pub half-long : half ≡ 2 ^ (n + k)
   pub kept-long : kept ≡ 2 * n
@@ -57,34 +59,37 @@ pub record LastRoom (s : Widths) (n k levels trees roots : ℕ) : Type 0 where
 abbrev pub Ref : Type 0
 Ref = RefT (List ℕ)
 
-abbrev pub CommitLent : WidthSet → ℕ → ℕ → Ref → Ref → Ref → Ref → Ref → Type 0
-CommitLent set n k base table gammas levels trees =
-    CommitRoom (widthsOf set) n k (length (now base)) (length (now table)) (length (now gammas)) (length (now levels)) (length (now trees))
+abbrev pub CommitLent : WidthSet → ℕ → ℕ → Ref → Ref → Ref → Ref → Ref → Ref → Type 0
+CommitLent set n k base table gammas levels coordinates trees =
+    CommitRoom (widthsOf set) n k (length (now base)) (length (now table)) (length (now gammas)) (length (now levels)) (length (now coordinates))
+    (length (now trees))
 
-abbrev pub DepositLent : WidthSet → ℕ → ℕ → Ref → Ref → Ref → Ref → Ref → Ref → Ref → Ref → Ref → Ref → Type 0
-DepositLent set n k base table calls challenges gammas levels half kept trees roots =
+abbrev pub DepositLent : WidthSet → ℕ → ℕ → Ref → Ref → Ref → Ref → Ref → Ref → Ref → Ref → Ref → Ref → Ref → Type 0
+DepositLent set n k base table calls challenges gammas levels coordinates half kept trees roots =
     Room (widthsOf set) n k (length (now base)) (length (now table)) (length (now calls)) (length (now challenges)) (length (now gammas))
-    (length (now levels)) (length (now half)) (length (now kept)) (length (now trees)) (length (now roots))
+    (length (now levels)) (length (now coordinates)) (length (now half)) (length (now kept)) (length (now trees)) (length (now roots))
 
 abbrev pub RecordLent : WidthSet → ℕ → ℕ → ℕ → Ref → Ref → Ref → Ref → Type 0
 RecordLent set n k position query tail one two =
     RecordRoom (widthsOf set) n k position (length (now query)) (length (now tail)) (length (now one)) (length (now two))
 
--- what committing leaves: the gammas, level 0 at the front of the levels and its tree at the front of the trees, and what was behind level 0
-pub record Committed (set : WidthSet) (n k : ℕ) (base table old gammas′ levels trees : List ℕ) : Type 0 where
+-- what committing leaves: the gammas, level 0 at the front of the levels, its list and its tree at the front of the trees, and what was behind level 0
+pub record Committed (set : WidthSet) (n k : ℕ) (base table old gammas′ levels coordinates trees : List ℕ) : Type 0 where
   pub gammas-are : words gammas′ ≡ gammas hash base n k
   pub level-is : levelValues n k (words levels) 0 ≡ committedCodeword base n k (words table)
   pub behind : drop (levelLength n k 0) (words levels) ≡ drop (levelLength n k 0) (words old)
+  pub list-is : coordinates ≡ allCoordinates n
   pub tree-is : take (32 * treeLength (widthsOf set) n k 0) trees ≡ flat (treeFor (scheme set base n k) 0 (committedCodeword base n k (words table)))
 
-abbrev pub CommitLeft : WidthSet → ℕ → ℕ → Slice → Slice → Slice → Slice → Slice → Type 0
-CommitLeft set n k base table gammas levels trees =
-    Committed set n k (now (base .entry)) (now (table .entry)) (now (levels .entry)) (now (gammas .exit)) (now (levels .exit)) (now (trees .exit))
+abbrev pub CommitLeft : WidthSet → ℕ → ℕ → Slice → Slice → Slice → Slice → Slice → Slice → Type 0
+CommitLeft set n k base table gammas levels coordinates trees =
+    Committed set n k (now (base .entry)) (now (table .entry)) (now (levels .entry)) (now (gammas .exit)) (now (levels .exit)) (now (coordinates .exit))
+    (now (trees .exit))
 
-abbrev pub DepositLeft : WidthSet → ℕ → ℕ → Slice → Slice → Slice → Slice → Slice → Slice → Slice → Slice → Slice → ℕ → Type 0
-DepositLeft set n k base table calls challenges gammas levels kept trees roots done =
+abbrev pub DepositLeft : WidthSet → ℕ → ℕ → Slice → Slice → Slice → Slice → Slice → Slice → Slice → Slice → Slice → Slice → ℕ → Type 0
+DepositLeft set n k base table calls challenges gammas levels coordinates kept trees roots done =
     Deposited set n k (now (base .entry)) (now (table .entry)) (now (calls .entry)) (now (challenges .entry)) (now (levels .entry)) (now (kept .entry))
-    (now (gammas .exit)) (now (levels .exit)) (now (kept .exit)) (now (trees .exit)) (now (roots .exit)) done
+    (now (gammas .exit)) (now (levels .exit)) (now (coordinates .exit)) (now (kept .exit)) (now (trees .exit)) (now (roots .exit)) done
 
 -- a buffer after the tail record of the last level and its tree was built into it
 abbrev pub tailLent : WidthSet → ℕ → ℕ → Slice → Slice → Slice → List ℕ

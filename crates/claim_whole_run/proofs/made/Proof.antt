@@ -13,19 +13,19 @@ use Rattle.claim_run_parts.proofs.two_records.Reads as two-records-reads
 
 -- the places of the code, from its end to its start
 
-abbrev at-compared : tie.After-slice-known20 → tie.After-two-records
+abbrev at-compared : tie.After-slice-known22 → tie.After-two-records
 at-compared c = search
 
-abbrev at-ended : tie.After-two-records → tie.After-slice-known18
+abbrev at-ended : tie.After-two-records → tie.After-slice-known20
 at-ended c = search
 
-abbrev at-tail : tie.After-slice-known18 → tie.After-tail-record
+abbrev at-tail : tie.After-slice-known20 → tie.After-tail-record
 at-tail c = search
 
-abbrev at-built : tie.After-tail-record → tie.After-slice-known17
+abbrev at-built : tie.After-tail-record → tie.After-slice-known19
 at-built c = search
 
-abbrev at-query : tie.After-slice-known17 → tie.After-query-record
+abbrev at-query : tie.After-slice-known19 → tie.After-query-record
 at-query c = search
 
 abbrev at-deposit : tie.After-query-record → tie.After-deposit
@@ -40,7 +40,7 @@ at-first c = search
 abbrev at-start : tie.After-shared-slice-known5 → tie.Start
 at-start c = search
 
-abbrev deposited : tie.After-slice-known20 → tie.After-deposit
+abbrev deposited : tie.After-slice-known22 → tie.After-deposit
 deposited c = at-deposit (at-query (at-built (at-tail (at-ended (at-compared c)))))
 
 deposit-requires : tie.Need-deposit-requires
@@ -56,8 +56,8 @@ tail-record-requires c κs =
     let start = at-start (at-first (at-second laid)) in
     let kept = laid .deposit .kept in
     last-room
-    (room-same (start .pre .0) (kept .1 .1 .1 .1 .1 .1 .1 .1 .0) (kept .1 .1 .1 .1 .1 .1 .1 .1 .1 .1 .0) (kept .1 .1 .1 .1 .1 .1 .1 .1 .1 .1 .1 .0)
-    (kept .1 .1 .1 .1 .1 .1 .1 .1 .1 .1 .1 .1 .0))
+    (room-same (start .pre .0) (kept .1 .1 .1 .1 .1 .1 .1 .1 .0) (kept .1 .1 .1 .1 .1 .1 .1 .1 .1 .0) (kept .1 .1 .1 .1 .1 .1 .1 .1 .1 .1 .1 .0)
+    (kept .1 .1 .1 .1 .1 .1 .1 .1 .1 .1 .1 .1 .0) (kept .1 .1 .1 .1 .1 .1 .1 .1 .1 .1 .1 .1 .1 .0))
 
 two-records-requires : tie.Need-two-records-requires
 two-records-requires c κs = search needs
@@ -81,7 +81,7 @@ same-length-6 : tie.Need-same-length-6
 same-length-6 c = deposited c .deposit .kept .1 .1 .1 .1 .1 .1 .1 .1 .1 .1 .1 .1 .0
 
 same-length-7 : tie.Need-same-length-7
-same-length-7 c = search needs
+same-length-7 c = deposited c .deposit .kept .1 .1 .1 .1 .1 .1 .1 .1 .1 .1 .1 .1 .1 .0
 
 same-length-8 : tie.Need-same-length-8
 same-length-8 c = search needs
@@ -91,6 +91,9 @@ same-length-9 c = search needs
 
 same-length-10 : tie.Need-same-length-10
 same-length-10 c = search needs
+
+same-length-11 : tie.Need-same-length-11
+same-length-11 c = search needs
 
 returns : tie.Need-returns
 returns c =
@@ -105,15 +108,15 @@ returns c =
     let start = at-start first in
     let kept = laid .deposit .kept in
     let room =
-    room-same (start .pre .0) (kept .1 .1 .1 .1 .1 .1 .1 .1 .0) (kept .1 .1 .1 .1 .1 .1 .1 .1 .1 .1 .0) (kept .1 .1 .1 .1 .1 .1 .1 .1 .1 .1 .1 .0)
-    (kept .1 .1 .1 .1 .1 .1 .1 .1 .1 .1 .1 .1 .0) in
+    room-same (start .pre .0) (kept .1 .1 .1 .1 .1 .1 .1 .1 .0) (kept .1 .1 .1 .1 .1 .1 .1 .1 .1 .0) (kept .1 .1 .1 .1 .1 .1 .1 .1 .1 .1 .1 .0)
+    (kept .1 .1 .1 .1 .1 .1 .1 .1 .1 .1 .1 .1 .0) (kept .1 .1 .1 .1 .1 .1 .1 .1 .1 .1 .1 .1 .1 .0) in
     let d = laid .deposit .ensures in
     let q = asked .query-record .ensures in
     let t = told .tail-record .ensures in
     let e = found .two-records .ensures in
     let claimed =
-    claimed-by _ _ _ _ _ room (d .0) (start .pre .1) (q .0) (t .0) (q .1) (t .1) (e .0) (e .1 .0) (e .1 .1) (λ j. built .slice-known17 .given j .fits)
-    (λ j. ended .slice-known18 .given j .fits) (λ j. first .shared-slice-known5 .given j .fits) (λ j. second .shared-slice-known6 .given j .fits) in (
+    claimed-by _ _ _ _ _ room (start .pre .0 .commit .list-long) (d .0) (start .pre .1) (q .0) (t .0) (q .1) (t .1) (e .0) (e .1 .0) (e .1 .1) (λ j. built .slice-known19 .given j .fits)
+    (λ j. ended .slice-known20 .given j .fits) (λ j. first .shared-slice-known5 .given j .fits) (λ j. second .shared-slice-known6 .given j .fits) in (
       refl,
       record {
         deposited = d .0;
@@ -147,4 +150,5 @@ made-spec =
     same-length-8
     same-length-9
     same-length-10
+    same-length-11
     returns)

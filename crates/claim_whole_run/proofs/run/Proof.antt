@@ -11,14 +11,14 @@ use Rattle.claim_run_parts.proofs.questions.run_number.Reads as run-number-read
 
 -- the places of the code that the answer needs
 
-abbrev at-number : tie.After-slice-known20 → tie.After-run-number
-at-number c = search
+abbrev at-made : tie.After-slice-known22 → tie.After-made
+at-made c = search
 
-abbrev at-passed : tie.After-slice-known20 → tie.Else1
+abbrev at-passed : tie.After-made → tie.Else1
 at-passed c = search
 
-abbrev at-made : tie.After-slice-known20 → tie.After-made
-at-made c = search
+abbrev at-number : tie.Else1 → tie.After-run-number
+at-number c = search
 
 run-number-requires : tie.Need-run-number-requires
 run-number-requires c κs = search needs
@@ -32,7 +32,7 @@ made-requires : tie.Need-made-requires
 made-requires c κs =
     let numbered : tie.After-run-number = search in
     let passed : tie.Else1 = search in
-    rooms _ _ _ _ _ _ _ _ _ _ _ _ _ _ _ _ _ _ (numbered .run-number .ensures) (passed .if1 .left)
+    rooms _ _ _ _ _ _ _ _ _ _ _ _ _ _ _ _ _ _ _ (numbered .run-number .ensures) (passed .if1 .left)
 
 same-length : tie.Need-same-length
 same-length c = search needs
@@ -64,12 +64,16 @@ same-length-9 c = search needs
 same-length-10 : tie.Need-same-length-10
 same-length-10 c = search needs
 
+same-length-11 : tie.Need-same-length-11
+same-length-11 c = search needs
+
 returns-2 : tie.Need-returns-2
 returns-2 c =
-    let numbered = at-number c in
-    let m = at-made c .made .ensures in
+    let made = at-made c in
+    let passed = at-passed made in
+    let m = made .made .ensures in
     record {
-      number-is = m .0 ∙ sym (at-passed c .if1 .left) ∙ numbered .run-number .ensures;
+      number-is = m .0 ∙ sym (passed .if1 .left) ∙ at-number passed .run-number .ensures;
       refused = λ z. absurd (z (m .0));
       done = λ z. m .1;
     }
@@ -91,4 +95,5 @@ run-spec =
     same-length-8
     same-length-9
     same-length-10
+    same-length-11
     returns-2)

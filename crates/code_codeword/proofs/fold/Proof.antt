@@ -1,6 +1,6 @@
 -- `code_codeword::fold` meets its contract.
-use borrow.Author.Needs.{needs}
 use native.Mathlib.Omega.{arith}
+use borrow.Author.Needs.{needs}
 use Rattle.theory_laws.proofs.Questions.{asks}
 use Rattle.code_codeword.proofs.Lengths.{fold-sizes, refused-same}
 use Rattle.code_codeword.proofs.fold.Statement.{statement}
@@ -8,6 +8,9 @@ use Rattle.code_codeword.proofs.fold.Tie as tie
 
 fold-number-requires : tie.Need-fold-number-requires
 fold-number-requires c κs = search needs
+
+same-length : tie.Need-same-length
+same-length c = search needs
 
 returns : tie.Need-returns
 returns c = search (asks, refused-same, needs)
@@ -17,21 +20,30 @@ slice-aggregate-fold-within c = search needs
 
 fold-within-requires : tie.Need-fold-within-requires
 fold-within-requires c κs =
-    let else1 : tie.Else1 = search in
-    let after-fold-number = else1 .before in
-    let z = fold-sizes _ _ _ _ _ _ (after-fold-number .fold-number .ensures) (else1 .if1 .left) in
+    let left : tie.Else1 = search in
+    let asked : tie.After-fold-number = search in
+    let z = fold-sizes _ _ _ _ _ _ _ _ (asked .fold-number .ensures) (left .if1 .left) in
     (z .paired, z .halved, omega arith)
 
-sub-t9 : tie.Need-sub-t9
-sub-t9 c =
-    let else1 : tie.Else1 = search in
-    let after-fold-number = else1 .before in
-    let d = after-fold-number .fold-number in
-    let z = fold-sizes _ _ _ _ _ _ (d .ensures) (else1 .if1 .left) in
+drop-coordinate-requires : tie.Need-drop-coordinate-requires
+drop-coordinate-requires c κs =
+    let left : tie.Else1 = search in
+    let asked : tie.After-fold-number = search in
+    let z = fold-sizes _ _ _ _ _ _ _ _ (asked .fold-number .ensures) (left .if1 .left) in
+    omega (arith, z .below, z .list-long)
+
+sub-t13 : tie.Need-sub-t13
+sub-t13 c =
+    let left : tie.Else1 = search in
+    let asked : tie.After-fold-number = search in
+    let z = fold-sizes _ _ _ _ _ _ _ _ (asked .fold-number .ensures) (left .if1 .left) in
     omega (arith, z .below)
 
-same-length : tie.Need-same-length
-same-length c = search needs
+same-length-2 : tie.Need-same-length-2
+same-length-2 c = search needs
+
+same-length-3 : tie.Need-same-length-3
+same-length-3 c = search needs
 
 returns-2 : tie.Need-returns-2
 returns-2 c = search (asks, needs)
@@ -41,9 +53,12 @@ fold-spec =
     tie.close
     (tie.spec
     fold-number-requires
+    same-length
     returns
     slice-aggregate-fold-within
     fold-within-requires
-    sub-t9
-    same-length
+    drop-coordinate-requires
+    sub-t13
+    same-length-2
+    same-length-3
     returns-2)

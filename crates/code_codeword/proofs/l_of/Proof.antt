@@ -1,4 +1,5 @@
 -- `code_codeword::l_of` meets its contract.
+
 use borrow.Author.Needs.{needs}
 use Rattle.theory_laws.proofs.Questions.{asks}
 use Rattle.code_codeword.proofs.Lengths.{shift-sizes}
@@ -11,10 +12,11 @@ l-of-number-requires c κs = search needs
 returns : tie.Need-returns
 returns c = search (asks, needs)
 
-coordinates-requires : tie.Need-coordinates-requires
-coordinates-requires c κs =
-    let d = c .before .before .l-of-number in
-    shift-sizes _ _ _ _ _ (d .ensures) (c .before .if1 .left)
+shift-over-requires : tie.Need-shift-over-requires
+shift-over-requires c κs =
+    let left : tie.Else1 = search in
+    let asked : tie.After-l-of-number = search in
+    shift-sizes _ _ _ _ _ _ _ (asked .l-of-number .ensures) (left .if1 .left)
 
 same-length : tie.Need-same-length
 same-length c = search needs
@@ -24,4 +26,4 @@ returns-2 c = search needs
 
 pub l-of-spec : {M : Type 1} → statement M
 l-of-spec =
-    tie.close (tie.spec l-of-number-requires returns coordinates-requires same-length returns-2)
+    tie.close (tie.spec l-of-number-requires returns shift-over-requires same-length returns-2)

@@ -50,20 +50,24 @@ returns-5 : tie.Need-returns-5
 unfolding commitNumber
 returns-5 c = search asks depth 14 fits 4000
 
+returns-6 : tie.Need-returns-6
+unfolding commitNumber
+returns-6 c = search asks depth 18 fits 12000
+
 tree-bytes-requires : tie.Need-tree-bytes-requires
 tree-bytes-requires c κs = search needs
 
-returns-6 : tie.Need-returns-6
-unfolding commitNumber
-returns-6 c = search (asks, asks-given) depth 16 fits 8000
-
 returns-7 : tie.Need-returns-7
 unfolding commitNumber
-returns-7 c = search (asks, asks-given) depth 16 fits 8000
+returns-7 c = search (asks, asks-given) depth 18 fits 12000
 
 returns-8 : tie.Need-returns-8
 unfolding commitNumber
-returns-8 c = search (asks, asks-given) depth 16 fits 8000
+returns-8 c = search (asks, asks-given) depth 18 fits 12000
+
+returns-9 : tie.Need-returns-9
+unfolding commitNumber
+returns-9 c = search (asks, asks-given) depth 18 fits 12000
 
 pub number-spec : {M : Type 1} → statement M
 number-spec =
@@ -79,7 +83,8 @@ number-spec =
     add-holds
     holds-requires-2
     returns-5
-    tree-bytes-requires
     returns-6
+    tree-bytes-requires
     returns-7
-    returns-8)
+    returns-8
+    returns-9)

@@ -25,7 +25,11 @@ add-to : tie.Need-add-to
 add-to c = let start : tie.Start = search in let w = within (start .pre .0) (c .level-length .ensures) in search needs
 
 mul-fold : tie.Need-mul-fold
-mul-fold c = let start : tie.Start = search in let w = within (start .pre .0) (c .level-length .ensures) in search needs
+mul-fold c =
+    let start : tie.Start = search in
+    let sized : tie.After-level-length = search in
+    let w = within (start .pre .0) (sized .level-length .ensures) in
+    search needs
 
 sub-fold : tie.Need-sub-fold
 sub-fold c = search needs
@@ -34,7 +38,11 @@ part-fold-start : tie.Need-part-fold-start
 part-fold-start c = search needs
 
 part-fold-end : tie.Need-part-fold-end
-part-fold-end c = let start : tie.Start = search in let w = within (start .pre .0) (c .level-length .ensures) in search needs
+part-fold-end c =
+    let start : tie.Start = search in
+    let sized : tie.After-level-length = search in
+    let w = within (start .pre .0) (sized .level-length .ensures) in
+    search needs
 
 slice-relend-prefix-fold : tie.Need-slice-relend-prefix-fold
 slice-relend-prefix-fold c = search needs
@@ -50,6 +58,9 @@ fold-requires c κs = search needs
 same-length : tie.Need-same-length
 same-length c = search needs
 
+same-length-2 : tie.Need-same-length-2
+same-length-2 c = search needs
+
 returns : tie.Need-returns
 returns c =
     let start : tie.Start = search in
@@ -61,11 +72,14 @@ returns c =
     let w = within p es in
     let e = folded .fold .ensures in
     let room = length-take-le _ _ (start .pre .1) in
-    let out = folded .fold .kept .1 .1 .1 .1 .1 .0 ∙ room in (
-      fold-number _ _ _ _ (e .0) (length-of-part _ _ _ (p .from=) es _ (omega arith) ∙ ap (λ (x : ℕ). 2 * x) es) room,
+    let out = folded .fold .kept .1 .1 .1 .1 .1 .1 .1 .0 ∙ room in (
+      fold-number _ _ _ _ _ _ (e .0) (length-of-part _ _ _ (p .from=) es _ (omega arith) ∙ ap (λ (x : ℕ). 2 * x) es) room,
       (
-        fold-front _ (folded .fold .result .number) (a .var) (word (a .r)) (a .half .now) _ _ _ _ out (e .1) (values-of-part _ _ _ (p .from=) es _),
-        drop-at (folded .fold .last .1 .1 .1 .1 .1 .0) _ _ out,
+        e .1 .0,
+        (
+          fold-front _ (folded .fold .result .number) (a .var) (word (a .r)) (a .half .now) _ _ _ _ out (e .1 .1) (values-of-part _ _ _ (p .from=) es _),
+          drop-at (folded .fold .last .1 .1 .1 .1 .1 .1 .1 .0) _ _ out,
+        ),
       ),
     )
 
@@ -84,4 +98,5 @@ fold-level-spec =
     slice-aggregate-fold
     fold-requires
     same-length
+    same-length-2
     returns)

@@ -1,7 +1,7 @@
 -- `claim_run_parts::questions::deposit_number` meets its contract.
 use native.Mathlib.Omega.{arith}
 use Rattle.theory_laws.proofs.Questions.{asks, asks-given, yes-eq, no-eq}
-use Rattle.claim_run_parts.proofs.Numbers.{asks-twice, roots-asked}
+use Rattle.claim_run_parts.proofs.Numbers.{asks-twice, trees-asked, roots-asked}
 use Rattle.code_codeword.proofs.Lengths.{gammas-fit}
 use Rattle.theory_record.proofs.Ranges.{sizes-small}
 use Rattle.code_level.proofs.Totals.{levels-fit}
@@ -38,35 +38,38 @@ mul-if2 c = let start : tie.Start = search in let h = levels-fit _ _ (start .pre
 returns-2 : tie.Need-returns-2
 returns-2 c = search (asks, asks-given, asks-twice) depth 16 fits 8000
 
-level-length-requires : tie.Need-level-length-requires
-level-length-requires c κs = let start : tie.Start = search in (sizes-small _ _ (start .pre), search needs)
-
 returns-3 : tie.Need-returns-3
 returns-3 c = search (asks, asks-given, asks-twice) depth 16 fits 8000
 
-mul-if4 : tie.Need-mul-if4
-mul-if4 c = search needs
+level-length-requires : tie.Need-level-length-requires
+level-length-requires c κs = let start : tie.Start = search in (sizes-small _ _ (start .pre), search needs)
 
 returns-4 : tie.Need-returns-4
-returns-4 c = search (asks, asks-given, asks-twice) depth 16 fits 8000
+returns-4 c = search (asks, asks-given, asks-twice) depth 18 fits 12000
+
+mul-if5 : tie.Need-mul-if5
+mul-if5 c = search needs
+
+returns-5 : tie.Need-returns-5
+returns-5 c = search (asks, asks-given, asks-twice) depth 18 fits 12000
 
 trees-size-requires : tie.Need-trees-size-requires
 trees-size-requires c κs = let start : tie.Start = search in start .pre
 
-returns-5 : tie.Need-returns-5
-returns-5 c = search (asks, asks-given, asks-twice) depth 16 fits 8000
-
-add-if6 : tie.Need-add-if6
-add-if6 c = search needs
-
-mul-if6 : tie.Need-mul-if6
-mul-if6 c = search needs
-
 returns-6 : tie.Need-returns-6
-returns-6 c = search (roots-asked, no-eq)
+returns-6 c = search (trees-asked, asks-given)
+
+add-if7 : tie.Need-add-if7
+add-if7 c = search needs
+
+mul-if7 : tie.Need-mul-if7
+mul-if7 c = search needs
 
 returns-7 : tie.Need-returns-7
-returns-7 c = search (roots-asked, yes-eq)
+returns-7 c = search (roots-asked, no-eq)
+
+returns-8 : tie.Need-returns-8
+returns-8 c = search (roots-asked, yes-eq)
 
 pub deposit-number-spec : {M : Type 1} → statement M
 deposit-number-spec =
@@ -78,13 +81,14 @@ deposit-number-spec =
     levels-length-requires
     mul-if2
     returns-2
-    level-length-requires
     returns-3
-    mul-if4
+    level-length-requires
     returns-4
-    trees-size-requires
+    mul-if5
     returns-5
-    add-if6
-    mul-if6
+    trees-size-requires
     returns-6
-    returns-7)
+    add-if7
+    mul-if7
+    returns-7
+    returns-8)

@@ -6,7 +6,7 @@ use Rattle.export_dequmlo.proofs.coding.dequmlo_commit.Statement.{state
 use Rattle.export_dequmlo.proofs.coding.dequmlo_commit.Tie as tie
 
 returns : tie.Need-returns
-returns c = (no-le _ _ _ _ _ (c .if1 .taken) refl, (refl, (refl, refl)))
+returns c = (no-le _ _ _ _ _ (c .if1 .taken) refl, (refl, (refl, (refl, refl))))
 
 set-of-requires : tie.Need-set-of-requires
 set-of-requires c κs = search needs
@@ -23,6 +23,9 @@ same-length-2 c = search needs
 same-length-3 : tie.Need-same-length-3
 same-length-3 c = search needs
 
+same-length-4 : tie.Need-same-length-4
+same-length-4 c = search needs
+
 returns-2 : tie.Need-returns-2
 returns-2 c =
     let passed : tie.Else1 = search in
@@ -31,8 +34,8 @@ returns-2 c =
     let h = passed .if1 .left in
     let e = chosen .set-of .ensures in
     let d = done .commit .ensures in
-    (yes-le _ _ _ _ _ h (rw e at (d .0)), (d .1 .0, (d .1 .1 .0, rw e at (d .1 .1 .1))))
+    (yes-le _ _ _ _ _ h (rw e at (d .0)), (d .1 .0, (d .1 .1 .0, (d .1 .1 .1 .0, rw e at (d .1 .1 .1 .1)))))
 
 pub dequmlo-commit-spec : {M : Type 1} → statement M
 dequmlo-commit-spec =
-    tie.close (tie.spec returns set-of-requires commit-requires same-length same-length-2 same-length-3 returns-2)
+    tie.close (tie.spec returns set-of-requires commit-requires same-length same-length-2 same-length-3 same-length-4 returns-2)

@@ -1,16 +1,16 @@
--- `test_record::whole::put_numbers` is safe and ends.
+-- `test_lines::lists::put` is safe and ends.
 use borrow.Author.Needs.{needs}
 use Prim.Native.Nat.{_-_}
 use mathlib.Core.Path.{_≡_}
 use lib.ListN.{length}
-use Rattle.test_record.proofs.whole.put_numbers.Statement.{statement}
-use Rattle.test_record.proofs.whole.put_numbers.Tie as tie
+use Rattle.test_lines.proofs.lists.put.Statement.{statement}
+use Rattle.test_lines.proofs.lists.put.Tie as tie
 
 abbrev Inv-loop : tie.InvT-loop
-Inv-loop out₀ a i₀ out i = (length out ≡ length out₀)
+Inv-loop out₀ list i₀ out i = (length out ≡ length out₀)
 
 abbrev μ-loop : tie.MeasureT-loop
-μ-loop out₀ a i₀ out i = length out₀ - i
+μ-loop out₀ list i₀ out i = length out₀ - i
 
 loop-holds : tie.Need-loop-holds Inv-loop μ-loop
 loop-holds c = search needs
@@ -39,8 +39,8 @@ same-length c = search needs
 returns : tie.Need-returns Inv-loop μ-loop
 returns c = search needs
 
-pub put-numbers-spec : {M : Type 1} → statement M
-put-numbers-spec =
+pub put-spec : {M : Type 1} → statement M
+put-spec =
     tie.close
     (tie.spec
     Inv-loop

@@ -1,0 +1,107 @@
+//! The levels that stand before `seal open` folds: level 0 of the sealed file, or those of interrupted work.
+
+use crate::begun::Begun;
+use crate::outcome::{Ended, Failure};
+use crate::part::Part;
+use crate::progress::Progress;
+use crate::project::file_path;
+use crate::reading::{shown_path, stretch, unreadable};
+use crate::seal::Seal;
+use crate::shape::Shape;
+use crate::table::{read_table, room_for, table_of};
+use dequmlo::{Deposit, Folded, HalfFolded, Refusal, Threads, Word};
+use std::path::{Path, PathBuf};
+
+pub enum Standing {
+    Committed(Deposit),
+    TakenUp(HalfFolded),
+}
+
+impl Standing {
+    /// Level 0 of the file, or of the part that is asked about; its root must be the seal's.
+    pub fn committed(
+        file: &Path,
+        threads: Threads,
+        seal: &Seal,
+        progress: &Progress,
+    ) -> Result<Standing, Ended> {
+        let (table, path) = read(file, seal)?;
+        if table.len() != seal.sizes.table_words {
+            return Err(another_file(&path).into());
+        }
+        room_for(&seal.shape)?;
+        progress.say(&format!("committing {} words ..", table.len()));
+        let Shape {
+            k, domain, widths, ..
+        } = &seal.shape;
+        let deposit = Deposit::commit_on(threads, domain, *widths, *k, &table)?;
+        if deposit.root() != seal.root {
+            return Err(another_file(&path).into());
+        }
+        Ok(Standing::Committed(deposit))
+    }
+
+    /// The levels of interrupted work, which has all that is needed.
+    pub fn taken_up(
+        begun: Begun,
+        threads: Threads,
+        seal: &Seal,
+        progress: &Progress,
+    ) -> Result<Standing, Ended> {
+        room_for(&seal.shape)?;
+        progress.say(&format!("checking levels 0 to {} ..", begun.level()));
+        Ok(Standing::TakenUp(begun.take_up(threads)?))
+    }
+
+    /// Folded by these challenges, the first ones of the deposit, of which some may be done.
+    pub fn fold_until(self, threads: Threads, challenges: &[Word]) -> Result<HalfFolded, Refusal> {
+        match self {
+            Standing::Committed(deposit) => deposit.fold_until(threads, challenges),
+            Standing::TakenUp(half) => {
+                let left = &challenges[half.level()..];
+                half.fold_further(threads, left)
+            }
+        }
+    }
+
+    /// Folded by all challenges, of which some may be done.
+    pub fn fold(self, threads: Threads, challenges: &[Word]) -> Result<Folded, Refusal> {
+        match self {
+            Standing::Committed(deposit) => deposit.fold_on(threads, challenges),
+            Standing::TakenUp(half) => {
+                let left = &challenges[half.level()..];
+                half.fold_on(threads, left)
+            }
+        }
+    }
+}
+
+/// The table of the file, or of the part that is asked about, and the path of what was read.
+fn read(file: &Path, seal: &Seal) -> Result<(Vec<Word>, PathBuf), Ended> {
+    match &seal.part {
+        None if file.is_dir() => Err(Failure(format!(
+            "{} is a folder: --file PATH says which file of the project is opened",
+            file.display()
+        ))
+        .into()),
+        None => Ok((read_table(file)??.words, file.into())),
+        Some(part) => {
+            let path = file_path(file, &part.path);
+            Ok((read_part(&path, part)??, path))
+        }
+    }
+}
+
+/// The table of a part of a project's file, as the file is now: with a byte more where it does not end with the part.
+fn read_part(path: &Path, part: &Part) -> Result<Result<Vec<Word>, String>, Failure> {
+    let more = usize::from(part.is_last());
+    let bytes = stretch(path, part.start, part.bytes + more).map_err(|e| unreadable(path, e))?;
+    Ok(table_of(&bytes).map_err(|_| another_file(path)))
+}
+
+fn another_file(path: &Path) -> String {
+    format!(
+        "{} is not the file that was sealed: its root is another",
+        shown_path(path)
+    )
+}
