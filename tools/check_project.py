@@ -5,7 +5,7 @@
 
 It commits the manifest that the opening shows, compares its root with the project's (SPECIFICATION 16.5), and then checks the records under the part's root as
 check_seal.py does. `manifest: no` or a later `no` says which of the two failed. Committing takes some minutes where the manifest has megabytes.
-Exit status: 0 yes, 1 no, 2 nothing could be checked.
+Exit status: 0 yes, 1 no, 2 nothing could be checked, 3 yes on level 0 alone, as no roots were kept.
 """
 import argparse
 import os
@@ -13,7 +13,7 @@ import re
 import sys
 from pathlib import Path
 
-from check_seal import CannotCheck, Level, check_opening, content, digest, leaf_message, node_message, part, read_seal, u64
+from check_seal import NO, VERDICTS, CannotCheck, Level, check_opening, content, digest, leaf_message, node_message, part, read_seal, u64
 
 PART = 16_777_200
 
@@ -117,14 +117,14 @@ def manifest(text):
 
 
 def check_file(asked):
-    """Prints the answer for the manifest, and then those for the records. Whether all are yes."""
+    """Prints the answer for the manifest, and then those for the records. The exit status."""
     base, widths, n, k, root = read_seal(Path(asked.seal), asked.older)
     shown = Path(asked.OPENING) / "manifest.txt"
     text = content(shown, PART) if shown.is_file() else b""
     files = manifest(text) if len(text) <= PART and root_of(base, widths, k, text) == (n, root) else None
     if files is None:
         print("manifest: no: what the opening shows is not the project's manifest")
-        return False
+        return NO
     print("manifest: yes")
     size, roots = files.get(os.fsencode(asked.file), (0, None))
     if roots is None or not all(0 <= offset < size for offset in asked.offset) or len({offset // PART for offset in asked.offset}) != 1:
@@ -145,12 +145,12 @@ def main():
     parser.add_argument("--roots")
     parser.add_argument("--claim")
     try:
-        yes = check_file(parser.parse_args())
+        status = check_file(parser.parse_args())
     except (CannotCheck, OSError) as why:
         print(f"nothing was checked: {why}", file=sys.stderr)
         return 2
-    print("yes" if yes else "no")
-    return 0 if yes else 1
+    print(VERDICTS[status])
+    return status
 
 
 if __name__ == "__main__":

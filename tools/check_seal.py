@@ -7,7 +7,9 @@
 Challenges, positions and --roots, roots that were kept, are the checker's own; --claim is a value that is expected. --older says that a seal which names
 neither k nor a base domain was made before version 0.4.0 (SPECIFICATION 6.10). The set of widths is the seal's, the present one where it names none. A line for each position and one for
 the tail: `yes`, or `no` with the number of the first question that was answered with no (SPECIFICATION 8.2), its level where it has one, and the question.
-The last line is the verdict on all of it. --try tries this file on the values of SPECIFICATION 12. Exit status: 0 yes, 1 no, 2 nothing could be checked.
+The last line is the verdict on all of it. Without --roots a record is answered with `yes on level 0` and the tail with `not accepted`: who knew challenges and positions
+beforehand can invent the rest (SPECIFICATION 15.6). --try tries this file on the values of SPECIFICATION 12. Exit status: 0 yes, 1 no, 2 nothing could be
+checked, 3 yes on level 0 alone.
 """
 import argparse
 import collections
@@ -317,14 +319,14 @@ def parameters(path, older):
     return base, widths or "present", int(n), int(k)
 
 
-def answered(name, check, *given):
-    """Prints what a check answers. Whether it is yes."""
+def answered(name, check, *given, yes="yes"):
+    """Prints what a check answers, a yes in these words. Whether it is yes."""
     try:
         check(*given)
     except No as no:
         print(f"{name}: no, {no}")
         return False
-    print(f"{name}: yes")
+    print(f"{name}: {yes}")
     return True
 
 
@@ -340,8 +342,14 @@ def read_seal(folder, older):
     return parameters(folder / "parameters.txt", older) + (digests(folder / "root.txt")[0],)
 
 
+# 15.6: the exit status, and what it says of all that was checked.
+YES, NO, ON_LEVEL_0 = 0, 1, 3
+VERDICTS = {YES: "yes", NO: "no", ON_LEVEL_0: "yes on level 0 alone: no roots were kept, so neither the tail nor the claim is accepted"}
+
+
 def check_opening(asked, base, widths, n, k, root):
-    """Prints an answer for each position and one for the tail. Whether all are yes. Level 0's root is the office's, whatever the opening says."""
+    """Prints an answer for each position and one for the tail. The exit status. Level 0's root is the office's, whatever the opening says; the other roots count
+    where the checker kept them."""
     opening = Path(asked.OPENING)
     challenges = [word(asked.challenges, line) for line in lines(asked.challenges)]
     roots = digests(asked.roots or opening / "roots.txt")
@@ -365,11 +373,14 @@ def check_opening(asked, base, widths, n, k, root):
         path = opening / f"query-{position}.record"
         if path.exists():
             record = content(path, query_bytes)
-            yes &= answered(f"position {position}", check_query, base, widths, n, k, position, challenges, roots, record)
+            given = (base, widths, n, k, position, challenges, roots, record)
+            yes &= answered(f"position {position}", check_query, *given, yes="yes" if asked.roots else "yes on level 0")
         else:
             print(f"position {position}: no: the opening has no record at this position")
             yes = False
-    return answered("tail", check_tail, base, widths, n, k, b"".join(roots[n : n + 1]), claim, tail) and yes
+    given = (base, widths, n, k, b"".join(roots[n : n + 1]), claim, tail)
+    yes &= answered("tail", check_tail, *given, yes="yes" if asked.roots else "not accepted: it fits the opening's own roots, which nobody kept")
+    return NO if not yes else YES if asked.roots else ON_LEVEL_0
 
 
 # 12. Values on which this file can be tried.
@@ -404,15 +415,15 @@ def main():
     parser.add_argument("--claim")
     try:
         if sys.argv[1:] == ["--try"]:
-            yes = try_this_file()
+            status = YES if try_this_file() else NO
         else:
             asked = parser.parse_args()
-            yes = check_opening(asked, *read_seal(Path(asked.seal), asked.older))
+            status = check_opening(asked, *read_seal(Path(asked.seal), asked.older))
     except (CannotCheck, OSError) as why:
         print(f"nothing was checked: {why}", file=sys.stderr)
         return 2
-    print("yes" if yes else "no")
-    return 0 if yes else 1
+    print(VERDICTS[status])
+    return status
 
 
 if __name__ == "__main__":

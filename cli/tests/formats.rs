@@ -2,7 +2,7 @@
 
 mod desk;
 
-use desk::{kept, Desk, CHECK, FORMAT};
+use desk::{kept, Desk, CHECK, CHECK_UNKEPT, FORMAT, KEPT};
 use std::fs;
 use std::path::Path;
 
@@ -64,7 +64,7 @@ fn another_format_is_refused_with_the_one_that_is_known() {
     desk.run("check plan.txt.opening --seal plan.txt.seal --seed dice --positions asked")
         .says(2, &["asked says that it is of format 2, "]);
     desk.write("asked", b"format 1\n7\n");
-    desk.run("check plan.txt.opening --seal plan.txt.seal --seed dice --positions asked")
+    desk.run("check plan.txt.opening --seal plan.txt.seal --seed dice --positions asked --roots kept-roots.txt")
         .says(0, &["accepted: 1 record"]);
 }
 
@@ -112,6 +112,10 @@ fn what_earlier_versions_made_is_accepted() {
         let accepted =
             "verdict: accepted: 3 records and the tail, fewer than the 40 positions of the profile";
         desk.check().says(0, &[&format!("{accepted} {profile}")]);
+        desk.run(CHECK_UNKEPT).says(
+            3,
+            &["verdict: partly accepted: what 3 records show of level 0 is what was deposited"],
+        );
         let named = desk.text("plan.txt.seal/parameters.txt");
         assert_eq!(named.contains("widths"), widths == "wide", "{version}");
         desk.run(&format!("{CHECK} --json"))
@@ -150,10 +154,12 @@ fn projects_are_accepted(desk: &Desk, profile: &str, widths: &str) {
     let of = "--seal house.seal --file plans/north.txt";
     desk.run("verify house --seal house.seal")
         .says(0, &["yes: house is the project that was sealed"]);
-    desk.run(&format!(
-        "check house.opening {of} --offset 100 --seed dice"
-    ))
-    .says(0, &["manifest: accepted", "verdict: accepted: 1 record"]);
+    desk.keep_roots("house.opening");
+    let check = format!("check house.opening {of} --offset 100 --seed dice");
+    desk.run(&check)
+        .says(3, &["manifest: accepted", "verdict: partly accepted"]);
+    desk.run(&format!("{check} --roots {KEPT}"))
+        .says(0, &["manifest: accepted", "verdict: accepted: 1 record"]);
     desk.run(&format!(
         "check house.asked.opening {of} --asked house.asked"
     ))

@@ -16,7 +16,7 @@ use crate::shape::Shape;
 use crate::shown::{changed_note, some_of, Record, Shown};
 use crate::statement::{checker_s_own, claim, misfits, roots, statement, Roots};
 use crate::writing::{make, may_be_made};
-use dequmlo::{QueryRecord, Root, Statement, Word};
+use dequmlo::{QueryRecord, Refusal, Statement, Word};
 use std::path::PathBuf;
 
 pub const TAKEN: [&str; 16] = asking_and([
@@ -53,9 +53,12 @@ pub fn run(options: &Options) -> Result<Outcome, Failure> {
         unchecked,
         roots,
         challenges,
+        claim,
     } = examined;
     let extent = Extent {
         own: asked.left_to_the_holder(),
+        kept: roots.kept,
+        claim,
         unchecked: &unchecked,
         checked: positions.len(),
         shape: &seal.shape,
@@ -67,7 +70,7 @@ pub fn run(options: &Options) -> Result<Outcome, Failure> {
             opening_name: shown_path(opening),
             date: clock::now(),
             asked: asked.told(options)?,
-            roots: &roots,
+            roots: &roots.all,
             challenges: &challenges,
         };
         let page = page(&subject, &found, &extent);
@@ -91,8 +94,9 @@ struct Examined {
     found: Found,
     positions: Vec<usize>,
     unchecked: Vec<String>,
-    roots: Vec<Root>,
+    roots: Roots,
     challenges: Vec<Word>,
+    claim: Option<Word>,
 }
 
 impl Examined {
@@ -105,8 +109,12 @@ impl Examined {
             found,
             positions: Vec::new(),
             unchecked: Vec::new(),
-            roots: vec![seal.root],
+            roots: Roots {
+                all: vec![seal.root],
+                kept: false,
+            },
             challenges: Vec::new(),
+            claim: None,
         }
     }
 }
@@ -141,7 +149,14 @@ fn examined(options: &Options, seal: &Seal, asked: &Asked) -> Result<Examined, F
     }
     doubles(&mut found, &shown);
     match statement(seal, &roots, &challenges) {
-        Ok(statement) => checked(&mut found, seal, &statement, &shown, &positions, claim)?,
+        Ok(statement) => {
+            records(&mut found, seal, &statement, &shown, &positions)?;
+            tail(
+                &mut found,
+                statement.check_tail(claim, &shown.tail),
+                roots.kept,
+            );
+        }
         Err(refusal) => found.add(Item::Opening, Answer::Refused(refusal)),
     }
     found.notes.extend(seal.notes.iter().cloned());
@@ -156,8 +171,9 @@ fn examined(options: &Options, seal: &Seal, asked: &Asked) -> Result<Examined, F
         unchecked: shown.unchecked(&positions),
         found,
         positions,
-        roots: roots.all,
+        roots,
         challenges,
+        claim: Some(claim),
     })
 }
 
@@ -298,14 +314,13 @@ fn opened(seal: &Seal, position: usize, record: &QueryRecord) -> Option<Opened> 
     }
 }
 
-/// Has the library check each record that was asked for, and the tail.
-fn checked(
+/// Has the library check each record that was asked for.
+fn records(
     found: &mut Found,
     seal: &Seal,
     statement: &Statement,
     shown: &Shown,
     positions: &[usize],
-    claim: Word,
 ) -> Result<(), Failure> {
     for position in positions {
         let answer = match shown.record(*position)? {
@@ -328,12 +343,17 @@ fn checked(
             "the opening shows no place of the deposit; ask the holder for positions",
         );
     }
-    let tail = statement.check_tail(claim, &shown.tail);
-    found.add(
-        Item::Tail,
-        tail.map_or_else(Answer::Refused, |()| Answer::Accepted(None)),
-    );
     Ok(())
+}
+
+/// What comes of the library's answer to the tail: a tail under roots that nobody kept before the positions were told is made up as easily as they are.
+fn tail(found: &mut Found, checked: Result<(), Refusal>, kept: bool) {
+    let answer = match checked {
+        Err(refusal) => Answer::Refused(refusal),
+        Ok(()) if kept => Answer::Accepted(None),
+        Ok(()) => Answer::Unkept,
+    };
+    found.add(Item::Tail, answer);
 }
 
 /// Two files for one position: which of them the holder means is not for the checker to guess.
