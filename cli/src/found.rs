@@ -211,10 +211,10 @@ impl Found {
     }
 
     pub fn verdict(&self, extent: &Extent) -> (Verdict, String) {
-        let (records, show) = if extent.checked == 1 {
-            ("1 record".into(), "shows")
+        let (records, they_show) = if extent.checked == 1 {
+            ("1 record".into(), "it shows")
         } else {
-            (format!("{} records", extent.checked), "show")
+            (format!("{} records", extent.checked), "they show")
         };
         let fewer = fewer(extent.checked, extent.shape);
         let (accepted, refused) = (self.accepted(), self.refused());
@@ -233,8 +233,8 @@ impl Found {
             None if !extent.kept => (
                 Verdict::PartlyAccepted,
                 format!(
-                    "partly accepted: what {records} {show} of level 0 is what was deposited{fewer}. The tail and the claim are not accepted: no roots were kept \
-                     before the positions were told"
+                    "partly accepted: {records}{fewer}. What {they_show} of level 0 is what was deposited. The tail and the claim are not accepted: no roots \
+                     were kept before the positions were told"
                 ),
             ),
             None => (Verdict::Accepted, format!("accepted: {records} and the tail{fewer}")),

@@ -222,7 +222,7 @@ fn a_claim_that_was_never_deposited_is_not_accepted() {
             "tail: not accepted: it fits the opening's own roots, and nobody kept these before the positions were told",
             "note: no roots were kept before the positions were told. Who knows challenges and positions beforehand can invent",
             "ask in two rounds: `seal ask` keeps the holder's roots",
-            "verdict: partly accepted: what 40 records show of level 0 is what was deposited. The tail and the claim are not accepted: no roots were kept",
+            "verdict: partly accepted: 40 records. What they show of level 0 is what was deposited. The tail and the claim are not accepted: no roots were kept",
         ],
     );
     run.does_not_say(&["verdict: accepted", "tail: accepted"]);

@@ -114,7 +114,10 @@ fn what_earlier_versions_made_is_accepted() {
         desk.check().says(0, &[&format!("{accepted} {profile}")]);
         desk.run(CHECK_UNKEPT).says(
             3,
-            &["verdict: partly accepted: what 3 records show of level 0 is what was deposited"],
+            &[
+                "verdict: partly accepted: 3 records, fewer than",
+                ". What they show of level 0 is what was deposited.",
+            ],
         );
         let named = desk.text("plan.txt.seal/parameters.txt");
         assert_eq!(named.contains("widths"), widths == "wide", "{version}");
@@ -128,11 +131,14 @@ fn what_earlier_versions_made_is_accepted() {
             .says(0, &[]);
         desk.run(&CHECK.replace("plan.txt.opening", "again"))
             .says(0, &["verdict: accepted"]);
+        // A project's file has other roots than the plan.
+        let plan_s = desk.read(KEPT);
         // Requests and projects came with version 0.3.0.
         if version != "0.1.0" && version != "0.2.0" {
             requests_are_accepted(&desk);
             projects_are_accepted(&desk, profile, widths);
         }
+        desk.write(KEPT, &plan_s);
         // A damaged one is still told from a sound one.
         desk.damage("plan.txt.opening/query-7.record", 60);
         desk.check()

@@ -197,7 +197,7 @@ fn a_project_whose_seal_names_nothing() {
         3,
         &[
             "manifest: accepted",
-            "verdict: partly accepted: what 1 record shows",
+            "verdict: partly accepted: 1 record, ",
             THEN,
         ],
     );

@@ -2,7 +2,7 @@
 
 mod desk;
 
-use desk::{Desk, CHECK};
+use desk::{Desk, CHECK, KEPT};
 use std::ffi::CString;
 use std::fs::{self, File};
 use std::os::raw::{c_char, c_int};
@@ -55,8 +55,9 @@ fn what_was_not_checked_is_named() {
     let desk = Desk::opened("not-checked");
     desk.write("plan.txt.opening/letter.txt", b"Dear checker");
     desk.folder("plan.txt.opening/more");
-    let ask = "check plan.txt.opening --seal plan.txt.seal --seed dice --at 7";
-    desk.run(ask).says(
+    let ask =
+        format!("check plan.txt.opening --seal plan.txt.seal --seed dice --at 7 --roots {KEPT}");
+    desk.run(&ask).says(
         0,
         &[
             "not checked: letter.txt, more, query-0.record, query-127.record",
@@ -165,7 +166,7 @@ fn files_that_the_command_line_names_are_regular_too() {
     desk.keep("challenges.txt");
     symlink("challenges.txt", desk.path("linked")).unwrap();
     let check = "check plan.txt.opening --seal plan.txt.seal --at 7";
-    desk.limited(&format!("{check} --challenges linked"))
+    desk.limited(&format!("{check} --challenges linked --roots {KEPT}"))
         .says(0, &[]);
     for words in [
         &format!("{check} --challenges pipe"),
@@ -237,6 +238,8 @@ fn an_opening_of_every_position_is_no_folder_of_too_many_files() {
     desk.write("all", all.join("\n").as_bytes());
     desk.run("open plan.txt --seal plan.txt.seal --seed dice --positions all --out whole")
         .says(0, &["opened 256 positions"]);
-    desk.run("check whole --seal plan.txt.seal --seed dice --positions all")
-        .says(0, &["accepted: 256 records and the tail"]);
+    desk.run(&format!(
+        "check whole --seal plan.txt.seal --seed dice --positions all --roots {KEPT}"
+    ))
+    .says(0, &["accepted: 256 records and the tail"]);
 }
