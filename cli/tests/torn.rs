@@ -61,6 +61,28 @@ fn a_file_that_changes_while_it_is_sealed_is_not_sealed() {
     );
 }
 
+/// The file that was opened stays as it is, and its path leads to another one.
+#[test]
+fn a_path_that_leads_to_another_file_meanwhile() {
+    let desk = with_a_file("torn-link");
+    std::fs::rename(desk.path("plan.txt"), desk.path("first")).unwrap();
+    std::fs::copy(desk.path("first"), desk.path("second")).unwrap();
+    std::os::unix::fs::symlink("first", desk.path("plan.txt")).unwrap();
+    desk.run("commit plan.txt --out seal").says(0, &[]);
+    let before = desk.names(".");
+    for line in [
+        "commit plan.txt",
+        "verify plan.txt --seal seal",
+        "open plan.txt --seal seal --seed dice --at 7",
+    ] {
+        let disk = Disk::Runs("first", MIDDLE, "ln -sfn second plan.txt");
+        desk.on(&disk, line).says(2, &[CHANGED]);
+        assert_eq!(desk.names("."), before, "{line}");
+        std::fs::remove_file(desk.path("plan.txt")).unwrap();
+        std::os::unix::fs::symlink("first", desk.path("plan.txt")).unwrap();
+    }
+}
+
 #[test]
 fn what_happens_to_other_files_is_no_matter() {
     let desk = with_a_file("torn-others");
