@@ -17,6 +17,8 @@ mod hex;
 mod json;
 mod lines;
 mod manifest;
+#[cfg(test)]
+mod manifest_mutants;
 mod old_words;
 mod opened;
 mod opening;

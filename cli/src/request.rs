@@ -22,6 +22,7 @@ use crate::outcome::Failure;
 use crate::reading::{inside, shown_name, text_inside, Unread};
 use crate::seal::{Seal, ROOT};
 use crate::shape::{Shape, PARAMETERS};
+use crate::statement::Roots;
 use dequmlo::{Root, Word};
 use std::ffi::OsStr;
 use std::path::Path;
@@ -56,6 +57,16 @@ pub struct Answered {
     /// When the positions were drawn.
     pub when: String,
     pub positions: Vec<usize>,
+}
+
+impl Answered {
+    /// The roots that the checker kept before the positions were told.
+    pub fn kept(&self) -> Roots {
+        Roots {
+            all: self.roots.clone(),
+            kept: true,
+        }
+    }
 }
 
 impl Request {

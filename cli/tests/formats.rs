@@ -42,15 +42,17 @@ fn another_format_is_refused_with_the_one_that_is_known() {
         for (format, rest) in [("2", sound.as_str()), ("17", "{}"), ("2", "\u{0}")] {
             let longer = format!("format {format}\n{}", rest.repeat(1000));
             desk.write(name, longer.as_bytes());
-            let run = desk.check();
+            let run = desk.run(CHECK_UNKEPT);
+            // The seal is the office's own, and the opening the holder's.
+            let is_the_holder_s = name.starts_with("plan.txt.opening");
             run.says(
-                2,
+                if is_the_holder_s { 1 } else { 2 },
                 &[
                     &format!("{name} says that it is of format {format}, "),
                     &known,
                 ],
             );
-            run.does_not_say(&["damaged", "not whole", "verdict", "accepted"]);
+            run.does_not_say(&["damaged", "not whole", "position", ": accepted"]);
         }
         desk.write(name, sound.as_bytes());
     }

@@ -299,7 +299,10 @@ fn a_refusal_says_whether_the_manifest_or_a_record_failed() {
     }
     let newer = sound.replacen("format 1", "format 2", 1);
     desk.write("house.opening/manifest.txt", newer.as_bytes());
-    desk.run(CHECK).says(2, &["says that it is of format 2"]);
+    desk.run(CHECK).says(
+        1,
+        &["manifest: refused: house.opening/manifest.txt says that it is of format 2"],
+    );
     fs::remove_file(desk.path("house.opening/manifest.txt")).unwrap();
     desk.run(CHECK)
         .says(1, &["manifest: refused: the opening shows no manifest.txt"]);

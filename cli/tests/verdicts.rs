@@ -329,7 +329,13 @@ fn the_verdict_says_where_an_opening_does_not_fit() {
     desk.write("f", b"short");
     desk.run("commit f").says(0, &[]);
     desk.run("check plan.txt.opening --seal f.seal --seed dice --at 1")
-        .says(2, &["the opening is not whole"]);
+        .says(
+            1,
+            &[
+                "opening: refused: the opening is not whole",
+                "the opening names another n, k or base domain than the seal: it was made for another seal",
+            ],
+        );
     desk.run("commit plan.txt --profile fastchunk --out fast")
         .says(0, &[]);
     desk.run("check plan.txt.opening --seal fast --seed dice --at 7")

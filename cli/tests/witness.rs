@@ -681,6 +681,13 @@ fn the_witness_knows_a_manifest_by_its_form() {
             1,
         ),
         (sound.replace("960 b", "0960 b"), 1),
+        (sound.replace("960 b", "18446744073709551615 b"), 1),
+        (sound.replace("960 b", "18446744073692774416 b"), 1),
+        (sound.replace("960 b", "18446744073709552576 b"), 1),
+        (
+            sound.replace("960 b", &format!("{} b", "9".repeat(5000))),
+            1,
+        ),
         (sound.replace("960 b", "960 \\62"), 1),
         (sound.replace("960 b", "960 ./b"), 1),
         (format!("{sound}{twice}"), 1),

@@ -13,8 +13,8 @@ use crate::report::{page, Subject};
 use crate::request::{Answered, Request};
 use crate::seal::{Seal, SEAL_FOLDER};
 use crate::shape::Shape;
-use crate::shown::{changed_note, some_of, Record, Shown};
-use crate::statement::{checker_s_own, claim, misfits, roots, statement, Roots};
+use crate::shown::{changed_note, some_of, Own, Record, Shown};
+use crate::statement::{another_shape, checker_s_own, claim, misfits, roots, statement, Roots};
 use crate::writing::{make, may_be_made};
 use dequmlo::{QueryRecord, Refusal, Statement, Word};
 use std::path::PathBuf;
@@ -125,23 +125,26 @@ fn examined(options: &Options, seal: &Seal, asked: &Asked) -> Result<Examined, F
         .positions
         .as_ref()
         .map_or(seal.shape.queries(), Vec::len);
-    let shown = match Shown::read(&options.operands[0], seal, expected)? {
+    let own = asked
+        .answered()
+        .map_or_else(|| Own::by(options), |_| Own::NOTHING);
+    let shown = match Shown::read(&options.operands[0], seal, expected, own)? {
         Ok(shown) => shown,
         Err(sentence) => return Ok(Examined::refused(seal, Item::Opening, sentence)),
     };
-    let roots = match asked.answered() {
-        Some(answered) => Roots {
-            all: answered.roots.clone(),
-            kept: true,
-        },
-        None => roots(options, seal, &shown)?,
+    let (roots, claim) = match asked.answered() {
+        Some(answered) => (Ok(answered.kept()), Ok(answered.claim)),
+        None => (roots(options, seal, &shown)?, claim(options, &shown)?),
     };
-    let challenges = asked.challenges_for(&shown)?;
+    let (roots, challenges) = match (roots, asked.challenges_for(&shown)) {
+        (Ok(roots), Ok(challenges)) => (roots, challenges),
+        (Err(sentence), _) | (_, Err(sentence)) => {
+            let mut examined = Examined::refused(seal, Item::Opening, sentence);
+            examined.found.notes.extend(another_shape(seal, &shown));
+            return Ok(examined);
+        }
+    };
     let positions = asked.positions.clone().unwrap_or_else(|| shown.positions());
-    let claim = match asked.answered() {
-        Some(answered) => answered.claim,
-        None => claim(options, &shown)?,
-    };
     if let Some(part) = &seal.part {
         found.add(Item::Manifest, Answer::Accepted(None));
         let note = format!("the file that is asked about is {}", part.name());
@@ -151,11 +154,12 @@ fn examined(options: &Options, seal: &Seal, asked: &Asked) -> Result<Examined, F
     match statement(seal, &roots, &challenges) {
         Ok(statement) => {
             records(&mut found, seal, &statement, &shown, &positions)?;
-            tail(
-                &mut found,
-                statement.check_tail(claim, &shown.tail),
-                roots.kept,
-            );
+            match (&claim, &shown.tail) {
+                (Ok(claim), Ok(record)) => {
+                    tail(&mut found, statement.check_tail(*claim, record), roots.kept);
+                }
+                (_, Err(what)) | (Err(what), _) => found.declined(Item::Tail, what),
+            }
         }
         Err(refusal) => found.add(Item::Opening, Answer::Refused(refusal)),
     }
@@ -164,6 +168,7 @@ fn examined(options: &Options, seal: &Seal, asked: &Asked) -> Result<Examined, F
         .notes
         .extend(misfits(seal, &shown, &roots, &challenges));
     found.notes.extend(changed_note(&shown.changed()));
+    found.notes.extend(shown.size_note());
     if options.text("--seed")?.is_some() {
         found.notes.push(SEED_WARNING.into());
     }
@@ -173,7 +178,7 @@ fn examined(options: &Options, seal: &Seal, asked: &Asked) -> Result<Examined, F
         positions,
         roots,
         challenges,
-        claim: Some(claim),
+        claim: claim.ok(),
     })
 }
 
@@ -297,10 +302,11 @@ impl Asked {
         }
     }
 
-    fn challenges_for(&self, shown: &Shown) -> Result<Vec<Word>, Failure> {
-        match (&self.challenges, &shown.challenges) {
-            (Some(words), _) | (None, Ok(words)) => Ok(words.clone()),
-            (None, Err(Failure(what))) => Err(Failure(what.clone())),
+    /// The challenges to check by; a sentence where they are to be the opening's and it has none.
+    fn challenges_for(&self, shown: &Shown) -> Result<Vec<Word>, String> {
+        match &self.challenges {
+            Some(words) => Ok(words.clone()),
+            None => shown.challenges.clone(),
         }
     }
 }
