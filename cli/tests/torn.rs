@@ -110,7 +110,7 @@ fn nothing_is_said_of_a_file_that_changes_while_it_is_verified_or_opened() {
     }
 }
 
-/// A project with a file of three parts and some small ones. The large one is read first, part by part on one thread.
+/// A project with a file of two parts and some small ones. The large one is read first, part by part on one thread.
 fn with_a_project(name: &str) -> Desk {
     let desk = Desk::new(name);
     desk.folder("house");
@@ -119,7 +119,7 @@ fn with_a_project(name: &str) -> Desk {
         desk.write(&format!("house/{name}"), format!("{name}\n").as_bytes());
     }
     let large = std::fs::File::create(desk.path("house/large")).unwrap();
-    large.set_len(2 * PART + 1000).unwrap();
+    large.set_len(PART + 1000).unwrap();
     desk
 }
 
@@ -130,7 +130,7 @@ const VERIFY: &str = "verify house --seal house.seal --threads 1";
 const IN_THE_PROJECT: [(&str, &str, &str); 7] = [
     // One byte near the front and one near the end: no reader that takes the parts one after the other sees both, or neither.
     (
-        "for at in 5 33554900; do printf X | dd of=house/large conv=notrunc bs=1 seek=$at status=none; done",
+        "for at in 5 16778100; do printf X | dd of=house/large conv=notrunc bs=1 seek=$at status=none; done",
         "large",
         "it was changed while it was read",
     ),
@@ -214,9 +214,9 @@ fn a_file_of_a_project_that_changes_while_it_is_opened() {
     let desk = with_a_project("torn-open-project");
     desk.run(COMMIT).says(0, &[]);
     let before = desk.names(".");
-    let open = "open house --seal house.seal --file large --offset 20000000 --seed dice";
+    let open = "open house --seal house.seal --file large --offset 16777700 --seed dice";
     let (does, _, said) = IN_THE_PROJECT[0];
-    let run = desk.on(&Disk::Runs("house/large", PART + 1000, does), open);
+    let run = desk.on(&Disk::Runs("house/large", PART + 500, does), open);
     run.says(2, &[&format!("house/large: {said}")]);
     assert_eq!(desk.names("."), before);
 }

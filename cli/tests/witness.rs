@@ -517,10 +517,14 @@ fn the_witness_on_another_format_and_on_two_files_for_a_position() {
     both(&desk, 1, &[7], "");
     fs::remove_file(file("query-003.record")).unwrap();
     both(&desk, 0, &[7], "");
-    for name in ["plan.txt.seal/root.txt", "plan.txt.opening/roots.txt"] {
+    // The seal is the office's own, and the opening the holder's.
+    for (name, status) in [
+        ("plan.txt.seal/root.txt", 2),
+        ("plan.txt.opening/roots.txt", 1),
+    ] {
         let sound = desk.text(name);
         desk.write(name, sound.replacen("format 1", "format 2", 1).as_bytes());
-        both_by(&desk, 2, &[7], "");
+        both_by(&desk, status, &[7], "");
         desk.write(name, sound.as_bytes());
     }
 }
