@@ -266,6 +266,9 @@ def check_tail(base, widths, n, k, root, claim, record):
 
 # 15. The files of a seal and of an opening.
 
+# The blanks of 15.2, as Unicode has them.
+BLANKS = "\t\n\v\f\r \x85\xa0\u1680\u2000\u2001\u2002\u2003\u2004\u2005\u2006\u2007\u2008\u2009\u200a\u2028\u2029\u202f\u205f\u3000"
+
 
 def content(path, most=2 ** 20, linked=False):
     """A file's first bytes, one more than `most` at the most. A file of a folder is no link; one that the command line names may be."""
@@ -281,9 +284,10 @@ def written(path, most=2 ** 20, linked=False):
     if len(text) > most:
         raise CannotCheck(f"{path} has more than the {most} bytes that such a file can have")
     try:
-        return [line.rstrip() for line in text.decode().rstrip().split("\n")] if text.strip() else []
+        text = text.decode().rstrip(BLANKS)
     except UnicodeDecodeError:
         raise CannotCheck(f"{path} is not text")
+    return [line.rstrip(BLANKS) for line in text.split("\n")] if text else []
 
 
 def lines(path, most=2 ** 20, linked=False):
@@ -312,7 +316,7 @@ def word(path, text):
 
 def digests(path, count, linked=False):
     """The digests of a text that has so many at the most."""
-    return [hexadecimal(path, line.strip(), 32) for line in lines(path, most_bytes(count, 64), linked)]
+    return [hexadecimal(path, line.strip(BLANKS), 32) for line in lines(path, most_bytes(count, 64), linked)]
 
 
 def one(path, values):
@@ -382,7 +386,7 @@ def checkers_own(asked):
 def brought(asked, n, k, root):
     """The challenges that the checker brings, and the roots, where it kept them."""
     checkers_own(asked)
-    challenges = [word(asked.challenges, line.strip()) for line in lines(asked.challenges, most_bytes(max(n, 20), 32), linked=True)]
+    challenges = [word(asked.challenges, line.strip(BLANKS)) for line in lines(asked.challenges, most_bytes(max(n, 20), 32), linked=True)]
     kept = digests(asked.roots, n + 1, linked=True) if asked.roots else None
     try:
         ask(4, 1 <= n <= 20 and k <= 4)
@@ -403,11 +407,11 @@ def roots_of(opening, asked, n, kept):
         raise CannotCheck("it holds more files than an opening has")
     for name in ("parameters.txt", "challenges.txt"):
         try:
-            first = content(opening / name, 64).decode("utf-8", "replace").split("\n")[0].rstrip()
+            first = content(opening / name, 64).decode("utf-8", "replace").split("\n")[0]
         except CannotCheck:
             continue
-        if first.startswith("format ") and first != "format 1":
-            raise CannotCheck(f"{opening / name} is of {first}, and this file knows format 1 alone")
+        if first.startswith("format ") and first[7:].rstrip(BLANKS) != "1":
+            raise CannotCheck(f"{opening / name} is of another format, and this file knows format 1 alone")
     return kept if kept is not None else digests(opening / "roots.txt", n + 1)
 
 
@@ -452,7 +456,7 @@ def check_opening(asked, base, widths, n, k, root):
         yes &= check_record(asked, opening, position, query_bytes, (base, widths, n, k, challenges, roots))
     try:
         shown = opening / "claim.txt"
-        claim = expected or word(shown, one(shown, lines(shown, most_bytes(1, 32))).strip())
+        claim = expected or word(shown, one(shown, lines(shown, most_bytes(1, 32))).strip(BLANKS))
         tail = content(opening / "tail.record", tail_bytes)
     except CannotCheck as why:
         print(f"tail: no: {why}")
@@ -497,7 +501,7 @@ def main():
     parser.add_argument("--seal", required=True)
     parser.add_argument("--older", action="store_true")
     parser.add_argument("--challenges", required=True)
-    parser.add_argument("--at", required=True, type=lambda text: sorted(set(numbers(text))))
+    parser.add_argument("--at", required=True, type=lambda text: sorted(set(numbers(",".join(text.replace(",", " ").split())))))
     parser.add_argument("--roots")
     parser.add_argument("--claim")
     try:

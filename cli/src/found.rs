@@ -39,7 +39,7 @@ impl Item {
 pub const UNKEPT_TAIL: &str = "it fits the opening's own roots, and nobody kept these before the positions were told, so neither it nor the claim is accepted";
 
 /// What a person should know, and do, where no roots were kept.
-const UNKEPT: &str = "no roots were kept before the positions were told. Who knows challenges and positions beforehand can invent all levels above level 0, the tail and \
+const UNKEPT: &str = "no roots were kept before the positions were told. Whoever knows challenges and positions beforehand can invent all levels above level 0, the tail and \
                       the claim. To have them checked, ask in two rounds: `seal ask` keeps the holder's roots before it draws positions, and `seal check --asked FOLDER` \
                       goes by them; --roots FILE names roots that were kept in another way";
 

@@ -259,23 +259,27 @@ fn the_witness_has_the_program_s_guards() {
     fs::remove_file(&record).unwrap();
     fs::rename(desk.path("aside"), &record).unwrap();
     both(&desk, &format!("{BOTH} --roots {KEPT}"), 0);
-    // Numbers that are none.
-    for at in [
-        "-1",
-        "x",
-        "",
-        "7,",
-        "0x7",
-        "1_0",
-        "99999999999999999999",
-        "256",
+    // Numbers that are none, and some that are.
+    for (at, status) in [
+        ("-1", 2),
+        ("x", 2),
+        (",", 2),
+        ("0x7", 2),
+        ("1_0", 2),
+        ("7.0", 2),
+        ("99999999999999999999", 2),
+        ("18446744073709551615", 2),
+        ("256", 2),
+        ("7,", 3),
+        ("+7,007", 3),
     ] {
-        let words =
-            format!("plan.txt.opening --seal plan.txt.seal --challenges challenges.txt --at={at}");
-        let run = desk.python("check_seal.py", words.split_whitespace());
-        run.says(2, &[]);
-        run.does_not_say(&["Traceback"]);
+        both(&desk, &BOTH.replace("0,7,127", at), status);
     }
+    desk.python(
+        "check_seal.py",
+        BOTH.replace(" 0,7,127", "=-1").split_whitespace(),
+    )
+    .says(2, &["`-1` is no list of numbers"]);
     // Two roots, none, and one that is a link.
     let name = "plan.txt.seal/root.txt";
     let sound = desk.text(name);

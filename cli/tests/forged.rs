@@ -220,7 +220,7 @@ fn a_claim_that_was_never_deposited_is_not_accepted() {
         3,
         &[
             "tail: not accepted: it fits the opening's own roots, and nobody kept these before the positions were told",
-            "note: no roots were kept before the positions were told. Who knows challenges and positions beforehand can invent",
+            "note: no roots were kept before the positions were told. Whoever knows challenges and positions beforehand can invent",
             "ask in two rounds: `seal ask` keeps the holder's roots",
             "verdict: partly accepted: 40 records. What they show of level 0 is what was deposited. The tail and the claim are not accepted: no roots were kept",
         ],
@@ -261,7 +261,7 @@ fn the_page_of_a_forged_opening_says_what_is_accepted() {
         "<td class=\"place\">tail</td><td class=\"mark\">– not accepted</td>",
         &format!("{claim}, not accepted: no roots were kept before the positions were told"),
         "that of level 0 alone, the seal&#39;s; nobody kept those of levels 1 to 6",
-        "<li><bdi>no roots were kept before the positions were told. Who knows",
+        "<li><bdi>no roots were kept before the positions were told. Whoever knows",
         "✓ accepted on level 0",
         "<td>0</td><td class=\"place\">the seal&#39;s</td>",
         "<td>6</td><td class=\"place\">the opening&#39;s</td>",
