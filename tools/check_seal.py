@@ -330,7 +330,7 @@ def parameters(path, older):
     """The base domain, the set of widths, n and k. Where n is named without k and the base domain, these two are those of SPECIFICATION 6.10; a set that is
     not named is the present one (15.3)."""
     form = r"n (0|[1-9][0-9]?)(?:\nk ([0-9])\n(?:domain ([!-~]+)|domain-hex ?((?:[0-9a-f]{2})*)))?(?:\nwidths (.+))?"
-    found = re.fullmatch(form, "\n".join(lines(path)))
+    found = re.fullmatch(form, "\n".join(lines(path, 1024)))
     if not found:
         raise CannotCheck(f"{path} does not have its lines n, k, domain and widths, nor those without k and domain")
     n, k, text, digits, widths = found.groups("")
@@ -360,7 +360,7 @@ def read_seal(folder, older):
     if not folder.is_dir():
         raise CannotCheck(f"there is no seal {folder}")
     check = folder / "check.txt"
-    listed = [re.fullmatch("([0-9a-fA-F]{64})  (.*)", line) for line in written(check)] if os.path.lexists(check) else None
+    listed = [re.fullmatch("([0-9a-fA-F]{64})  (.*)", line) for line in written(check, 1024)] if os.path.lexists(check) else None
     if listed is not None and not all(listed):
         raise CannotCheck(f"the seal is damaged: {check} is not a list of digests")
     then = None if listed is None else {line.group(2): line.group(1).lower() for line in listed}

@@ -12,26 +12,46 @@ use dequmlo::{Refusal, Root, Statement, Word};
 use std::path::Path;
 
 /// The roots of all levels, and whether the checker kept them.
+#[derive(Clone)]
 pub struct Roots {
     pub all: Vec<Root>,
     pub kept: bool,
 }
 
-/// The roots to check under; a sentence where they are to be the opening's and it has none. A kept file that is not of this seal is the checker's own
-/// fault, and no refusal.
-pub fn roots(
-    options: &Options,
-    seal: &Seal,
-    shown: &Shown,
-) -> Result<Result<Roots, String>, Failure> {
-    match options.path("--roots") {
-        Some(path) => kept_roots(&path, seal).map(Ok),
-        None => Ok(shown.roots.clone().map(|mut all| {
-            if let Some(first) = all.first_mut() {
-                *first = seal.root;
-            }
-            Roots { all, kept: false }
-        })),
+/// What the checker brings in the place of what an opening says of itself: roots that were kept, and a claim that is expected.
+pub struct Brought {
+    roots: Option<Roots>,
+    claim: Option<Word>,
+}
+
+impl Brought {
+    /// Fails where the kept roots are not those of this seal, or the claim is no word: that is the checker's own fault, and no refusal, whatever the opening is.
+    pub fn read(options: &Options, seal: &Seal) -> Result<Brought, Failure> {
+        let roots = options.path("--roots");
+        let claim = options
+            .text("--claim")?
+            .map(|text| text.parse().map_err(|e| Failure(format!("--claim: {e}"))));
+        Ok(Brought {
+            roots: roots.map(|path| kept_roots(&path, seal)).transpose()?,
+            claim: claim.transpose()?,
+        })
+    }
+
+    /// The roots to check under: those that were kept, or else the opening's; a sentence where it has none.
+    pub fn roots(&self, seal: &Seal, shown: &Shown) -> Result<Roots, String> {
+        if let Some(roots) = &self.roots {
+            return Ok(roots.clone());
+        }
+        let mut all = shown.roots.clone()?;
+        if let Some(first) = all.first_mut() {
+            *first = seal.root;
+        }
+        Ok(Roots { all, kept: false })
+    }
+
+    /// The terminal claim: the one that is expected, or else the opening's; a sentence where it has none.
+    pub fn claim(&self, shown: &Shown) -> Result<Word, String> {
+        self.claim.map_or_else(|| shown.claim.clone(), Ok)
     }
 }
 
@@ -81,17 +101,6 @@ pub fn statement(seal: &Seal, roots: &Roots, challenges: &[Word]) -> Result<Stat
         challenges,
         &roots.all,
     )
-}
-
-/// The terminal claim: the checker's, or the opening's; a sentence where it has none.
-pub fn claim(options: &Options, shown: &Shown) -> Result<Result<Word, String>, Failure> {
-    match options.text("--claim")? {
-        Some(text) => text
-            .parse()
-            .map(Ok)
-            .map_err(|e| Failure(format!("--claim: {e}"))),
-        None => Ok(shown.claim.clone()),
-    }
 }
 
 /// Where the opening does not fit the seal and the checker's own files, and which side that speaks against.

@@ -230,6 +230,13 @@ fn the_witness_on_bad_openings() {
         both(&desk, &kept, 1);
         desk.write(&path, &sound);
     }
+    // The checker's own faults come first, whatever the opening is.
+    desk.write("plan.txt.opening/challenges.txt", b"format 9\n");
+    let roots = desk.text(KEPT);
+    desk.write("others", &roots.as_bytes()[..roots.len() - 65]);
+    both(&desk, &format!("{BOTH} --roots others"), 2);
+    both(&desk, &format!("{BOTH} --claim 5"), 2);
+    both(&desk, BOTH, 1);
     both(&desk, &BOTH.replace("plan.txt.opening", "absent"), 2);
     both(&desk, &BOTH.replace("plan.txt.seal", "absent"), 2);
 }

@@ -14,7 +14,7 @@ use crate::request::{Answered, Request};
 use crate::seal::{Seal, SEAL_FOLDER};
 use crate::shape::Shape;
 use crate::shown::{changed_note, some_of, Own, Record, Shown};
-use crate::statement::{another_shape, checker_s_own, claim, misfits, roots, statement, Roots};
+use crate::statement::{another_shape, checker_s_own, misfits, statement, Brought, Roots};
 use crate::writing::{make, may_be_made};
 use dequmlo::{QueryRecord, Refusal, Statement, Word};
 use std::path::PathBuf;
@@ -125,6 +125,7 @@ fn examined(options: &Options, seal: &Seal, asked: &Asked) -> Result<Examined, F
         .positions
         .as_ref()
         .map_or(seal.shape.queries(), Vec::len);
+    let brought = Brought::read(options, seal)?;
     let own = asked
         .answered()
         .map_or_else(|| Own::by(options), |_| Own::NOTHING);
@@ -134,7 +135,7 @@ fn examined(options: &Options, seal: &Seal, asked: &Asked) -> Result<Examined, F
     };
     let (roots, claim) = match asked.answered() {
         Some(answered) => (Ok(answered.kept()), Ok(answered.claim)),
-        None => (roots(options, seal, &shown)?, claim(options, &shown)?),
+        None => (brought.roots(seal, &shown), brought.claim(&shown)),
     };
     let (roots, challenges) = match (roots, asked.challenges_for(&shown)) {
         (Ok(roots), Ok(challenges)) => (roots, challenges),

@@ -12,7 +12,7 @@ use crate::questions::challenges;
 use crate::reading::named;
 use crate::shape::{Shape, PARAMETERS};
 use crate::shown::{Own, Shown, Use};
-use crate::statement::{roots, statement};
+use crate::statement::{statement, Brought};
 use crate::writing::{beside, Target};
 use dequmlo::{Collision, QueryRecord, Refusal, Statement, Widths};
 use std::path::{Path, PathBuf};
@@ -53,6 +53,7 @@ pub fn run(options: &Options) -> Result<Outcome, Failure> {
     let record =
         |i: usize| named(&options.operands[i], seal.sizes.query_bytes).map(QueryRecord::from);
     let (first, second) = (record(0)?, record(1)?);
+    let brought = Brought::read(options, &seal)?;
     let shown = match Shown::read(
         &opening,
         &seal,
@@ -71,7 +72,7 @@ pub fn run(options: &Options) -> Result<Outcome, Failure> {
         (None, Ok(words)) => words.clone(),
         (None, Err(what)) => return Ok(Outcome::declined(what.clone())),
     };
-    let roots = match roots(options, &seal, &shown)? {
+    let roots = match brought.roots(&seal, &shown) {
         Ok(roots) => roots,
         Err(what) => return Ok(Outcome::declined(what)),
     };

@@ -5,7 +5,7 @@ use crate::options::Options;
 use crate::outcome::{texts, Failure, Outcome, Verdict};
 use crate::part::asked_seal;
 use crate::shown::{changed_note, Own, Shown};
-use crate::statement::{checker_s_own, claim, roots, statement};
+use crate::statement::{checker_s_own, statement, Brought};
 use dequmlo::Word;
 
 pub const TAKEN: [&str; 7] = [
@@ -19,6 +19,7 @@ pub fn run(options: &Options) -> Result<Outcome, Failure> {
         Ok(seal) => seal,
         Err(refused) => return Ok(refused.outcome()),
     };
+    let brought = Brought::read(options, &seal)?;
     let shown = match Shown::read(
         &options.operands[0],
         &seal,
@@ -29,8 +30,8 @@ pub fn run(options: &Options) -> Result<Outcome, Failure> {
         Err(sentence) => return Ok(Outcome::declined(sentence)),
     };
     let whole = (
-        claim(options, &shown)?,
-        roots(options, &seal, &shown)?,
+        brought.claim(&shown),
+        brought.roots(&seal, &shown),
         &shown.tail,
     );
     let (claim, roots, tail) = match whole {
