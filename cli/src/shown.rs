@@ -44,40 +44,46 @@ pub struct Shown {
     pub tail: Result<TailRecord, String>,
 }
 
-/// What the opening's own roots, or its own claim, are good for.
+/// What something that the opening says of itself is good for.
 #[derive(Clone, Copy, Debug, PartialEq, Eq)]
 pub enum Use {
     /// The check goes by them.
     Decides,
-    /// The checker kept others, and a note says where these differ.
+    /// The checker has others, and a note says where these differ.
     Note,
     /// They are not read.
     Nothing,
 }
 
-/// What the opening's own roots and its own claim are good for.
+/// What the opening's own challenges, roots and claim are good for.
 #[derive(Clone, Copy, Debug, PartialEq, Eq)]
 pub struct Own {
+    pub challenges: Use,
     pub roots: Use,
     pub claim: Use,
 }
 
 impl Own {
-    /// Where nothing but the records counts.
+    /// Where the checker has all of them.
     pub const NOTHING: Own = Own {
+        challenges: Use::Note,
         roots: Use::Nothing,
         claim: Use::Nothing,
     };
 
     /// By what the command line names in their place.
     pub fn by(options: &Options) -> Own {
-        let unless = |name, otherwise| match options.given(name) {
-            true => otherwise,
-            false => Use::Decides,
+        let unless = |names: &[&str], otherwise| {
+            if names.iter().any(|name| options.given(name)) {
+                otherwise
+            } else {
+                Use::Decides
+            }
         };
         Own {
-            roots: unless("--roots", Use::Note),
-            claim: unless("--claim", Use::Nothing),
+            challenges: unless(&["--challenges", "--seed"], Use::Note),
+            roots: unless(&["--roots"], Use::Note),
+            claim: unless(&["--claim"], Use::Nothing),
         }
     }
 
@@ -262,13 +268,14 @@ fn parts(
     let n = seal.shape.n;
     let text = |name, lines, digits| text_of(folder, name, most_bytes(lines, digits));
     let own_text = |good_for, name, lines, digits| match good_for {
-        Use::Decides | Use::Note => text(name, lines, digits),
+        Use::Decides => text(name, lines, digits),
+        Use::Note => Ok(text(name, lines, digits).unwrap_or_else(|Failure(what)| Err(what))),
         Use::Nothing => Ok(Err(format!("{name} was not read"))),
     };
     let at = |name| folder.join(name);
     let roots = own_text(own.roots, ROOTS, n + 1, 64)?;
     let claim = own_text(own.claim, CLAIM, 1, 32)?;
-    let challenges = text(CHALLENGES, n, 32)?;
+    let challenges = own_text(own.challenges, CHALLENGES, n, 32)?;
     let tail = match inside(folder, TAIL, longest(&seal.sizes, |s| s.tail_bytes)) {
         Ok(bytes) => Ok(bytes),
         Err(e @ Unread::Failed(_)) => return Err(unreadable(&at(TAIL), e)),

@@ -190,6 +190,18 @@ fn a_disk_that_fails_speaks_against_nobody() {
         run.says(2, &[&format!("cannot read {file}: Input/output error")]);
         run.does_not_say(&["verdict", "holder"]);
     }
+    // What serves for a note alone is not needed.
+    for (name, line, status) in [
+        ("challenges.txt", CHECK_UNKEPT, 3),
+        ("roots.txt", CHECK, 0),
+        ("check.txt", CHECK, 0),
+    ] {
+        let file = format!("plan.txt.opening/{name}");
+        desk.on(&Disk::Fails(&file, 0), line).says(status, &[]);
+    }
+    let own = "check plan.txt.opening --seal plan.txt.seal --own-questions";
+    desk.on(&Disk::Fails("plan.txt.opening/challenges.txt", 0), own)
+        .says(2, &["challenges.txt: Input/output error"]);
 }
 
 #[test]

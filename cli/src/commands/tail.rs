@@ -4,7 +4,7 @@ use crate::json::Json;
 use crate::options::Options;
 use crate::outcome::{texts, Failure, Outcome, Verdict};
 use crate::part::asked_seal;
-use crate::shown::{changed_note, Own, Shown};
+use crate::shown::{changed_note, Own, Shown, Use};
 use crate::statement::{checker_s_own, statement, Brought};
 use dequmlo::Word;
 
@@ -24,7 +24,10 @@ pub fn run(options: &Options) -> Result<Outcome, Failure> {
         &options.operands[0],
         &seal,
         seal.shape.queries(),
-        Own::by(options),
+        Own {
+            challenges: Use::Nothing,
+            ..Own::by(options)
+        },
     )? {
         Ok(shown) => shown,
         Err(sentence) => return Ok(Outcome::declined(sentence)),
