@@ -5,7 +5,7 @@
 
 It commits the manifest that the opening shows, compares its root with the project's (SPECIFICATION 16.5), and then checks the records under the part's root as
 check_seal.py does. `manifest: no` or a later `no` says which of the two failed. Committing takes some minutes where the manifest has megabytes.
-Exit status: 0 yes, 1 no, 2 nothing could be checked.
+Exit status: 0 yes, 1 no, 2 nothing could be checked, 3 yes on level 0 alone, as no roots were kept.
 """
 import argparse
 import os
@@ -13,7 +13,7 @@ import re
 import sys
 from pathlib import Path
 
-from check_seal import CannotCheck, Level, check_opening, content, digest, leaf_message, node_message, part, read_seal, u64
+from check_seal import NO, VERDICTS, CannotCheck, Level, check_opening, checkers_own, content, digest, leaf_message, node_message, numbers, part, read_seal, u64
 
 PART = 16_777_200
 
@@ -103,7 +103,7 @@ def unescaped(text):
 def manifest(text):
     """Each path with its length and its parts' roots; nothing where the text is no manifest, to the letter."""
     files = []
-    for block in re.findall(rb"file ([0-9]+) ([^\n]*)\n((?:part [0-9a-f]{64}\n)*)", text):
+    for block in re.findall(rb"file ([0-9]{1,20}) ([^\n]*)\n((?:part [0-9a-f]{64}\n)*)", text):
         files.append((unescaped(block[1]), int(block[0]), re.findall(rb"[0-9a-f]{64}", block[2])))
     written = b"format 1\n" + b"".join(
         b"file %d %s\n" % (size, escaped(path)) + b"".join(b"part %s\n" % root for root in roots) for path, size, roots in files
@@ -117,14 +117,17 @@ def manifest(text):
 
 
 def check_file(asked):
-    """Prints the answer for the manifest, and then those for the records. Whether all are yes."""
+    """Prints the answer for the manifest, and then those for the records. The exit status."""
     base, widths, n, k, root = read_seal(Path(asked.seal), asked.older)
     shown = Path(asked.OPENING) / "manifest.txt"
-    text = content(shown, PART) if shown.is_file() else b""
+    checkers_own(asked)
+    if not Path(asked.OPENING).is_dir():
+        raise CannotCheck(f"there is no opening {asked.OPENING}")
+    text = content(shown, PART) if shown.is_file() and not shown.is_symlink() else b""
     files = manifest(text) if len(text) <= PART and root_of(base, widths, k, text) == (n, root) else None
     if files is None:
         print("manifest: no: what the opening shows is not the project's manifest")
-        return False
+        return NO
     print("manifest: yes")
     size, roots = files.get(os.fsencode(asked.file), (0, None))
     if roots is None or not all(0 <= offset < size for offset in asked.offset) or len({offset // PART for offset in asked.offset}) != 1:
@@ -141,16 +144,16 @@ def main():
     for name in ("--seal", "--challenges", "--file"):
         parser.add_argument(name, required=True)
     parser.add_argument("--older", action="store_true")
-    parser.add_argument("--offset", required=True, type=lambda text: [int(offset) for offset in text.split(",")])
+    parser.add_argument("--offset", required=True, type=numbers)
     parser.add_argument("--roots")
     parser.add_argument("--claim")
     try:
-        yes = check_file(parser.parse_args())
+        status = check_file(parser.parse_args())
     except (CannotCheck, OSError) as why:
         print(f"nothing was checked: {why}", file=sys.stderr)
         return 2
-    print("yes" if yes else "no")
-    return 0 if yes else 1
+    print(VERDICTS[status])
+    return status
 
 
 if __name__ == "__main__":

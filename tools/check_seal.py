@@ -7,11 +7,14 @@
 Challenges, positions and --roots, roots that were kept, are the checker's own; --claim is a value that is expected. --older says that a seal which names
 neither k nor a base domain was made before version 0.4.0 (SPECIFICATION 6.10). The set of widths is the seal's, the present one where it names none. A line for each position and one for
 the tail: `yes`, or `no` with the number of the first question that was answered with no (SPECIFICATION 8.2), its level where it has one, and the question.
-The last line is the verdict on all of it. --try tries this file on the values of SPECIFICATION 12. Exit status: 0 yes, 1 no, 2 nothing could be checked.
+The last line is the verdict on all of it. Without --roots a record is answered with `yes on level 0` and the tail with `not accepted`: who knew challenges and positions
+beforehand can invent the rest (SPECIFICATION 15.6). --try tries this file on the values of SPECIFICATION 12. Exit status: 0 yes, 1 no, 2 nothing could be
+checked, 3 yes on level 0 alone.
 """
 import argparse
 import collections
 import functools
+import os
 import re
 import struct
 import sys
@@ -263,26 +266,41 @@ def check_tail(base, widths, n, k, root, claim, record):
 
 # 15. The files of a seal and of an opening.
 
+# The blanks of 15.2, as Unicode has them.
+BLANKS = "\t\n\v\f\r \x85\xa0\u1680\u2000\u2001\u2002\u2003\u2004\u2005\u2006\u2007\u2008\u2009\u200a\u2028\u2029\u202f\u205f\u3000"
 
-def content(path, most=2 ** 20):
-    """A file's first bytes, one more than `most` at the most."""
-    if not Path(path).is_file():
-        raise CannotCheck(f"there is no file {path}")
+
+def content(path, most=2 ** 20, linked=False):
+    """A file's first bytes, one more than `most` at the most. A file of a folder is no link; one that the command line names may be."""
+    if not Path(path).is_file() or Path(path).is_symlink() and not linked:
+        raise CannotCheck(f"there is no file {path}" if not Path(path).is_symlink() else f"{path} is a link, not a file")
     with open(path, "rb") as file:
         return file.read(most + 1)
 
 
-def written(path):
-    """The lines of a text as they were written, without the blanks and empty lines that SPECIFICATION 15.2 passes over."""
-    return [line.rstrip() for line in content(path).decode("utf-8", "replace").rstrip().splitlines()]
+def written(path, most=2 ** 20, linked=False):
+    """The lines of a text of so many bytes at the most, as they were written, without the blanks and empty lines that SPECIFICATION 15.2 passes over."""
+    text = content(path, most, linked)
+    if len(text) > most:
+        raise CannotCheck(f"{path} has more than the {most} bytes that such a file can have")
+    try:
+        text = text.decode().rstrip(BLANKS)
+    except UnicodeDecodeError:
+        raise CannotCheck(f"{path} is not text")
+    return [line.rstrip(BLANKS) for line in text.split("\n")] if text else []
 
 
-def lines(path):
+def lines(path, most=2 ** 20, linked=False):
     """The lines of a text behind its format."""
-    found = written(path)
+    found = written(path, most, linked)
     if found[:1] != ["format 1"] and "".join(found[:1]).startswith("format "):
         raise CannotCheck(f"{path} is of {found[0]}, and this file knows format 1 alone")
     return found[found[:1] == ["format 1"] :]
+
+
+def most_bytes(count, digits):
+    """The most bytes of a text of so many lines, with room for blanks and line ends."""
+    return count * (digits + 16) + 64
 
 
 def hexadecimal(path, text, size):
@@ -296,15 +314,23 @@ def word(path, text):
     return hexadecimal(path, text, 16)[::-1]
 
 
-def digests(path):
-    return [hexadecimal(path, line, 32) for line in lines(path)]
+def digests(path, count, linked=False):
+    """The digests of a text that has so many at the most."""
+    return [hexadecimal(path, line.strip(BLANKS), 32) for line in lines(path, most_bytes(count, 64), linked)]
+
+
+def one(path, values):
+    """The one value of a text."""
+    if len(values) != 1:
+        raise CannotCheck(f"{path} has {len(values)} values, and it must have one")
+    return values[0]
 
 
 def parameters(path, older):
     """The base domain, the set of widths, n and k. Where n is named without k and the base domain, these two are those of SPECIFICATION 6.10; a set that is
     not named is the present one (15.3)."""
     form = r"n (0|[1-9][0-9]?)(?:\nk ([0-9])\n(?:domain ([!-~]+)|domain-hex ?((?:[0-9a-f]{2})*)))?(?:\nwidths (.+))?"
-    found = re.fullmatch(form, "\n".join(lines(path)))
+    found = re.fullmatch(form, "\n".join(lines(path, 1024)))
     if not found:
         raise CannotCheck(f"{path} does not have its lines n, k, domain and widths, nor those without k and domain")
     n, k, text, digits, widths = found.groups("")
@@ -317,59 +343,127 @@ def parameters(path, older):
     return base, widths or "present", int(n), int(k)
 
 
-def answered(name, check, *given):
-    """Prints what a check answers. Whether it is yes."""
+def answered(name, check, *given, yes="yes"):
+    """Prints what a check answers, a yes in these words. Whether it is yes."""
     try:
         check(*given)
     except No as no:
         print(f"{name}: no, {no}")
         return False
-    print(f"{name}: yes")
+    print(f"{name}: {yes}")
     return True
 
 
 def read_seal(folder, older):
     """The base domain, the set of widths, n, k and the root, of a seal that is said to be older or not. One whose check lines are not its files' is damaged
     (SPECIFICATION 15.5)."""
+    if not folder.is_dir():
+        raise CannotCheck(f"there is no seal {folder}")
     check = folder / "check.txt"
-    then = {line[66:]: line[:64] for line in written(check)} if check.exists() else None
+    listed = [re.fullmatch("([0-9a-fA-F]{64})  (.*)", line) for line in written(check, 1024)] if os.path.lexists(check) else None
+    if listed is not None and not all(listed):
+        raise CannotCheck(f"the seal is damaged: {check} is not a list of digests")
+    then = None if listed is None else {line.group(2): line.group(1).lower() for line in listed}
     for name in ("parameters.txt", "root.txt"):
         text = "".join(line + "\n" for line in written(folder / name))
         if then is not None and digest((text.lower() if name == "root.txt" else text).encode()).hex() != then.get(name):
             raise CannotCheck(f"the seal is damaged: {name} and its line in check.txt do not agree")
-    return parameters(folder / "parameters.txt", older) + (digests(folder / "root.txt")[0],)
+    return parameters(folder / "parameters.txt", older) + (one(folder / "root.txt", digests(folder / "root.txt", 1)),)
 
 
-def check_opening(asked, base, widths, n, k, root):
-    """Prints an answer for each position and one for the tail. Whether all are yes. Level 0's root is the office's, whatever the opening says."""
-    opening = Path(asked.OPENING)
-    challenges = [word(asked.challenges, line) for line in lines(asked.challenges)]
-    roots = digests(asked.roots or opening / "roots.txt")
-    try:  # What the checker itself brings.
+# 15.6: the exit status, and what it says of all that was checked.
+YES, NO, ON_LEVEL_0 = 0, 1, 3
+VERDICTS = {YES: "yes", NO: "no", ON_LEVEL_0: "yes on level 0 alone: no roots were kept, so neither the tail nor the claim is accepted"}
+
+
+def checkers_own(asked):
+    """Refuses a file of the opening in the place of one of the checker's."""
+    for path in filter(None, (asked.challenges, asked.roots)):
+        if Path(asked.OPENING).resolve() in Path(path).resolve().parents:
+            raise CannotCheck(f"{path} lies in the opening, so it is the holder's")
+
+
+def brought(asked, n, k, root):
+    """The challenges that the checker brings, and the roots, where it kept them."""
+    checkers_own(asked)
+    challenges = [word(asked.challenges, line.strip(BLANKS)) for line in lines(asked.challenges, most_bytes(max(n, 20), 32), linked=True)]
+    kept = digests(asked.roots, n + 1, linked=True) if asked.roots else None
+    try:
         ask(4, 1 <= n <= 20 and k <= 4)
-        ask(5, len(challenges) == n and (not asked.roots or len(roots) == n + 1 and roots[0] == root))
+        ask(5, len(challenges) == n and (kept is None or len(kept) == n + 1 and kept[0] == root))
         ask(11, all(position < 2 ** (n + k) for position in asked.at))
     except No as no:
         raise CannotCheck(no)
+    return challenges, kept
+
+
+# The files of an opening that are no records, and how many others it may have.
+OTHER_FILES = 8 + 100
+
+
+def roots_of(opening, asked, n, kept):
+    """The roots that an opening is checked under, if the opening is one at all: not too many files, and no text of another format."""
+    if sum(1 for _ in opening.iterdir()) > OTHER_FILES + max(40, len(asked.at)):
+        raise CannotCheck("it holds more files than an opening has")
+    for name in ("parameters.txt", "challenges.txt"):
+        try:
+            first = content(opening / name, 64).decode("utf-8", "replace").split("\n")[0]
+        except CannotCheck:
+            continue
+        if first.startswith("format ") and first[7:].rstrip(BLANKS) != "1":
+            raise CannotCheck(f"{opening / name} is of another format, and this file knows format 1 alone")
+    return kept if kept is not None else digests(opening / "roots.txt", n + 1)
+
+
+def check_record(asked, opening, position, size, given):
+    """Prints the answer for a position. Whether it is yes."""
+    path = opening / f"query-{position}.record"
+    if not os.path.lexists(path):
+        print(f"position {position}: no: the opening has no record at this position")
+        return False
+    try:
+        record = content(path, size)
+    except CannotCheck as why:
+        print(f"position {position}: no: {why}")
+        return False
+    base, widths, n, k, challenges, roots = given
+    given = (base, widths, n, k, position, challenges, roots, record)
+    return answered(f"position {position}", check_query, *given, yes="yes" if asked.roots else "yes on level 0")
+
+
+def check_opening(asked, base, widths, n, k, root):
+    """Prints an answer for each position and one for the tail. The exit status. Level 0's root is the office's, whatever the opening says; the other roots count
+    where the checker kept them. What the opening lacks is the holder's, and a no."""
+    opening = Path(asked.OPENING)
+    if not opening.is_dir():
+        raise CannotCheck(f"there is no opening {opening}")
+    challenges, kept = brought(asked, n, k, root)
+    expected = word("the claim", asked.claim) if asked.claim else None
+    try:
+        roots = roots_of(opening, asked, n, kept)
+    except CannotCheck as why:
+        print(f"opening: no: {why}")
+        return NO
     roots[:1] = [root]
-    claim = word("the claim", asked.claim or "".join(lines(opening / "claim.txt")))
     query_bytes, tail_bytes = record_bytes(widths, n, k)
-    tail = content(opening / "tail.record", tail_bytes)
     meant = [re.fullmatch(r"query-\+?0*([0-9]+)\.record", path.name) for path in opening.iterdir()]
-    files = collections.Counter(int(found.group(1)) for found in meant if found)
+    files = collections.Counter(int(found.group(1)) for found in meant if found and len(found.group(1)) < 20)
     doubles = sorted(position for position in files if files[position] > 1)
     for position in doubles:
         print(f"position {position}: no: the opening has {files[position]} files for it")
     yes = not doubles
     for position in asked.at:
-        path = opening / f"query-{position}.record"
-        if path.exists():
-            record = content(path, query_bytes)
-            yes &= answered(f"position {position}", check_query, base, widths, n, k, position, challenges, roots, record)
-        else:
-            print(f"position {position}: no: the opening has no record at this position")
-            yes = False
-    return answered("tail", check_tail, base, widths, n, k, b"".join(roots[n : n + 1]), claim, tail) and yes
+        yes &= check_record(asked, opening, position, query_bytes, (base, widths, n, k, challenges, roots))
+    try:
+        shown = opening / "claim.txt"
+        claim = expected or word(shown, one(shown, lines(shown, most_bytes(1, 32))).strip(BLANKS))
+        tail = content(opening / "tail.record", tail_bytes)
+    except CannotCheck as why:
+        print(f"tail: no: {why}")
+        return NO
+    given = (base, widths, n, k, b"".join(roots[n : n + 1]), claim, tail)
+    yes &= answered("tail", check_tail, *given, yes="yes" if asked.roots else "not accepted: it fits the opening's own roots, which nobody kept")
+    return NO if not yes else YES if asked.roots else ON_LEVEL_0
 
 
 # 12. Values on which this file can be tried.
@@ -393,26 +487,37 @@ def try_this_file():
     return yes
 
 
+def numbers(text):
+    """The numbers of a list with commas, each below 2^64."""
+    found = [re.fullmatch(r"\+?0*([0-9]{1,20})", number) for number in text.split(",")]
+    if not all(found) or any(int(number.group(1)) >= 2 ** 64 for number in found):
+        raise argparse.ArgumentTypeError(f"`{text}` is no list of numbers")
+    return [int(number.group(1)) for number in found]
+
+
 def main():
     parser = argparse.ArgumentParser(description=__doc__, formatter_class=argparse.RawDescriptionHelpFormatter)
     parser.add_argument("OPENING")
     parser.add_argument("--seal", required=True)
     parser.add_argument("--older", action="store_true")
     parser.add_argument("--challenges", required=True)
-    parser.add_argument("--at", required=True, type=lambda text: sorted({int(position) for position in text.split(",")}))
+    parser.add_argument("--at", required=True, type=lambda text: sorted(set(numbers(",".join(text.replace(",", " ").split())))))
     parser.add_argument("--roots")
     parser.add_argument("--claim")
     try:
         if sys.argv[1:] == ["--try"]:
-            yes = try_this_file()
+            status = YES if try_this_file() else NO
         else:
             asked = parser.parse_args()
-            yes = check_opening(asked, *read_seal(Path(asked.seal), asked.older))
+            seal = Path(asked.seal)
+            if os.path.lexists(seal / "manifest.txt"):
+                raise CannotCheck(f"{seal} is a project's: check_project.py checks a file of it")
+            status = check_opening(asked, *read_seal(seal, asked.older))
     except (CannotCheck, OSError) as why:
         print(f"nothing was checked: {why}", file=sys.stderr)
         return 2
-    print("yes" if yes else "no")
-    return 0 if yes else 1
+    print(VERDICTS[status])
+    return status
 
 
 if __name__ == "__main__":

@@ -5,7 +5,7 @@ use crate::opened::Opened;
 use crate::outcome::{answer, lines_of, texts, Outcome, Verdict};
 use crate::shape::Shape;
 use crate::shown::some_of;
-use dequmlo::Refusal;
+use dequmlo::{Refusal, Word};
 
 /// What was looked at.
 #[derive(Clone, Copy, Debug, PartialEq, Eq)]
@@ -35,10 +35,20 @@ impl Item {
     }
 }
 
+/// What is said of a tail that is sound under the opening's own roots.
+pub const UNKEPT_TAIL: &str = "it fits the opening's own roots, and nobody kept these before the positions were told, so neither it nor the claim is accepted";
+
+/// What a person should know, and do, where no roots were kept.
+const UNKEPT: &str = "no roots were kept before the positions were told. Whoever knows challenges and positions beforehand can invent all levels above level 0, the tail and \
+                      the claim. To have them checked, ask in two rounds: `seal ask` keeps the holder's roots before it draws positions, and `seal check --asked FOLDER` \
+                      goes by them; --roots FILE names roots that were kept in another way";
+
 /// What came of it.
 pub enum Answer {
-    /// The library accepted it; a record with what it opens.
+    /// The library accepted it; a record with what it opens. Of a record under roots that nobody kept, that speaks of its words on level 0 alone.
     Accepted(Option<Opened>),
+    /// The library accepted it, under roots that nobody kept: no acceptance.
+    Unkept,
     /// The library refused it.
     Refused(Refusal),
     /// Refused before the library was asked, in a sentence.
@@ -56,6 +66,10 @@ pub struct Found {
 pub struct Extent<'a> {
     /// What the holder chose, if anything.
     pub own: Option<&'static str>,
+    /// Whether the roots of the levels above 0 are the checker's, kept before the positions were told.
+    pub kept: bool,
+    /// The claim that the tail was checked by, if it was.
+    pub claim: Option<Word>,
     /// The files that were not checked.
     pub unchecked: &'a [String],
     /// How many positions were.
@@ -85,6 +99,27 @@ impl Found {
         self.items.iter().filter(accepted).count()
     }
 
+    fn refused(&self) -> usize {
+        let refused = |(_, answer): &&(Item, Answer)| {
+            matches!(answer, Answer::Refused(_) | Answer::Declined(_))
+        };
+        self.items.iter().filter(refused).count()
+    }
+
+    /// Whether the tail is accepted, and with it the claim.
+    pub fn has_a_tail(&self) -> bool {
+        let accepted = |(item, answer): &(Item, Answer)| {
+            *item == Item::Tail && matches!(answer, Answer::Accepted(_))
+        };
+        self.items.iter().any(accepted)
+    }
+
+    /// What a person should know beside the verdict.
+    pub fn notes_for(&self, extent: &Extent) -> Vec<String> {
+        let unkept = (!extent.kept && self.refused() == 0).then(|| UNKEPT.to_string());
+        self.notes.iter().cloned().chain(unkept).collect()
+    }
+
     fn first_refusal(&self) -> Option<Refusal> {
         self.items.iter().find_map(|(_, answer)| match answer {
             Answer::Refused(refusal) => Some(*refusal),
@@ -93,14 +128,16 @@ impl Found {
     }
 
     /// The lines for a person.
-    fn lines(&self) -> Vec<String> {
+    fn lines(&self, kept: bool) -> Vec<String> {
         let length = self.length();
         let lines = |(item, answer): &(Item, Answer)| {
+            let accepted = accepted(*item, kept);
             let mut lines = match answer {
-                Answer::Accepted(None) => vec!["accepted".into()],
+                Answer::Accepted(None) => vec![accepted.into()],
                 Answer::Accepted(Some(opened)) => {
-                    vec![format!("accepted; it shows {}", opened.sentence(length))]
+                    vec![format!("{accepted}; it shows {}", opened.sentence(length))]
                 }
+                Answer::Unkept => vec![format!("not accepted: {UNKEPT_TAIL}")],
                 Answer::Refused(refusal) => lines_of(refusal),
                 Answer::Declined(sentence) => vec![format!("refused: {sentence}")],
             };
@@ -111,7 +148,7 @@ impl Found {
     }
 
     /// The fields for programs of the items that a test picks.
-    fn fields(&self, picked: impl Fn(Item) -> bool) -> Vec<Json> {
+    fn fields(&self, kept: bool, picked: impl Fn(Item) -> bool) -> Vec<Json> {
         let length = self.length();
         let fields = |(item, answered): &(Item, Answer)| {
             let mut fields = match item {
@@ -119,7 +156,8 @@ impl Found {
                 _ => Vec::new(),
             };
             fields.extend(match answered {
-                Answer::Accepted(_) => answer(true, None, "accepted"),
+                Answer::Accepted(_) => answer(true, None, accepted(*item, kept)),
+                Answer::Unkept => answer(false, None, UNKEPT_TAIL),
                 Answer::Refused(refusal) => answer(false, Some(refusal), refusal.sentence()),
                 Answer::Declined(sentence) => answer(false, None, sentence),
             });
@@ -141,17 +179,26 @@ impl Found {
         let not_checked =
             (!unchecked.is_empty()).then(|| format!("not checked: {}", some_of(unchecked)));
         let said = format!("verdict: {sentence}");
-        let records = self.fields(|item| matches!(item, Item::Record(_)));
-        let tail = self.fields(|item| item == Item::Tail).pop();
-        let manifest = self.fields(|item| item == Item::Manifest).pop();
+        let kept = extent.kept;
+        let records = self.fields(kept, |item| matches!(item, Item::Record(_)));
+        let tail = self.fields(kept, |item| item == Item::Tail).pop();
+        let manifest = self.fields(kept, |item| item == Item::Manifest).pop();
+        let claim = extent.claim.map_or(Json::Null, |word| {
+            Json::Object(vec![
+                ("word", Json::text(word)),
+                ("accepted", Json::Bool(self.has_a_tail())),
+            ])
+        });
         Outcome::new(verdict, sentence)
             .refusal(self.first_refusal())
-            .lines(self.lines())
+            .lines(self.lines(kept))
             .lines(not_checked)
-            .notes(self.notes)
+            .notes(self.notes_for(extent))
             .lines([said])
             .found("records", Json::List(records))
             .found("tail", tail.unwrap_or(Json::Null))
+            .found("claim", claim)
+            .found("roots_kept", Json::Bool(kept))
             .found("manifest", manifest.unwrap_or(Json::Null))
             .found("not_checked", texts(unchecked))
             .found("own_questions", extent.own.map_or(Json::Null, Json::text))
@@ -164,14 +211,13 @@ impl Found {
     }
 
     pub fn verdict(&self, extent: &Extent) -> (Verdict, String) {
-        let records = if extent.checked == 1 {
-            "1 record".into()
+        let (records, they_show) = if extent.checked == 1 {
+            ("1 record".into(), "it shows")
         } else {
-            format!("{} records", extent.checked)
+            (format!("{} records", extent.checked), "they show")
         };
         let fewer = fewer(extent.checked, extent.shape);
-        let accepted = self.accepted();
-        let refused = self.items.len() - accepted;
+        let (accepted, refused) = (self.accepted(), self.refused());
         match extent.own {
             _ if refused > 0 => (
                 Verdict::Refused,
@@ -184,8 +230,23 @@ impl Found {
                      acceptance"
                 ),
             ),
+            None if !extent.kept => (
+                Verdict::PartlyAccepted,
+                format!(
+                    "partly accepted: {records}{fewer}. What {they_show} of level 0 is what was deposited. The tail and the claim are not accepted: no roots \
+                     were kept before the positions were told"
+                ),
+            ),
             None => (Verdict::Accepted, format!("accepted: {records} and the tail{fewer}")),
         }
+    }
+}
+
+/// How it is said that something is accepted: a record under roots that nobody kept is so on level 0 alone.
+fn accepted(item: Item, kept: bool) -> &'static str {
+    match item {
+        Item::Record(_) if !kept => "accepted on level 0",
+        _ => "accepted",
     }
 }
 

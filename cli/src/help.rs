@@ -44,6 +44,7 @@ const COMMANDS: [Command; 12] = [
         usage: "seal check OPENING --seal FOLDER [--older] --asked FOLDER [--report FILE]\n\
                 seal check OPENING --seal FOLDER [--older] --challenges FILE (--at P,P,.. | --positions FILE) [--roots FILE] [--claim WORD] [--report FILE]",
         does: "Checks an opening by the checker's own request, or challenges and positions. For trying it out: --seed TEXT [--count N], which draws both.\n    \
+               Without roots that were kept before the positions were told, by --asked or --roots, only what the records show of level 0 is accepted: it ends with 3.\n    \
                Of a project's opening, --file PATH and --offset B,B,.. say what is asked about; its manifest is checked first.\n    \
                --own-questions checks by those that the holder chose instead: that is never an acceptance, and ends with 3.",
         takes: &commands::check::TAKEN,
@@ -64,7 +65,7 @@ const COMMANDS: [Command; 12] = [
         name: "verify",
         usage: "seal verify FILE|FOLDER --seal FOLDER [--opening FOLDER] [--threads N]",
         does: "Says whether a file is still the one that was sealed. Where it is not and an opening shows old words, says where it first differs.\n    \
-               Of a project it lists which files changed, are missing or are new.",
+               Of a project it lists which files changed, are missing, are new, were moved or cannot be read.",
         takes: &commands::verify::TAKEN,
     },
     Command {
@@ -107,8 +108,8 @@ this program wrote, a seal by a seal and an opening by an opening. Profiles: def
 --seal is given, --older says that a seal which names neither k nor a base domain was made before version 0.4.0, when the default had k 1.";
 
 const STATUSES: &str = "\
-Exit status: 0 accepted, or done; 1 refused; 2 could not run: wrong use, a file that cannot be read, a damaged seal, a full disk; 3 sound, but
-by the holder's own questions.";
+Exit status: 0 accepted, or done; 1 refused; 2 could not run: wrong use, a file that cannot be read or changes meanwhile, a damaged seal, a full
+disk; 3 sound, but not accepted as a whole: by the holder's own questions, or without roots that were kept.";
 
 /// Every command in short.
 pub fn usage() -> String {

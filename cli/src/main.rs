@@ -1,12 +1,13 @@
 //! The program `seal`: commits a file, opens places of it, and checks what a holder shows. The work is the proved library's; this program
-//! reads and writes files and says what was found. Exit status: 0 accepted or done, 1 refused, 2 could not run, 3 sound by the holder's own
-//! questions.
+//! reads and writes files and says what was found. Exit status: 0 accepted or done, 1 refused, 2 could not run, 3 sound, but not accepted as a whole: by the
+//! holder's own questions, or without roots that were kept.
 
 mod begun;
 mod check_lines;
 mod clock;
 mod commands;
 mod console;
+mod differences;
 mod drawing;
 mod folder;
 mod format;
@@ -16,6 +17,8 @@ mod hex;
 mod json;
 mod lines;
 mod manifest;
+#[cfg(test)]
+mod manifest_mutants;
 mod old_words;
 mod opened;
 mod opening;
@@ -34,8 +37,10 @@ mod shape;
 mod shown;
 mod standing;
 mod statement;
+mod steady;
 mod system;
 mod table;
+mod walk;
 mod writing;
 
 use options::Options;

@@ -25,9 +25,10 @@ pub struct Entry {
 #[derive(Clone, Debug, PartialEq, Eq)]
 pub struct Manifest(pub Vec<Entry>);
 
-/// How many parts a file of so many bytes has: an empty file has one.
+/// How many parts a file of so many bytes has: an empty file has one. Of any number, also one that no file has and that a text may state.
 pub fn part_count(bytes: u64) -> usize {
-    ((bytes + PART - 1) / PART).max(1) as usize
+    let begun = u64::from(bytes % PART > 0);
+    (bytes / PART + begun).max(1) as usize
 }
 
 /// Where a part of a file starts, and how many bytes it has.
@@ -179,7 +180,14 @@ mod tests {
 
     #[test]
     fn parts_of_a_file() {
-        for (bytes, count) in [(0, 1), (1, 1), (PART, 1), (PART + 1, 2), (3 * PART, 3)] {
+        for (bytes, count) in [
+            (0, 1),
+            (1, 1),
+            (PART, 1),
+            (PART + 1, 2),
+            (3 * PART, 3),
+            (u64::MAX, 1_099_512_676_354),
+        ] {
             assert_eq!(part_count(bytes), count, "{bytes}");
         }
         assert_eq!(part_place(PART + 7, 0), (0, PART as usize));
@@ -221,6 +229,10 @@ mod tests {
             text.replace("file 16", "file 016"),
             text.replace("file 16", "file +16"),
             text.replace("file 16", "file 16777201"),
+            text.replace("file 16", "file 18446744073709551615"),
+            text.replace("file 16", "file 18446744073692774416"),
+            text.replace("file 16", "file 18446744073709551616"),
+            text.replace("file 16", "file 99999999999999999999"),
             text.replace("\\0a", "\\0A"),
             text.replace(" A\n", " \\41\n"),
             text.replace("part 00", "part  00"),

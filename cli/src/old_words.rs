@@ -3,7 +3,7 @@
 
 use crate::outcome::Failure;
 use crate::seal::Seal;
-use crate::shown::{Record, Shown};
+use crate::shown::{Own, Record, Shown};
 use dequmlo::tree::{level_domain, root_of_path};
 use dequmlo::{QueryRecord, Word};
 use std::collections::BTreeMap;
@@ -14,7 +14,7 @@ pub fn shown_words(
     opening: &Path,
     seal: &Seal,
 ) -> Result<Result<BTreeMap<usize, Word>, String>, Failure> {
-    let shown = match Shown::read(opening, seal, seal.shape.queries())? {
+    let shown = match Shown::read(opening, seal, seal.shape.queries(), Own::NOTHING)? {
         Ok(shown) => shown,
         Err(sentence) => return Ok(Err(sentence)),
     };

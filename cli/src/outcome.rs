@@ -5,7 +5,7 @@ use crate::json::Json;
 use dequmlo::Refusal;
 use std::ffi::OsString;
 
-/// What the exit status says. The fourth, 2, is a [`Failure`].
+/// What the exit status says. A command that could not run at all is a [`Failure`].
 #[derive(Clone, Copy, Debug, PartialEq, Eq)]
 pub enum Verdict {
     /// A command that decides nothing did its work.
@@ -14,6 +14,10 @@ pub enum Verdict {
     Refused,
     /// Everything that was checked is sound, and the holder chose what was asked: no acceptance.
     OwnQuestions,
+    /// The words of level 0 are accepted. The tail and the claim are not, because nobody kept the roots that they are under.
+    PartlyAccepted,
+    /// Something could not be read, and nothing that could be read decides.
+    CouldNotRun,
 }
 
 impl Verdict {
@@ -21,7 +25,8 @@ impl Verdict {
         match self {
             Verdict::Done | Verdict::Accepted => 0,
             Verdict::Refused => 1,
-            Verdict::OwnQuestions => 3,
+            Verdict::CouldNotRun => 2,
+            Verdict::OwnQuestions | Verdict::PartlyAccepted => 3,
         }
     }
 
@@ -31,6 +36,8 @@ impl Verdict {
             Verdict::Accepted => "accepted",
             Verdict::Refused => "refused",
             Verdict::OwnQuestions => "own-questions",
+            Verdict::PartlyAccepted => "partly-accepted",
+            Verdict::CouldNotRun => "could-not-run",
         }
     }
 }
@@ -147,16 +154,22 @@ impl Outcome {
         &self.lines
     }
 
-    /// Prints what was found. The exit status.
+    /// Prints what was found; for a person, why a command could not run goes to standard error, as ever. The exit status.
     pub fn print(self, words: &[OsString]) -> u8 {
         let exit = self.verdict.exit();
+        let why = (exit == 2 && !wants_json(words)).then(|| self.sentence.clone());
         let text = if wants_json(words) {
             format!("{}\n", self.for_programs(words))
         } else {
             self.lines.iter().map(|line| format!("{line}\n")).collect()
         };
         match print(&text) {
-            Ok(()) => exit,
+            Ok(()) => {
+                if let Some(why) = why {
+                    complain(&format!("seal: {why}\n"));
+                }
+                exit
+            }
             Err(Failure(sentence)) => {
                 complain(&format!("seal: {sentence}\n"));
                 2

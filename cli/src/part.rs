@@ -138,8 +138,12 @@ pub fn asked_seal(
         }
         return Ok(Ok(seal));
     }
-    let found = manifest_in(opening.unwrap_or(&folder), &seal)?;
     let refused = |seal, sentence| Ok(Err(RefusedManifest { seal, sentence }));
+    let known = opening.map(|opening| all_known(opening, &[MANIFEST]));
+    if let Some(Err(Failure(sentence))) = known {
+        return refused(seal, sentence);
+    }
+    let found = manifest_in(opening.unwrap_or(&folder), &seal)?;
     match (found, opening) {
         (Ok((manifest, bytes)), _) => part_seal(options, seal, &manifest, bytes).map(Ok),
         (Err(Unfit::Missing), Some(_)) => refused(seal, format!(

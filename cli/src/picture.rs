@@ -1,6 +1,6 @@
 //! A picture of the levels of a deposit and of the paths that were opened through them, as SVG: a bar for each level, half as many words as the
 //! one above it, and a line for each position from level 0 to the last. It says everything without a colour: a whole line and a dot are
-//! accepted, a broken line and a cross are refused, and the cross stands where the check failed.
+//! accepted, a broken line and a cross are refused, and the cross stands where the check failed. Where no roots were kept there are dots on level 0 alone.
 
 use crate::found::{Answer, Item};
 use crate::shape::Shape;
@@ -18,8 +18,8 @@ const NARROWEST: f64 = 0.12;
 /// The most paths that are drawn; more would hide each other.
 const MOST_PATHS: usize = 64;
 
-/// The picture, and a sentence below it.
-pub fn picture(shape: &Shape, items: &[(Item, Answer)]) -> (String, String) {
+/// The picture, and a sentence below it; under roots that were kept, or not.
+pub fn picture(shape: &Shape, items: &[(Item, Answer)], kept: bool) -> (String, String) {
     let paths: Vec<(usize, &Answer)> = items
         .iter()
         .filter_map(|(item, answer)| match item {
@@ -40,13 +40,18 @@ pub fn picture(shape: &Shape, items: &[(Item, Answer)]) -> (String, String) {
     let mut drawn: Vec<&(usize, &Answer)> = paths.iter().collect();
     drawn.sort_by_key(|(_, answer)| matches!(answer, Answer::Accepted(_)));
     for (position, answer) in drawn.iter().take(MOST_PATHS).rev() {
-        svg.push_str(&path(shape, *position, answer));
+        svg.push_str(&path(shape, *position, answer, kept));
     }
     svg.push_str("</svg>\n");
-    (svg, caption(paths.len()))
+    (svg, caption(paths.len(), kept))
 }
 
-fn caption(paths: usize) -> String {
+fn caption(paths: usize, kept: bool) -> String {
+    let dots = if kept {
+        "A whole line with dots is accepted"
+    } else {
+        "No roots were kept, so a whole line is accepted at its dot on level 0 alone"
+    };
     let drawn = if paths > MOST_PATHS {
         format!(" {MOST_PATHS} of {paths} positions are drawn, those that were refused first.")
     } else {
@@ -54,7 +59,7 @@ fn caption(paths: usize) -> String {
     };
     format!(
         "Each bar is a level: level 0 is the deposit, and each further one is half as long, made from the one before by a challenge of the checker. A line \
-         is what a record opens, from its position in level 0 to the last level. A whole line with dots is accepted; a broken line is refused, and a \
+         is what a record opens, from its position in level 0 to the last level. {dots}; a broken line is refused, and a \
          cross stands at the level where the check failed.{drawn}"
     )
 }
@@ -94,8 +99,13 @@ fn bar(shape: &Shape, level: usize) -> String {
     )
 }
 
-fn path(shape: &Shape, position: usize, answer: &Answer) -> String {
+fn path(shape: &Shape, position: usize, answer: &Answer, kept: bool) -> String {
     let accepted = matches!(answer, Answer::Accepted(_));
+    let said = match (accepted, kept) {
+        (true, true) => "accepted",
+        (true, false) => "accepted on level 0",
+        (false, _) => "refused",
+    };
     let points: Vec<String> = (0..=shape.n)
         .map(|level| format!("{:.1},{:.1}", x(shape, level, position), y(level)))
         .collect();
@@ -105,11 +115,10 @@ fn path(shape: &Shape, position: usize, answer: &Answer) -> String {
         "stroke-width=\"1.6\" stroke-dasharray=\"5 3\""
     };
     let mut drawn = format!(
-        "<g><title>position {position}: {}</title><polyline points=\"{}\" fill=\"none\" stroke=\"#000\" {style}/>",
-        if accepted { "accepted" } else { "refused" },
+        "<g><title>position {position}: {said}</title><polyline points=\"{}\" fill=\"none\" stroke=\"#000\" {style}/>",
         points.join(" ")
     );
-    for level in (0..=shape.n).filter(|_| accepted) {
+    for level in (0..=shape.n).filter(|level| accepted && (kept || *level == 0)) {
         let _ = write!(
             drawn,
             "<circle cx=\"{:.1}\" cy=\"{:.1}\" r=\"2\"/>",
@@ -141,7 +150,7 @@ fn cross(x: f64, y: f64) -> String {
 /// The level at which a check failed; level 0 where the record was refused as a whole.
 fn failed_at(answer: &Answer) -> Option<usize> {
     match answer {
-        Answer::Accepted(_) => None,
+        Answer::Accepted(_) | Answer::Unkept => None,
         Answer::Refused(refusal) => Some(refusal.level.map_or(0, |level| level as usize)),
         Answer::Declined(_) => Some(0),
     }
@@ -192,7 +201,7 @@ mod tests {
             (Item::Record(100), Answer::Refused(refusal)),
             (Item::Tail, Answer::Accepted(None)),
         ];
-        let (svg, _) = picture(&shape, &items);
+        let (svg, _) = picture(&shape, &items, true);
         assert_eq!(svg.matches("<rect").count(), 7);
         assert_eq!(svg.matches("<polyline").count(), 2);
         assert_eq!(svg.matches("<circle").count(), 7);
@@ -206,13 +215,22 @@ mod tests {
     }
 
     #[test]
+    fn without_roots_that_were_kept_there_are_dots_on_level_0_alone() {
+        let items = [7, 100].map(|p| (Item::Record(p), Answer::Accepted(None)));
+        let (svg, caption) = picture(&shape(6, 1), &items, false);
+        assert_eq!(svg.matches("<circle").count(), 2);
+        assert!(svg.contains("<title>position 7: accepted on level 0</title>"));
+        assert!(caption.contains("on level 0 alone"), "{caption}");
+    }
+
+    #[test]
     fn more_paths_than_can_be_told_apart_are_not_drawn() {
         let answer = |p| match p {
             99 => Answer::Declined(String::new()),
             _ => Answer::Accepted(None),
         };
         let items: Vec<_> = (0..100).map(|p| (Item::Record(p), answer(p))).collect();
-        let (svg, caption) = picture(&shape(6, 1), &items);
+        let (svg, caption) = picture(&shape(6, 1), &items, true);
         assert_eq!(svg.matches("<polyline").count(), 64);
         assert!(caption.contains("64 of 100 positions are drawn, those that were refused first"));
         assert!(svg.contains("position 99: refused"));

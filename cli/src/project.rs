@@ -3,55 +3,17 @@
 use crate::manifest::{escaped, part_count, part_place, Entry, Manifest};
 use crate::outcome::{Failure, Outcome};
 use crate::progress::Progress;
-use crate::reading::{not_a_file, reason, shown_name, shown_path, stretch_in, unreadable};
+use crate::reading::{listed_stretch, shown_name, unreadable, Stretch, Unread};
+use crate::steady::State;
 use crate::table::{room_for_many, table_in, table_of, variables};
 use dequmlo::{Buffers, Deposit, Refusal, Root, Threads, Widths, Word};
 use std::ffi::OsStr;
-use std::fs;
 use std::mem;
 use std::os::unix::ffi::OsStrExt;
 use std::path::{Path, PathBuf};
 use std::sync::atomic::{AtomicU64, AtomicUsize, Ordering};
 use std::sync::Mutex;
 use std::thread;
-
-/// What is in a project's folder.
-#[derive(Default)]
-pub struct Walked {
-    /// Each file's path below the folder and its length, rising by the bytes of the paths.
-    pub files: Vec<(Vec<u8>, u64)>,
-    /// What is neither a file nor a folder, with what it is.
-    pub others: Vec<(Vec<u8>, &'static str)>,
-}
-
-/// Every file below a folder. No link is followed; what cannot be read is a failure that names it.
-pub fn walked(folder: &Path) -> Result<Walked, Failure> {
-    let mut found = Walked::default();
-    let mut folders: Vec<Vec<u8>> = vec![Vec::new()];
-    while let Some(below) = folders.pop() {
-        let path = file_path(folder, &below);
-        let failed = |e: std::io::Error| unreadable(&path, reason(&e));
-        for entry in fs::read_dir(&path).map_err(failed)? {
-            let entry = entry.map_err(failed)?;
-            let mut name = below.clone();
-            if !name.is_empty() {
-                name.push(b'/');
-            }
-            name.extend_from_slice(entry.file_name().as_bytes());
-            let kind = entry.file_type().map_err(failed)?;
-            match not_a_file(kind) {
-                None => found
-                    .files
-                    .push((name, entry.metadata().map_err(failed)?.len())),
-                Some(_) if kind.is_dir() => folders.push(name),
-                Some(what) => found.others.push((name, what)),
-            }
-        }
-    }
-    found.files.sort();
-    found.others.sort();
-    Ok(found)
-}
 
 /// The path of a project's file on the disk.
 pub fn file_path(folder: &Path, below: &[u8]) -> PathBuf {
@@ -66,20 +28,23 @@ pub fn written_path(path: &[u8]) -> String {
     shown_name(OsStr::new(&escaped(path)))
 }
 
-/// The bytes of a part of a file, in place of what is there. The file must still have the length that it had when the folder was looked through.
-fn part_of_file(read: &mut Vec<u8>, path: &Path, bytes: u64, index: usize) -> Result<(), Failure> {
-    let (start, size) = part_place(bytes, index);
-    let is_last = index + 1 == part_count(bytes);
-    // One byte behind the last part shows that the file has grown.
+/// The bytes of a part of a file, in place of what is there. The file must be in the state in which it was listed, before and after.
+pub fn part_of_file(
+    read: &mut Vec<u8>,
+    path: &Path,
+    state: State,
+    index: usize,
+) -> Result<(), Unread> {
+    let (start, size) = part_place(state.length, index);
+    let is_last = index + 1 == part_count(state.length);
+    // One byte behind the last part shows that the file has more than the system says.
     let most = if is_last { size + 1 } else { size };
-    stretch_in(read, path, start, most).map_err(|e| unreadable(path, e))?;
-    if read.len() != size {
-        return Err(Failure(format!(
-            "{} was changed while the project was read; run the command again when nobody writes into it",
-            shown_path(path)
-        )));
+    let stretch = Stretch { start, size: most };
+    match listed_stretch(read, path, state, stretch) {
+        Ok(()) if read.len() == size => Ok(()),
+        Ok(()) | Err(Unread::Missing) => Err(Unread::Changed),
+        Err(e) => Err(e),
     }
-    Ok(())
 }
 
 /// Why the parts of a project were not committed.
@@ -130,52 +95,122 @@ impl Kept {
     }
 }
 
-/// The manifest of these files of a folder, whose parts are committed on so many threads, a part to a thread at a time.
+/// By what the parts of a project are committed, and on how many threads.
+#[derive(Clone, Copy)]
+pub struct Under<'a> {
+    pub threads: Threads,
+    pub domain: &'a [u8],
+    pub widths: Widths,
+    pub k: usize,
+}
+
+/// A file of a project as it is now: the root of each part, or why the part could not be read.
+#[derive(Clone, Debug, PartialEq, Eq)]
+pub struct Committed {
+    pub path: Vec<u8>,
+    pub bytes: u64,
+    pub parts: Vec<Result<Root, String>>,
+}
+
+impl Committed {
+    /// The file as a manifest has it; none where a part could not be read.
+    pub fn entry(&self) -> Option<Entry> {
+        let parts: Result<Vec<Root>, &String> = self
+            .parts
+            .iter()
+            .map(Result::as_ref)
+            .map(|part| part.copied())
+            .collect();
+        Some(Entry {
+            path: self.path.clone(),
+            bytes: self.bytes,
+            parts: parts.ok()?,
+        })
+    }
+}
+
+/// The manifest of these files of a folder. Fails at the first file that cannot be read, or is changed meanwhile.
 pub fn manifest_of(
     folder: &Path,
-    files: Vec<(Vec<u8>, u64)>,
-    threads: Threads,
-    domain: &[u8],
-    widths: Widths,
-    k: usize,
+    files: &[(Vec<u8>, State)],
+    under: Under,
 ) -> Result<Manifest, Stop> {
+    let unread = |path: &Path, e: Unread| Err(Stop::Failed(unreadable(path, e)));
+    let committed = committed(folder, files, under, &part_of_file, &unread)?;
+    let entries = committed.iter().filter_map(Committed::entry);
+    Ok(Manifest(entries.collect()))
+}
+
+/// These files of a folder as they are now. A file that cannot be read, or is changed meanwhile, keeps nothing from the others.
+pub fn committed_as_far_as_read(
+    folder: &Path,
+    files: &[(Vec<u8>, State)],
+    under: Under,
+) -> Result<Vec<Committed>, Stop> {
+    committed(folder, files, under, &part_of_file, &|_, e| {
+        Ok(e.to_string())
+    })
+}
+
+/// Reads a part of a file, in place of what is there: of the file at a path, in the state in which it was listed.
+type ReadPart = dyn Fn(&mut Vec<u8>, &Path, State, usize) -> Result<(), Unread> + Sync;
+
+/// What becomes of a part that was not read: the reason for the list, or the end of the work.
+type OnUnread = dyn Fn(&Path, Unread) -> Result<String, Stop> + Sync;
+
+/// The parts of these files committed, a part to a thread at a time.
+fn committed(
+    folder: &Path,
+    files: &[(Vec<u8>, State)],
+    under: Under,
+    read: &ReadPart,
+    on_unread: &OnUnread,
+) -> Result<Vec<Committed>, Stop> {
+    let Under {
+        domain, widths, k, ..
+    } = under;
     let mut jobs: Vec<Job> = Vec::new();
-    for (file, (_, bytes)) in files.iter().enumerate() {
-        jobs.extend((0..part_count(*bytes)).map(|part| (file, part)));
+    for (file, (_, state)) in files.iter().enumerate() {
+        jobs.extend((0..part_count(state.length)).map(|part| (file, part)));
     }
     // The largest first, so that no core is left with one of them at the end, and that the buffers of a thread's first part serve for all others.
-    let size = |(file, part): &Job| part_place(files[*file].1, *part).1;
+    let size = |(file, part): &Job| part_place(files[*file].1.length, *part).1;
     jobs.sort_by_key(|job| std::cmp::Reverse(size(job)));
     let largest = variables(jobs.first().map_or(0, size));
-    let wanted = threads.number().min(jobs.len()).max(1);
+    let wanted = under.threads.number().min(jobs.len()).max(1);
     let threads = room_for_many(widths, largest, k, wanted).map_err(Stop::Failed)?;
 
-    let work = Work::new(&jobs, files.iter().map(|(_, bytes)| bytes).sum());
+    let work = Work::new(&jobs, files.iter().map(|(_, state)| state.length).sum());
     thread::scope(|scope| {
         for _ in 0..threads {
             scope.spawn(|| {
                 let mut kept = Kept::default();
                 work.take(|(file, part)| {
-                    let (path, bytes) = &files[file];
-                    part_of_file(&mut kept.bytes, &file_path(folder, path), *bytes, part)
-                        .map_err(Stop::Failed)?;
+                    let (path, state) = &files[file];
+                    let path = file_path(folder, path);
+                    if let Err(e) = read(&mut kept.bytes, &path, *state, part) {
+                        return on_unread(&path, e).map(|why| (Err(why), 0));
+                    }
                     let root = kept.root(domain, widths, k).map_err(Stop::Refused)?;
-                    Ok((root, kept.bytes.len()))
+                    Ok((Ok(root), kept.bytes.len()))
                 })
             });
         }
     });
-    let mut roots = work.roots()?.into_iter();
-    let entry = |(path, bytes)| Entry {
-        path,
-        bytes,
-        parts: roots.by_ref().take(part_count(bytes)).collect(),
+    let mut parts = work.parts()?.into_iter();
+    let file = |(path, state): &(Vec<u8>, State)| Committed {
+        path: path.clone(),
+        bytes: state.length,
+        parts: parts.by_ref().take(part_count(state.length)).collect(),
     };
-    Ok(Manifest(files.into_iter().map(entry).collect()))
+    Ok(files.iter().map(file).collect())
 }
 
 /// A part of a project: the number of its file, and its own in the file.
 type Job = (usize, usize);
+
+/// What came of a part: its root, or why it could not be read.
+type Done = Result<Root, String>;
 
 /// The parts that are to be committed, and the roots of those that are.
 struct Work<'a> {
@@ -184,8 +219,8 @@ struct Work<'a> {
     bytes: u64,
     bytes_done: AtomicU64,
     progress: Progress,
-    /// Each root after its part; or why the work ended.
-    done: Mutex<Result<Vec<(Job, Root)>, Stop>>,
+    /// What came of each part after the part; or why the work ended.
+    done: Mutex<Result<Vec<(Job, Done)>, Stop>>,
 }
 
 impl<'a> Work<'a> {
@@ -201,15 +236,15 @@ impl<'a> Work<'a> {
     }
 
     /// Does one part after another until there is none left, or until one was not done.
-    fn take(&self, mut commit: impl FnMut(Job) -> Result<(Root, usize), Stop>) {
+    fn take(&self, mut commit: impl FnMut(Job) -> Result<(Done, usize), Stop>) {
         while let Some(job) = self.jobs.get(self.next.fetch_add(1, Ordering::Relaxed)) {
             let committed = commit(*job);
             let mut done = self.done.lock().expect("no part ends with a fault");
             match (&mut *done, committed) {
                 (Err(_), _) => return,
-                (Ok(roots), Ok((root, size))) => {
-                    roots.push((*job, root));
-                    self.say(roots.len(), size as u64);
+                (Ok(parts), Ok((part, size))) => {
+                    parts.push((*job, part));
+                    self.say(parts.len(), size as u64);
                 }
                 (Ok(_), Err(stop)) => *done = Err(stop),
             }
@@ -225,30 +260,133 @@ impl<'a> Work<'a> {
         ));
     }
 
-    /// The roots of all parts, file by file.
-    fn roots(self) -> Result<Vec<Root>, Stop> {
-        let mut roots = self.done.into_inner().expect("no part ends with a fault")?;
-        roots.sort_by_key(|(job, _)| *job);
-        Ok(roots.into_iter().map(|(_, root)| root).collect())
+    /// What came of all parts, file by file.
+    fn parts(self) -> Result<Vec<Done>, Stop> {
+        let mut parts = self.done.into_inner().expect("no part ends with a fault")?;
+        parts.sort_by_key(|(job, _)| *job);
+        Ok(parts.into_iter().map(|(_, part)| part).collect())
     }
 }
 
 #[cfg(test)]
 mod tests {
-    use super::part_of_file;
+    use super::{committed, part_of_file, Committed, Stop, Under};
     use crate::manifest::PART;
+    use crate::reading::{Stretch, Unread};
+    use crate::steady::State;
+    use dequmlo::{Threads, Widths};
+    use std::fs;
+    use std::io::{Cursor, Error, Read, Result, Seek, SeekFrom};
+    use std::path::{Path, PathBuf};
+
+    fn under() -> Under<'static> {
+        Under {
+            threads: Threads::of(2),
+            domain: b"d",
+            widths: Widths::Present,
+            k: 1,
+        }
+    }
+
+    /// A folder of its own with these files, and their states.
+    fn folder(name: &str, files: &[(&str, &[u8])]) -> (PathBuf, Vec<(Vec<u8>, State)>) {
+        let folder = std::env::temp_dir().join(format!("seal-{name}-{}", std::process::id()));
+        fs::create_dir_all(&folder).unwrap();
+        let state = |(name, bytes): &(&str, &[u8])| {
+            fs::write(folder.join(name), bytes).unwrap();
+            let found = fs::metadata(folder.join(name)).unwrap();
+            (name.as_bytes().to_vec(), State::of(&found))
+        };
+        let states = files.iter().map(state).collect();
+        (folder, states)
+    }
 
     #[test]
-    fn a_file_that_grew_or_shrank_since_it_was_listed_is_not_read() {
-        let path = std::env::temp_dir().join(format!("seal-part-{}", std::process::id()));
-        std::fs::write(&path, b"plans").unwrap();
+    fn a_file_that_is_in_another_state_than_when_it_was_listed_is_not_read() {
+        let (folder, files) = folder("part", &[("a", b"plans"), ("b", b"plans")]);
+        let path = folder.join("a");
+        let (state, other) = (files[0].1, files[1].1);
         let mut read = b"the part before, which was longer".to_vec();
-        assert!(part_of_file(&mut read, &path, 5, 0).is_ok());
+        assert!(part_of_file(&mut read, &path, state, 0).is_ok());
         assert_eq!(read, b"plans");
-        for bytes in [0, 4, 6, PART, PART + 1] {
-            let said = part_of_file(&mut read, &path, bytes, 0).err().unwrap().0;
-            assert!(said.contains("was changed while"), "{said}");
+        for length in [0, 4, 6, PART, PART + 1] {
+            let mut listed = state;
+            listed.length = length;
+            let said = part_of_file(&mut read, &path, listed, 0);
+            assert!(matches!(said, Err(Unread::Changed)), "{length}: {said:?}");
         }
-        std::fs::remove_file(path).unwrap();
+        let replaced = part_of_file(&mut read, &path, other, 0);
+        assert!(matches!(replaced, Err(Unread::Changed)), "{replaced:?}");
+        fs::remove_file(&path).unwrap();
+        let removed = part_of_file(&mut read, &path, state, 0);
+        assert!(matches!(removed, Err(Unread::Changed)), "{removed:?}");
+        fs::remove_dir_all(folder).unwrap();
+    }
+
+    /// A file on a disk that fails from a byte on.
+    struct Failing {
+        file: Cursor<Vec<u8>>,
+        from: u64,
+    }
+
+    impl Read for Failing {
+        fn read(&mut self, room: &mut [u8]) -> Result<usize> {
+            let left = self.from.saturating_sub(self.file.position()) as usize;
+            if left == 0 {
+                return Err(Error::from_raw_os_error(5));
+            }
+            let most = room.len().min(left);
+            self.file.read(&mut room[..most])
+        }
+    }
+
+    impl Seek for Failing {
+        fn seek(&mut self, to: SeekFrom) -> Result<u64> {
+            self.file.seek(to)
+        }
+    }
+
+    /// Reads the files, of which `b` is on a disk that fails in its middle.
+    fn with_a_bad_disk(
+        read: &mut Vec<u8>,
+        path: &Path,
+        state: State,
+        index: usize,
+    ) -> std::result::Result<(), Unread> {
+        if !path.ends_with("b") {
+            return part_of_file(read, path, state, index);
+        }
+        let stretch = Stretch {
+            start: 0,
+            size: 4000,
+        };
+        let file = Cursor::new(fs::read(path)?);
+        stretch.read(read, Failing { file, from: 1000 })?;
+        Ok(())
+    }
+
+    #[test]
+    fn a_read_that_fails_in_the_middle_of_a_file_keeps_nothing_from_the_others() {
+        let bytes = [7; 3000];
+        let (folder, files) = folder("disk", &[("a", &bytes), ("b", &bytes), ("c", &bytes)]);
+        let all = committed(
+            &folder,
+            &files,
+            under(),
+            &part_of_file,
+            &|_, _| unreachable!(),
+        );
+        let all = all.ok().unwrap();
+        let said = |_: &Path, e: Unread| Ok(e.to_string());
+        let found = committed(&folder, &files, under(), &with_a_bad_disk, &said);
+        let found = found.ok().unwrap();
+        assert_eq!((&found[0], &found[2]), (&all[0], &all[2]));
+        assert_eq!(found[1].parts, [Err("Input/output error".to_string())]);
+        assert_eq!(found.iter().filter_map(Committed::entry).count(), 2);
+        // A commit ends there.
+        let ends = |_: &Path, e| Err(Stop::Failed(crate::outcome::Failure(format!("{e}"))));
+        let ended = committed(&folder, &files, under(), &with_a_bad_disk, &ends);
+        assert!(matches!(ended, Err(Stop::Failed(_))));
+        fs::remove_dir_all(folder).unwrap();
     }
 }

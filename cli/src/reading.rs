@@ -2,11 +2,12 @@
 //! more names are listed than a folder of its kind can hold.
 
 use crate::outcome::Failure;
+use crate::steady::{settled, State};
 use crate::system::{O_NOFOLLOW, O_NONBLOCK};
 use std::ffi::{OsStr, OsString};
 use std::fmt;
-use std::fs::{self, File, FileType, OpenOptions};
-use std::io::{ErrorKind, Read, Seek, SeekFrom};
+use std::fs::{self, File, FileType, Metadata, OpenOptions};
+use std::io::{self, ErrorKind, Read, Seek, SeekFrom};
 use std::os::unix::fs::{FileTypeExt, OpenOptionsExt};
 use std::path::Path;
 
@@ -18,6 +19,8 @@ pub enum Unread {
     NotAFile(&'static str),
     /// It has so many bytes, and must have so many.
     Length(u64, usize),
+    /// It was not the same before and after.
+    Changed,
     Failed(std::io::Error),
 }
 
@@ -29,6 +32,10 @@ impl fmt::Display for Unread {
             Unread::Length(has, must) => {
                 write!(f, "it has {has} bytes, and it must have {must}")
             }
+            Unread::Changed => write!(
+                f,
+                "it was changed while it was read. Run the command again when nobody writes to it"
+            ),
             Unread::Failed(e) => write!(f, "{}", reason(e)),
         }
     }
@@ -63,21 +70,81 @@ pub fn exactly(folder: &Path, name: &str, room: &mut [u8]) -> Result<(), Unread>
     Ok(())
 }
 
-/// The bytes of a regular file, no link, from a place on: so many, or fewer where it ends before.
-pub fn stretch(path: &Path, start: u64, size: usize) -> Result<Vec<u8>, Unread> {
-    let mut bytes = Vec::new();
-    stretch_in(&mut bytes, path, start, size).map(|()| bytes)
+/// Which stretch of a file is read: so many bytes from a place on, or fewer where it ends before.
+#[derive(Clone, Copy)]
+pub struct Stretch {
+    pub start: u64,
+    pub size: usize,
 }
 
-/// The same in place of what is there.
-pub fn stretch_in(bytes: &mut Vec<u8>, path: &Path, start: u64, size: usize) -> Result<(), Unread> {
+impl Stretch {
+    /// Puts it in place of the bytes that are there; fails where the file does, in its middle too.
+    pub fn read(self, bytes: &mut Vec<u8>, mut file: impl Read + Seek) -> io::Result<()> {
+        bytes.clear();
+        bytes.reserve_exact(self.size);
+        file.seek(SeekFrom::Start(self.start))?;
+        file.take(self.size as u64).read_to_end(bytes)?;
+        Ok(())
+    }
+}
+
+/// A stretch of a regular file, no link, that is the same before and after it is read.
+pub fn steady_stretch(path: &Path, stretch: Stretch) -> Result<Vec<u8>, Unread> {
     regular(fs::symlink_metadata(path)?.file_type())?;
-    let mut file = opened(path, O_NOFOLLOW)?;
-    bytes.clear();
-    bytes.reserve_exact(size);
-    file.seek(SeekFrom::Start(start))?;
-    file.take(size as u64).read_to_end(bytes)?;
-    Ok(())
+    let file = opened(path, O_NOFOLLOW)?;
+    let before = settled(|| file.metadata().map(|found| State::of(&found)))?;
+    let mut bytes = Vec::new();
+    let read = |file: &File| stretch.read(&mut bytes, file);
+    steadily(&file, before, read, || fs::symlink_metadata(path))?;
+    Ok(bytes)
+}
+
+/// The same in place of what is there, of a file that must still be in the state in which it was listed.
+pub fn listed_stretch(
+    bytes: &mut Vec<u8>,
+    path: &Path,
+    state: State,
+    stretch: Stretch,
+) -> Result<(), Unread> {
+    regular(fs::symlink_metadata(path)?.file_type())?;
+    let file = opened(path, O_NOFOLLOW)?;
+    let before = (State::of(&file.metadata()?) == state).then_some(state);
+    let read = |file: &File| stretch.read(bytes, file);
+    steadily(&file, before, read, || fs::symlink_metadata(path))
+}
+
+/// The first bytes of a file that the command line names, which may be a link to one, and is the same before and after it is read.
+pub fn steady_named(path: &Path, most: usize) -> Result<Vec<u8>, Unread> {
+    regular(fs::metadata(path)?.file_type())?;
+    let file = opened(path, 0)?;
+    let before = settled(|| file.metadata().map(|found| State::of(&found)))?;
+    let mut bytes = Vec::new();
+    let read = |file: &File| {
+        file.take(most as u64 + 1)
+            .read_to_end(&mut bytes)
+            .map(|_| ())
+    };
+    steadily(&file, before, read, || fs::metadata(path))?;
+    Ok(bytes)
+}
+
+/// Reads of an open file. Fails where it is not in the same state before and after, by the open file and by what its path leads to then; or where there
+/// is no state before.
+fn steadily(
+    file: &File,
+    before: Option<State>,
+    read: impl FnOnce(&File) -> io::Result<()>,
+    at_path: impl Fn() -> io::Result<Metadata>,
+) -> Result<(), Unread> {
+    let before = before.ok_or(Unread::Changed)?;
+    read(file)?;
+    let is_same = |found: &Metadata| State::of(found) == before;
+    match at_path() {
+        Ok(found) if is_same(&found) && is_same(&file.metadata()?) => Ok(()),
+        Ok(_) => Err(Unread::Changed),
+        Err(e) if e.kind() == ErrorKind::NotFound => Err(Unread::Changed),
+        Err(e) => Err(e.into()),
+    }
 }
 
 /// The first bytes of a file that the command line names, which may be a link to one.

@@ -2,7 +2,7 @@
 //! read in grey and printed on A4. Whatever others chose (names, texts, bytes) is escaped.
 
 use crate::format::{FORMAT, PROGRAM};
-use crate::found::{Answer, Extent, Found, Item};
+use crate::found::{Answer, Extent, Found, Item, UNKEPT_TAIL};
 use crate::hex;
 use crate::opened::as_text;
 use crate::outcome::Verdict;
@@ -39,7 +39,7 @@ svg { width: 100%; height: auto; break-inside: avoid } .place, .mark { white-spa
 pub fn page(subject: &Subject, found: &Found, extent: &Extent) -> String {
     let (verdict, sentence) = found.verdict(extent);
     let title = format!("Check of {}", subject.seal_name);
-    let (svg, caption) = picture(&subject.seal.shape, &found.items);
+    let (svg, caption) = picture(&subject.seal.shape, &found.items, extent.kept);
     let mut page = format!(
         "<!DOCTYPE html>\n<html lang=\"en\">\n<head>\n<meta charset=\"utf-8\">\n\
          <meta http-equiv=\"Content-Security-Policy\" content=\"default-src 'none'; style-src 'unsafe-inline'\">\n\
@@ -51,22 +51,21 @@ pub fn page(subject: &Subject, found: &Found, extent: &Extent) -> String {
         escaped(&subject.seal_name)
     ));
     page.push_str(&verdict_box(verdict, &sentence));
-    let notes: Vec<String> = found
-        .notes
-        .iter()
-        .cloned()
-        .chain(unchecked(extent))
-        .collect();
+    let mut notes = found.notes_for(extent);
+    notes.extend(unchecked(extent));
     let sections = [
-        ("What was checked", facts(subject)),
+        ("What was checked", facts(subject, found, extent)),
         ("Who asked what", list(&subject.asked)),
         ("Notes", list(&notes)),
         (
             "The levels, and the paths that were opened",
             format!("{svg}<p>{}</p>\n", escaped(&caption)),
         ),
-        ("What was found, refused places first", places(found)),
-        ("Roots and challenges", levels(subject)),
+        (
+            "What was found, refused places first",
+            places(found, extent.kept),
+        ),
+        ("Roots and challenges", levels(subject, extent)),
     ];
     for (heading, inside) in sections.iter().filter(|(_, inside)| !inside.is_empty()) {
         page.push_str(&format!("<h2>{heading}</h2>\n{inside}"));
@@ -82,7 +81,10 @@ fn verdict_box(verdict: Verdict, sentence: &str) -> String {
     let (class, word) = match verdict {
         Verdict::Accepted => ("verdict", "✓ ACCEPTED"),
         Verdict::Refused => ("verdict no", "✗ REFUSED"),
-        Verdict::OwnQuestions | Verdict::Done => ("verdict no", "– NO ACCEPTANCE"),
+        Verdict::PartlyAccepted => ("verdict no", "– PARTLY ACCEPTED"),
+        Verdict::OwnQuestions | Verdict::Done | Verdict::CouldNotRun => {
+            ("verdict no", "– NO ACCEPTANCE")
+        }
     };
     format!(
         "<p class=\"{class}\"><b>{word}</b><br>{}</p>\n",
@@ -90,7 +92,29 @@ fn verdict_box(verdict: Verdict, sentence: &str) -> String {
     )
 }
 
-fn facts(subject: &Subject) -> String {
+/// What is said of the claim.
+fn claim(found: &Found, extent: &Extent) -> String {
+    match extent.claim {
+        None => "it was not looked at".into(),
+        Some(word) if found.has_a_tail() => format!("{word}, accepted"),
+        Some(word) if extent.kept => format!("{word}, not accepted"),
+        Some(word) => {
+            format!("{word}, not accepted: no roots were kept before the positions were told")
+        }
+    }
+}
+
+/// Which roots are not the holder's word alone.
+fn kept(subject: &Subject, extent: &Extent) -> String {
+    let n = subject.seal.shape.n;
+    if extent.kept {
+        format!("those of levels 0 to {n}: the seal's, and those of levels 1 to {n}, which the checker kept before the positions were told")
+    } else {
+        format!("that of level 0 alone, the seal's; nobody kept those of levels 1 to {n} before the positions were told")
+    }
+}
+
+fn facts(subject: &Subject, found: &Found, extent: &Extent) -> String {
     let shape = &subject.seal.shape;
     let profile = shape
         .profile()
@@ -107,6 +131,8 @@ fn facts(subject: &Subject) -> String {
         ("What the seal says", summary),
         ("Root", subject.seal.root.to_string()),
         ("Opening", subject.opening_name.clone()),
+        ("Terminal claim", claim(found, extent)),
+        ("Roots that were kept", kept(subject, extent)),
         ("Checked on", subject.date.clone()),
         (
             "Size",
@@ -149,7 +175,7 @@ fn list(lines: &[String]) -> String {
 }
 
 /// Every place with its verdict and sentence, those that were refused first.
-fn places(found: &Found) -> String {
+fn places(found: &Found, kept: bool) -> String {
     let length = found.length();
     let (accepted, refused): (Vec<_>, Vec<_>) = found
         .items
@@ -158,7 +184,7 @@ fn places(found: &Found) -> String {
     let rows: String = refused
         .iter()
         .chain(&accepted)
-        .map(|(item, answer)| row(*item, answer, length))
+        .map(|(item, answer)| row(*item, answer, length, kept))
         .collect();
     format!(
         "<table>\n<thead><tr><th scope=\"col\">place</th><th scope=\"col\">verdict</th><th scope=\"col\">what was found</th></tr></thead>\n\
@@ -166,7 +192,11 @@ fn places(found: &Found) -> String {
     )
 }
 
-fn row(item: Item, answer: &Answer, length: Option<u128>) -> String {
+fn row(item: Item, answer: &Answer, length: Option<u128>, kept: bool) -> String {
+    let accepted = match kept {
+        true => "✓ accepted",
+        false => "✓ accepted on level 0",
+    };
     let (class, mark, said) = match answer {
         Answer::Accepted(Some(opened)) => {
             let (_, bytes) = opened.bytes(length);
@@ -176,9 +206,10 @@ fn row(item: Item, answer: &Answer, length: Option<u128>) -> String {
                 format!("<br>{}", shown(&bytes))
             };
             let said = format!("it shows {}{text}", escaped(&opened.sentence(length)));
-            ("accepted", "✓ accepted", said)
+            ("accepted", accepted, said)
         }
         Answer::Accepted(None) => ("accepted", "✓ accepted", String::new()),
+        Answer::Unkept => ("unkept", "– not accepted", escaped(UNKEPT_TAIL)),
         Answer::Refused(refusal) => {
             let said = format!(
                 "{}<br><span class=\"ask\">{}</span>",
@@ -215,19 +246,27 @@ fn unchecked(extent: &Extent) -> Option<String> {
     (!names.is_empty()).then(|| format!("Not checked: {}", names.join(", ")))
 }
 
-/// The root of each level, and the challenge by which the next is made.
-fn levels(subject: &Subject) -> String {
+/// The root of each level with whose it is, and the challenge by which the next is made.
+fn levels(subject: &Subject, extent: &Extent) -> String {
+    let whose = |level: usize| match level {
+        0 => "the seal's",
+        _ if extent.kept => "kept",
+        _ => "the opening's",
+    };
     let rows: String = subject
         .roots
         .iter()
         .enumerate()
         .map(|(level, root)| {
             let challenge = subject.challenges.get(level).map_or(String::new(), Word::to_string);
-            format!("<tr><td>{level}</td><td><code>{root}</code></td><td><code>{challenge}</code></td></tr>\n")
+            format!(
+                "<tr><td>{level}</td><td class=\"place\">{}</td><td><code>{root}</code></td><td><code>{challenge}</code></td></tr>\n",
+                escaped(whose(level))
+            )
         })
         .collect();
     format!(
-        "<table>\n<thead><tr><th scope=\"col\" class=\"place\">level</th><th scope=\"col\">root</th>\
+        "<table>\n<thead><tr><th scope=\"col\" class=\"place\">level</th><th scope=\"col\" class=\"place\">whose root</th><th scope=\"col\">root</th>\
          <th scope=\"col\">challenge to the next level</th></tr></thead>\n<tbody>\n{rows}</tbody>\n</table>\n"
     )
 }

@@ -1,15 +1,17 @@
 //! A request: what a checker asks of a holder, in a folder of plain files that goes to the holder, and that the check is run by. The challenges
 //! come first. The positions are drawn when the holder's roots are there, and the request then keeps those roots and the claim.
 //!
-//!     parameters.txt     as in the seal
-//!     root.txt           as in the seal: which one this is about
-//!     asked.txt          who asks, and when: `by TEXT`, `challenges DATE`, `positions DATE`
-//!     challenges.txt     n words, one to a line
-//!     roots.txt          from the answer on: the roots of levels 0 to n that the holder answered with
-//!     claim.txt          from the answer on: the terminal claim that the holder answered with
-//!     positions.txt      from the answer on: the positions, one to a line, rising
-//!     summary.txt        for a person
-//!     check.txt          as in the seal
+//! ```text
+//! parameters.txt     as in the seal
+//! root.txt           as in the seal: which one this is about
+//! asked.txt          who asks, and when: `by TEXT`, `challenges DATE`, `positions DATE`
+//! challenges.txt     n words, one to a line
+//! roots.txt          from the answer on: the roots of levels 0 to n that the holder answered with
+//! claim.txt          from the answer on: the terminal claim that the holder answered with
+//! positions.txt      from the answer on: the positions, one to a line, rising
+//! summary.txt        for a person
+//! check.txt          as in the seal
+//! ```
 
 use crate::check_lines::{with_check_lines, CheckLines, CHECK};
 use crate::folder::{Kind, Named, SUMMARY};
@@ -20,6 +22,7 @@ use crate::outcome::Failure;
 use crate::reading::{inside, shown_name, text_inside, Unread};
 use crate::seal::{Seal, ROOT};
 use crate::shape::{Shape, PARAMETERS};
+use crate::statement::Roots;
 use dequmlo::{Root, Word};
 use std::ffi::OsStr;
 use std::path::Path;
@@ -54,6 +57,16 @@ pub struct Answered {
     /// When the positions were drawn.
     pub when: String,
     pub positions: Vec<usize>,
+}
+
+impl Answered {
+    /// The roots that the checker kept before the positions were told.
+    pub fn kept(&self) -> Roots {
+        Roots {
+            all: self.roots.clone(),
+            kept: true,
+        }
+    }
 }
 
 impl Request {

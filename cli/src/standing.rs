@@ -5,7 +5,7 @@ use crate::outcome::{Ended, Failure};
 use crate::part::Part;
 use crate::progress::Progress;
 use crate::project::file_path;
-use crate::reading::{shown_path, stretch, unreadable};
+use crate::reading::{shown_path, steady_stretch, unreadable, Stretch};
 use crate::seal::Seal;
 use crate::shape::Shape;
 use crate::table::{read_table, room_for, table_of};
@@ -94,8 +94,11 @@ fn read(file: &Path, seal: &Seal) -> Result<(Vec<Word>, PathBuf), Ended> {
 
 /// The table of a part of a project's file, as the file is now: with a byte more where it does not end with the part.
 fn read_part(path: &Path, part: &Part) -> Result<Result<Vec<Word>, String>, Failure> {
-    let more = usize::from(part.is_last());
-    let bytes = stretch(path, part.start, part.bytes + more).map_err(|e| unreadable(path, e))?;
+    let stretch = Stretch {
+        start: part.start,
+        size: part.bytes + usize::from(part.is_last()),
+    };
+    let bytes = steady_stretch(path, stretch).map_err(|e| unreadable(path, e))?;
     Ok(table_of(&bytes).map_err(|_| another_file(path)))
 }
 

@@ -12,25 +12,53 @@ use dequmlo::{Refusal, Root, Statement, Word};
 use std::path::Path;
 
 /// The roots of all levels, and whether the checker kept them.
+#[derive(Clone)]
 pub struct Roots {
     pub all: Vec<Root>,
     pub kept: bool,
 }
 
-/// The roots to check under. A kept file that is not of this seal is the checker's own fault, and no refusal.
-pub fn roots(options: &Options, seal: &Seal, shown: &Shown) -> Result<Roots, Failure> {
-    let path = match options.path("--roots") {
-        Some(path) => path,
-        None => {
-            let mut all = shown.roots.clone();
-            if let Some(first) = all.first_mut() {
-                *first = seal.root;
-            }
-            return Ok(Roots { all, kept: false });
+/// What the checker brings in the place of what an opening says of itself: roots that were kept, and a claim that is expected.
+pub struct Brought {
+    roots: Option<Roots>,
+    claim: Option<Word>,
+}
+
+impl Brought {
+    /// Fails where the kept roots are not those of this seal, or the claim is no word: that is the checker's own fault, and no refusal, whatever the opening is.
+    pub fn read(options: &Options, seal: &Seal) -> Result<Brought, Failure> {
+        let roots = options.path("--roots");
+        let claim = options
+            .text("--claim")?
+            .map(|text| text.parse().map_err(|e| Failure(format!("--claim: {e}"))));
+        Ok(Brought {
+            roots: roots.map(|path| kept_roots(&path, seal)).transpose()?,
+            claim: claim.transpose()?,
+        })
+    }
+
+    /// The roots to check under: those that were kept, or else the opening's; a sentence where it has none.
+    pub fn roots(&self, seal: &Seal, shown: &Shown) -> Result<Roots, String> {
+        if let Some(roots) = &self.roots {
+            return Ok(roots.clone());
         }
-    };
+        let mut all = shown.roots.clone()?;
+        if let Some(first) = all.first_mut() {
+            *first = seal.root;
+        }
+        Ok(Roots { all, kept: false })
+    }
+
+    /// The terminal claim: the one that is expected, or else the opening's; a sentence where it has none.
+    pub fn claim(&self, shown: &Shown) -> Result<Word, String> {
+        self.claim.map_or_else(|| shown.claim.clone(), Ok)
+    }
+}
+
+/// The roots in a file of the checker's.
+fn kept_roots(path: &Path, seal: &Seal) -> Result<Roots, Failure> {
     let levels = seal.shape.n + 1;
-    let all: Vec<Root> = items(&path, &named_text(&path, most_bytes(levels, 64))?)?;
+    let all: Vec<Root> = items(path, &named_text(path, most_bytes(levels, 64))?)?;
     let wrong = |what: String| {
         Failure(format!(
             "{} is not the list of roots that was kept for this seal: {what}. It is damaged, or belongs to another seal; nothing is said of the \
@@ -75,30 +103,12 @@ pub fn statement(seal: &Seal, roots: &Roots, challenges: &[Word]) -> Result<Stat
     )
 }
 
-/// The terminal claim: the checker's, or the opening's.
-pub fn claim(options: &Options, shown: &Shown) -> Result<Word, Failure> {
-    match options.text("--claim")? {
-        Some(text) => text.parse().map_err(|e| Failure(format!("--claim: {e}"))),
-        None => Ok(shown.claim),
-    }
-}
-
 /// Where the opening does not fit the seal and the checker's own files, and which side that speaks against.
 pub fn misfits(seal: &Seal, shown: &Shown, roots: &Roots, challenges: &[Word]) -> Vec<String> {
-    let mut notes = Vec::new();
-    match &shown.shape {
-        Ok(shape) if *shape == seal.shape => (),
-        Ok(shape) if another_set(shape, &seal.shape) => notes.push(format!(
-            "the opening says that it was made under the {} set of widths, and the seal is of the {} one: it was made for another seal",
-            shape.widths, seal.shape.widths
-        )),
-        Ok(_) if seal.assumed.is_some() => notes.push("the opening names another n, k or base domain than the seal is read under".into()),
-        Ok(_) => notes.push("the opening names another n, k or base domain than the seal: it was made for another seal".into()),
-        Err(Failure(what)) => notes.push(format!("the opening does not say for which n, k, base domain and widths it was made: {what}")),
-    }
+    let mut notes: Vec<String> = another_shape(seal, shown).into_iter().collect();
     notes.extend(another_root(seal, shown));
-    if roots.kept {
-        let differs = (1..roots.all.len()).find(|l| shown.roots.get(*l) != roots.all.get(*l));
+    if let (true, Ok(shown)) = (roots.kept, &shown.roots) {
+        let differs = (1..roots.all.len()).find(|l| shown.get(*l) != roots.all.get(*l));
         notes.extend(differs.map(|l| {
             format!("the root of level {l} in the opening is not the one that was kept: the holder changed it, or the kept file was changed")
         }));
@@ -107,11 +117,29 @@ pub fn misfits(seal: &Seal, shown: &Shown, roots: &Roots, challenges: &[Word]) -
         Ok(words) => notes.extend(first_difference(words, challenges).map(|l| {
             format!("the opening was made by other challenges than the checker's; the first that differs is that of level {l}")
         })),
-        Err(Failure(what)) => notes.push(format!(
+        Err(what) => notes.push(format!(
             "the opening does not say by which challenges it was made: {what}"
         )),
     }
     notes
+}
+
+/// Where the opening names another n, k, base domain or set of widths than the seal, or none.
+pub fn another_shape(seal: &Seal, shown: &Shown) -> Option<String> {
+    match &shown.shape {
+        Ok(shape) if *shape == seal.shape => None,
+        Ok(shape) if another_set(shape, &seal.shape) => Some(format!(
+            "the opening says that it was made under the {} set of widths, and the seal is of the {} one: it was made for another seal",
+            shape.widths, seal.shape.widths
+        )),
+        Ok(_) if seal.assumed.is_some() => Some(
+            "the opening names another n, k or base domain than the seal is read under".into(),
+        ),
+        Ok(_) => Some("the opening names another n, k or base domain than the seal: it was made for another seal".into()),
+        Err(Failure(what)) => Some(format!(
+            "the opening does not say for which n, k, base domain and widths it was made: {what}"
+        )),
+    }
 }
 
 /// Whether two shapes differ in the set of widths and in nothing else.
@@ -133,7 +161,8 @@ pub fn first_difference(first: &[Word], second: &[Word]) -> Option<usize> {
 
 /// An opening that was made for another root: a sound seal speaks against the opening, one without check lines against neither.
 fn another_root(seal: &Seal, shown: &Shown) -> Option<String> {
-    let made_for = shown.roots.first().filter(|root| **root != seal.root)?;
+    let shown = shown.roots.as_ref().ok()?;
+    let made_for = shown.first().filter(|root| **root != seal.root)?;
     let whose = if seal.vouched {
         "The seal is as it was written, by its own check lines: the opening belongs to another deposit, or its roots.txt was changed"
     } else {

@@ -2,7 +2,7 @@
 //! length too is under the root. The table has 2^n words, n from 1 to 20.
 
 use crate::outcome::Failure;
-use crate::reading::named;
+use crate::reading::{steady_named, unreadable};
 use crate::shape::Shape;
 use dequmlo::{Sizes, Widths, Word};
 use std::path::Path;
@@ -24,9 +24,10 @@ impl Table {
     }
 }
 
-/// The table of a file; a sentence where the file is too large, of which then no more is read than shows that.
+/// The table of a file; a sentence where the file is too large, of which then no more is read than shows that. Fails where the file cannot be read, or is
+/// changed meanwhile.
 pub fn read_table(path: &Path) -> Result<Result<Table, String>, Failure> {
-    let bytes = named(path, MOST_BYTES)?;
+    let bytes = steady_named(path, MOST_BYTES).map_err(|e| unreadable(path, e))?;
     Ok(table_of(&bytes).map(|words| Table {
         bytes: bytes.len(),
         words,

@@ -2,7 +2,7 @@
 
 mod desk;
 
-use desk::{plan, Desk, Run};
+use desk::{plan, Desk, Run, KEPT};
 use std::fs::{self, File};
 use std::os::raw::c_int;
 use std::os::unix::io::AsRawFd;
@@ -59,7 +59,7 @@ fn a_seal_replaces_a_seal_and_an_opening_an_opening() {
         .says(0, &["opened 8 positions"]);
     assert_eq!(
         desk.names("."),
-        ["plan.txt", "plan.txt.opening", "plan.txt.seal"]
+        [KEPT, "plan.txt", "plan.txt.opening", "plan.txt.seal"]
     );
 }
 
@@ -186,6 +186,7 @@ fn of_two_runs_into_one_folder_one_wins() {
         desk.names("."),
         [
             "first",
+            KEPT,
             "new",
             "plan.txt",
             "plan.txt.opening",
@@ -204,7 +205,7 @@ fn what_somebody_adds_during_a_run_is_kept() {
     assert_eq!(desk.read("plan.txt.seal/letter.txt"), b"keep");
     assert_eq!(
         desk.names("."),
-        ["plan.txt", "plan.txt.opening", "plan.txt.seal"]
+        [KEPT, "plan.txt", "plan.txt.opening", "plan.txt.seal"]
     );
 }
 
@@ -273,7 +274,7 @@ fn what_an_interrupted_run_left_is_said_and_cleared() {
         );
     assert_eq!(
         desk.names("."),
-        ["plan.txt", "plan.txt.opening", "plan.txt.seal"]
+        [KEPT, "plan.txt", "plan.txt.opening", "plan.txt.seal"]
     );
     // What only looks like it is nobody's to remove.
     desk.folder("plan.txt.seal.unfinished-1");
@@ -314,7 +315,7 @@ fn a_run_that_ends_in_the_middle_of_a_file_is_cleared_by_the_next() {
     );
     assert_eq!(
         desk.names("."),
-        ["plan.txt", "plan.txt.opening", "plan.txt.seal"]
+        [KEPT, "plan.txt", "plan.txt.opening", "plan.txt.seal"]
     );
 }
 
@@ -335,7 +336,7 @@ fn a_killed_run_leaves_nothing_that_the_next_one_does_not_clear() {
         .says(0, &[]);
     assert_eq!(
         desk.names("."),
-        ["plan.txt", "plan.txt.opening", "plan.txt.seal"]
+        [KEPT, "plan.txt", "plan.txt.opening", "plan.txt.seal"]
     );
     desk.check().says(0, &[]);
 }

@@ -2,7 +2,7 @@
 
 mod desk;
 
-use desk::{kept, Desk, CHECK, FORMAT};
+use desk::{kept, Desk, CHECK, CHECK_UNKEPT, FORMAT, KEPT};
 use std::fs;
 use std::path::Path;
 
@@ -42,15 +42,17 @@ fn another_format_is_refused_with_the_one_that_is_known() {
         for (format, rest) in [("2", sound.as_str()), ("17", "{}"), ("2", "\u{0}")] {
             let longer = format!("format {format}\n{}", rest.repeat(1000));
             desk.write(name, longer.as_bytes());
-            let run = desk.check();
+            let run = desk.run(CHECK_UNKEPT);
+            // The seal is the office's own, and the opening the holder's.
+            let is_the_holder_s = name.starts_with("plan.txt.opening");
             run.says(
-                2,
+                if is_the_holder_s { 1 } else { 2 },
                 &[
                     &format!("{name} says that it is of format {format}, "),
                     &known,
                 ],
             );
-            run.does_not_say(&["damaged", "not whole", "verdict", "accepted"]);
+            run.does_not_say(&["damaged", "not whole", "position", ": accepted"]);
         }
         desk.write(name, sound.as_bytes());
     }
@@ -64,7 +66,7 @@ fn another_format_is_refused_with_the_one_that_is_known() {
     desk.run("check plan.txt.opening --seal plan.txt.seal --seed dice --positions asked")
         .says(2, &["asked says that it is of format 2, "]);
     desk.write("asked", b"format 1\n7\n");
-    desk.run("check plan.txt.opening --seal plan.txt.seal --seed dice --positions asked")
+    desk.run("check plan.txt.opening --seal plan.txt.seal --seed dice --positions asked --roots kept-roots.txt")
         .says(0, &["accepted: 1 record"]);
 }
 
@@ -112,6 +114,13 @@ fn what_earlier_versions_made_is_accepted() {
         let accepted =
             "verdict: accepted: 3 records and the tail, fewer than the 40 positions of the profile";
         desk.check().says(0, &[&format!("{accepted} {profile}")]);
+        desk.run(CHECK_UNKEPT).says(
+            3,
+            &[
+                "verdict: partly accepted: 3 records, fewer than",
+                ". What they show of level 0 is what was deposited.",
+            ],
+        );
         let named = desk.text("plan.txt.seal/parameters.txt");
         assert_eq!(named.contains("widths"), widths == "wide", "{version}");
         desk.run(&format!("{CHECK} --json"))
@@ -124,11 +133,14 @@ fn what_earlier_versions_made_is_accepted() {
             .says(0, &[]);
         desk.run(&CHECK.replace("plan.txt.opening", "again"))
             .says(0, &["verdict: accepted"]);
+        // A project's file has other roots than the plan.
+        let plan_s = desk.read(KEPT);
         // Requests and projects came with version 0.3.0.
         if version != "0.1.0" && version != "0.2.0" {
             requests_are_accepted(&desk);
             projects_are_accepted(&desk, profile, widths);
         }
+        desk.write(KEPT, &plan_s);
         // A damaged one is still told from a sound one.
         desk.damage("plan.txt.opening/query-7.record", 60);
         desk.check()
@@ -150,10 +162,12 @@ fn projects_are_accepted(desk: &Desk, profile: &str, widths: &str) {
     let of = "--seal house.seal --file plans/north.txt";
     desk.run("verify house --seal house.seal")
         .says(0, &["yes: house is the project that was sealed"]);
-    desk.run(&format!(
-        "check house.opening {of} --offset 100 --seed dice"
-    ))
-    .says(0, &["manifest: accepted", "verdict: accepted: 1 record"]);
+    desk.keep_roots("house.opening");
+    let check = format!("check house.opening {of} --offset 100 --seed dice");
+    desk.run(&check)
+        .says(3, &["manifest: accepted", "verdict: partly accepted"]);
+    desk.run(&format!("{check} --roots {KEPT}"))
+        .says(0, &["manifest: accepted", "verdict: accepted: 1 record"]);
     desk.run(&format!(
         "check house.asked.opening {of} --asked house.asked"
     ))

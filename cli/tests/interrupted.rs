@@ -5,7 +5,7 @@ mod desk;
 
 use dequmlo::tree::Tree;
 use dequmlo::{Widths, Word};
-use desk::{plan, walk, Desk, Run, FORMAT, OPEN_ASKED};
+use desk::{plan, walk, Desk, Run, FORMAT, KEPT, OPEN_ASKED};
 use std::fs::{self, File, OpenOptions};
 use std::os::unix::fs::symlink;
 use std::path::Path;
@@ -638,6 +638,7 @@ fn work_that_a_run_had_set_aside_is_found() {
         desk.names("."),
         [
             "again",
+            KEPT,
             "plan.txt",
             place,
             "plan.txt.opening",

@@ -19,11 +19,13 @@ fn unnamed(name: &str, profile: &str, bytes: usize) -> Desk {
         .says(0, &[]);
     desk.run("open plan.txt --seal plan.txt.seal --seed dice --at 0,3")
         .says(0, &[]);
+    desk.keep_roots("plan.txt.opening");
     desk.unname("plan.txt.seal");
     desk
 }
 
-const CHECK_TWO: &str = "check plan.txt.opening --seal plan.txt.seal --seed dice --at 0,3";
+const CHECK_TWO: &str =
+    "check plan.txt.opening --seal plan.txt.seal --seed dice --at 0,3 --roots kept-roots.txt";
 
 #[test]
 fn a_seal_of_the_old_default_is_accepted_with_older_and_refused_by_17_without() {
@@ -189,7 +191,17 @@ fn a_project_whose_seal_names_nothing() {
     let desk = Desk::kept("older-project", "0.3.0");
     desk.unname("house.seal");
     let of = "--seal house.seal --file plans/north.txt --offset 100 --seed dice";
-    desk.run(&format!("check house.opening {of} --older")).says(
+    desk.keep_roots("house.opening");
+    let check = format!("check house.opening {of} --older");
+    desk.run(&check).says(
+        3,
+        &[
+            "manifest: accepted",
+            "verdict: partly accepted: 1 record, ",
+            THEN,
+        ],
+    );
+    desk.run(&format!("{check} --roots kept-roots.txt")).says(
         0,
         &["manifest: accepted", "verdict: accepted: 1 record", THEN],
     );

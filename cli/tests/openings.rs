@@ -2,7 +2,7 @@
 
 mod desk;
 
-use desk::{Desk, CHECK};
+use desk::{Desk, CHECK, CHECK_UNKEPT, KEPT};
 use std::ffi::CString;
 use std::fs::{self, File};
 use std::os::raw::{c_char, c_int};
@@ -55,8 +55,9 @@ fn what_was_not_checked_is_named() {
     let desk = Desk::opened("not-checked");
     desk.write("plan.txt.opening/letter.txt", b"Dear checker");
     desk.folder("plan.txt.opening/more");
-    let ask = "check plan.txt.opening --seal plan.txt.seal --seed dice --at 7";
-    desk.run(ask).says(
+    let ask =
+        format!("check plan.txt.opening --seal plan.txt.seal --seed dice --at 7 --roots {KEPT}");
+    desk.run(&ask).says(
         0,
         &[
             "not checked: letter.txt, more, query-0.record, query-127.record",
@@ -116,7 +117,7 @@ fn pipes_links_devices_and_folders_are_not_opened() {
             let sound = fs::read(&path).unwrap();
             fs::remove_file(&path).unwrap();
             make(&path);
-            let run = desk.limited(CHECK);
+            let run = desk.limited(CHECK_UNKEPT);
             match name {
                 "query-7.record" => run.says(
                     1,
@@ -125,14 +126,18 @@ fn pipes_links_devices_and_folders_are_not_opened() {
                     )],
                 ),
                 // The checker's own count, and check lines only help to explain.
-                "challenges.txt" | "parameters.txt" | "check.txt" => run.says(0, &[]),
+                "challenges.txt" | "parameters.txt" | "check.txt" => run.says(3, &[]),
                 _ => run.says(
-                    2,
+                    1,
                     &[
                         &format!("{name}: it is {what}, not a file"),
                         "Ask the holder for it again",
                     ],
                 ),
+            }
+            // So do roots that were kept.
+            if name == "roots.txt" {
+                desk.limited(CHECK).says(0, &[]);
             }
             fs::remove_file(&path)
                 .or_else(|_| fs::remove_dir(&path))
@@ -165,7 +170,7 @@ fn files_that_the_command_line_names_are_regular_too() {
     desk.keep("challenges.txt");
     symlink("challenges.txt", desk.path("linked")).unwrap();
     let check = "check plan.txt.opening --seal plan.txt.seal --at 7";
-    desk.limited(&format!("{check} --challenges linked"))
+    desk.limited(&format!("{check} --challenges linked --roots {KEPT}"))
         .says(0, &[]);
     for words in [
         &format!("{check} --challenges pipe"),
@@ -197,12 +202,12 @@ fn huge_files_are_read_no_further_than_a_record_goes() {
         let sound = fs::read(&path).unwrap();
         let file = fs::OpenOptions::new().write(true).open(&path).unwrap();
         file.set_len(1 << 40).unwrap();
-        let run = desk.limited(CHECK);
+        let run = desk.limited(CHECK_UNKEPT);
         match name {
             "query-7.record" => run.says(1, &["position 7: refused, 14:"]),
             "tail.record" => run.says(1, &["tail: refused, 14:"]),
-            "challenges.txt" | "parameters.txt" | "check.txt" => run.says(0, &[]),
-            _ => run.says(2, &[&format!("{name}: it has more than the")]),
+            "challenges.txt" | "parameters.txt" | "check.txt" => run.says(3, &[]),
+            _ => run.says(1, &[&format!("{name}: it has more than the")]),
         }
         drop(file);
         fs::write(&path, sound).unwrap();
@@ -237,6 +242,8 @@ fn an_opening_of_every_position_is_no_folder_of_too_many_files() {
     desk.write("all", all.join("\n").as_bytes());
     desk.run("open plan.txt --seal plan.txt.seal --seed dice --positions all --out whole")
         .says(0, &["opened 256 positions"]);
-    desk.run("check whole --seal plan.txt.seal --seed dice --positions all")
-        .says(0, &["accepted: 256 records and the tail"]);
+    desk.run(&format!(
+        "check whole --seal plan.txt.seal --seed dice --positions all --roots {KEPT}"
+    ))
+    .says(0, &["accepted: 256 records and the tail"]);
 }

@@ -2,7 +2,7 @@
 
 mod desk;
 
-use desk::{Desk, Run, CHECK};
+use desk::{Desk, Run, CHECK, CHECK_UNKEPT};
 use std::fs::File;
 use std::os::unix::io::OwnedFd;
 use std::os::unix::net::UnixStream;
@@ -172,6 +172,7 @@ fn json_is_one_object_whatever_happens() {
             "ask --seal plan.txt.seal --asked plan.txt.asked --answer plan.txt.answer",
         ),
         (0, CHECK),
+        (3, CHECK_UNKEPT),
         (0, "show plan.txt.opening"),
         (2, "show absent"),
         (1, "check a --seal plan.txt.seal --seed dice --at 8"),
@@ -205,7 +206,7 @@ fn json_has_the_number_the_level_and_the_sentence() {
     desk.damage("plan.txt.opening/query-7.record", 60);
     let run = desk.run(&format!("{CHECK} --json"));
     let first = "{\"asked\": [\"check\", \"plan.txt.opening\", \"--seal\", \"plan.txt.seal\", \"--seed\", \"dice\", \"--at\", \"7,0,127\", \
-                 \"--json\"], \"verdict\": \"refused\", \"accepted\": false, \"exit\": 1, \"number\": 18, \"level\": 0, \"sentence\": \"refused: 1 \
+                 \"--roots\", \"kept-roots.txt\", \"--json\"], \"verdict\": \"refused\", \"accepted\": false, \"exit\": 1, \"number\": 18, \"level\": 0, \"sentence\": \"refused: 1 \
                  refused, 3 accepted\"";
     run.says(
         1,

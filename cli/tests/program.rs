@@ -2,14 +2,14 @@
 
 mod desk;
 
-use desk::{Desk, FORMAT};
+use desk::{Desk, CHECK_UNKEPT, FORMAT, KEPT};
 
 #[test]
 fn a_seal_and_an_opening_are_plain_files() {
     let desk = Desk::opened("plain-files");
     assert_eq!(
         desk.names("."),
-        ["plan.txt", "plan.txt.opening", "plan.txt.seal"]
+        [KEPT, "plan.txt", "plan.txt.opening", "plan.txt.seal"]
     );
     assert_eq!(
         desk.names("plan.txt.seal"),
@@ -109,16 +109,18 @@ fn a_damaged_record_is_refused_with_the_check_that_failed() {
 fn the_seal_s_root_and_the_checker_s_challenges_count() {
     let desk = Desk::old("whose-root");
     desk.write("plan.txt.seal/root.txt", "0".repeat(64).as_bytes());
-    desk.check()
-        .says(1, &["refused, 18 at level 0", "tail: accepted"]);
+    desk.run(CHECK_UNKEPT)
+        .says(1, &["refused, 18 at level 0", "tail: not accepted: "]);
     let desk = Desk::opened("whose-challenges");
     desk.keep("challenges.txt");
     desk.run("check plan.txt.opening --seal plan.txt.seal --seed another --at 7")
         .says(1, &["refused, 26 at level 0: a and b do not fold to c"]);
-    desk.run(
-        "check plan.txt.opening --seal plan.txt.seal --challenges challenges.txt --at 7,0,127",
-    )
-    .says(0, &["accepted: 3 records"]);
+    let check =
+        "check plan.txt.opening --seal plan.txt.seal --challenges challenges.txt --at 7,0,127";
+    desk.run(check)
+        .says(3, &["verdict: partly accepted: 3 records"]);
+    desk.run(&format!("{check} --roots {KEPT}"))
+        .says(0, &["verdict: accepted: 3 records"]);
 }
 
 #[test]
@@ -137,11 +139,11 @@ fn damaged_files_of_any_kind_are_refused_or_called_unreadable() {
                 vec![b'f'; 5000],
             ] {
                 desk.write(&path, &damaged);
-                let run = desk.check();
+                let run = desk.run(CHECK_UNKEPT);
                 // The checker's own parameters and challenges count, not those that the opening names; its check lines decide nothing.
                 let unused = folder == "plan.txt.opening"
                     && ["parameters.txt", "challenges.txt", "check.txt"].contains(&name.as_str());
-                let harmless = (name == "summary.txt" || unused) && run.status == 0;
+                let harmless = (name == "summary.txt" || unused) && run.status == 3;
                 assert!(
                     harmless || [1, 2].contains(&run.status),
                     "{path}: {} {}",
@@ -182,7 +184,7 @@ fn in_rounds_the_roots_come_before_the_positions() {
             1,
             &[
                 "records: refused: the opening shows no place of the deposit",
-                "verdict: refused: 1 refused, 1 accepted",
+                "verdict: refused: 1 refused, 0 accepted",
             ],
         );
     desk.write("asked", b"7\n127\n");
@@ -248,8 +250,13 @@ fn files_of_every_small_size() {
             .says(0, &[&format!("sealed f: {size} bytes")]);
         desk.run("open f --seal f.seal --seed s --force")
             .says(0, &["opened 14 positions"]);
+        desk.keep_roots("f.opening");
         desk.run("check f.opening --seal f.seal --seed s")
-            .says(0, &["verdict: accepted: 14 records and the tail\n"]);
+            .says(3, &["verdict: partly accepted: 14 records. What"]);
+        desk.run(&format!(
+            "check f.opening --seal f.seal --seed s --roots {KEPT}"
+        ))
+        .says(0, &["verdict: accepted: 14 records and the tail\n"]);
     }
 }
 
@@ -281,8 +288,11 @@ fn parameters_of_one_s_own() {
     desk.seal(["commit", "f", "--k", "1", "--domain", "", "--force"])
         .says(0, &[]);
     desk.run("open f --seal f.seal --seed s").says(0, &[]);
-    desk.run("check f.opening --seal f.seal --seed s")
-        .says(0, &[]);
+    desk.keep_roots("f.opening");
+    desk.run(&format!(
+        "check f.opening --seal f.seal --seed s --roots {KEPT}"
+    ))
+    .says(0, &[]);
 }
 
 #[test]
@@ -429,7 +439,7 @@ fn wrong_use() {
     }
     assert_eq!(
         desk.names("."),
-        ["plan.txt", "plan.txt.opening", "plan.txt.seal"]
+        [KEPT, "plan.txt", "plan.txt.opening", "plan.txt.seal"]
     );
     desk.write("plan.txt.seal/parameters.txt", b"n 21\nk 2\ndomain d\n");
     desk.check().says(2, &["parameters.txt: 4: n is above 20"]);
@@ -450,6 +460,7 @@ fn the_demonstration() {
         0,
         &[
             "verdict: accepted: 3 records and the tail",
+            "verdict: partly accepted: 3 records, fewer than",
             "position 500: refused, 18 at level 0: the group and the path of a do not lead to this level's root",
             "The sound opening was accepted, the damaged one refused.",
         ],

@@ -2,7 +2,7 @@
 
 mod desk;
 
-use desk::{plan, Desk, Run};
+use desk::{plan, Desk, Run, KEPT};
 use std::ffi::OsStr;
 use std::fs;
 use std::os::unix::ffi::OsStrExt;
@@ -58,7 +58,7 @@ fn sealed(name: &str) -> Desk {
 
 const OPEN: &str = "open house --seal house.seal --file plan.txt --seed dice --offset 500,3";
 const CHECK: &str =
-    "check house.opening --seal house.seal --file plan.txt --seed dice --offset 500,3";
+    "check house.opening --seal house.seal --file plan.txt --seed dice --offset 500,3 --roots kept-roots.txt";
 const VERIFY: &str = "verify house --seal house.seal";
 
 #[test]
@@ -177,6 +177,7 @@ fn a_file_is_opened_and_checked_through_the_manifest() {
     let desk = sealed("project-check");
     desk.run(OPEN)
         .says(0, &["opened 2 positions into house.opening"]);
+    desk.keep_roots("house.opening");
     let names = desk.names("house.opening");
     assert!(names.contains(&"manifest.txt".into()) && names.contains(&"query-31.record".into()));
     desk.run(CHECK).says(
@@ -203,7 +204,17 @@ fn a_file_is_opened_and_checked_through_the_manifest() {
         let mut open = words("open", "house");
         open.push(b"--force".to_vec());
         run(open).says(0, &["opened 1 position "]);
-        run(words("check", "house.opening")).says(0, &["verdict: accepted: 1 record and the tail"]);
+        desk.keep_roots("house.opening");
+        let mut check = words("check", "house.opening");
+        run(check.clone()).says(
+            3,
+            &[
+                "verdict: partly accepted: 1 record, fewer than",
+                ". What it shows of level 0 is what was deposited.",
+            ],
+        );
+        check.extend(["--roots", KEPT].map(|word| word.into()));
+        run(check).says(0, &["verdict: accepted: 1 record and the tail"]);
     }
 }
 
@@ -250,6 +261,7 @@ fn a_checker_asks_about_a_file_in_two_rounds() {
 fn a_refusal_says_whether_the_manifest_or_a_record_failed() {
     let desk = sealed("project-refusals");
     desk.run(OPEN).says(0, &[]);
+    desk.keep_roots("house.opening");
     desk.damage("house.opening/query-0.record", 60);
     desk.run(CHECK).says(
         1,
@@ -287,7 +299,10 @@ fn a_refusal_says_whether_the_manifest_or_a_record_failed() {
     }
     let newer = sound.replacen("format 1", "format 2", 1);
     desk.write("house.opening/manifest.txt", newer.as_bytes());
-    desk.run(CHECK).says(2, &["says that it is of format 2"]);
+    desk.run(CHECK).says(
+        1,
+        &["manifest: refused: house.opening/manifest.txt says that it is of format 2"],
+    );
     fs::remove_file(desk.path("house.opening/manifest.txt")).unwrap();
     desk.run(CHECK)
         .says(1, &["manifest: refused: the opening shows no manifest.txt"]);
@@ -304,6 +319,7 @@ fn a_refusal_says_whether_the_manifest_or_a_record_failed() {
 fn a_report_names_the_file_and_a_refused_manifest() {
     let desk = sealed("project-report");
     desk.run(OPEN).says(0, &[]);
+    desk.keep_roots("house.opening");
     desk.run(&format!("{CHECK} --report page.html --json")).says(
         0,
         &["\"manifest\": {\"accepted\": true, \"number\": null, \"level\": null, \"sentence\": \"accepted\", \"ask\": null}"],
@@ -339,6 +355,7 @@ fn a_report_names_the_file_and_a_refused_manifest() {
 fn a_seal_of_another_file_is_no_project_s() {
     let desk = sealed("project-another");
     desk.run(OPEN).says(0, &[]);
+    desk.keep_roots("house.opening");
     desk.write("list", b"format 1\nfile 960 plan.txt\n");
     desk.run("commit list").says(0, &[]);
     fs::copy(desk.path("list"), desk.path("house.opening/manifest.txt")).unwrap();
@@ -355,6 +372,7 @@ fn a_seal_of_another_file_is_no_project_s() {
 fn what_is_asked_about_must_be_there() {
     let desk = sealed("project-asked");
     desk.run(OPEN).says(0, &[]);
+    desk.keep_roots("house.opening");
     for (from, to, said) in [
         (
             "plan.txt",
@@ -420,8 +438,13 @@ fn a_manifest_in_an_opening_of_a_file_is_not_checked() {
 fn offsets_of_a_file_that_is_sealed_by_itself() {
     let desk = Desk::opened("offsets");
     let words = "plan.txt.seal --seed dice --offset";
-    desk.run(&format!("check plan.txt.opening --seal {words} 112,127"))
-        .says(0, &["position 7: accepted", "1 record and the tail"]);
+    let check = format!("check plan.txt.opening --seal {words} 112,127");
+    desk.run(&check)
+        .says(3, &["position 7: accepted on level 0; it shows "]);
+    desk.run(&format!("{check} --roots {KEPT}")).says(
+        0,
+        &["position 7: accepted; it shows ", "1 record and the tail"],
+    );
     // 64 words, of which the last is the length.
     desk.run(&format!("open plan.txt --seal {words} 1007 --force"))
         .says(0, &[]);
@@ -527,9 +550,12 @@ fn the_page_s_commands_do_what_it_says() {
         .lines()
         .map_while(|line| line.strip_prefix("    seal "));
     let said: Vec<String> = lines
-        .map(|line| desk.run(line.split('#').next().unwrap()))
-        .map(|run| {
-            assert_eq!(run.status, 0, "{run:?}");
+        .map(|line| {
+            // Where a line ends otherwise than with 0, the page says how.
+            let (line, said) = line.split_once('#').unwrap_or((line, ""));
+            let run = desk.run(line);
+            let status = if said.starts_with(" 3: ") { 3 } else { 0 };
+            assert_eq!(run.status, status, "{run:?}");
             run.out
         })
         .collect();
@@ -537,7 +563,7 @@ fn the_page_s_commands_do_what_it_says() {
         "sealed the project house: 1 file",
         "yes: house is the project that was sealed, 1 file of 5000 bytes",
         "opened 1 position into house.opening",
-        "position 294: accepted; it shows bytes 4608 to 4735 of the file",
+        "position 294: accepted on level 0; it shows bytes 4608 to 4735 of the file",
     ]) {
         assert!(said.contains(expected), "{expected} is not in {said}");
     }
@@ -582,6 +608,8 @@ fn a_large_file_is_sealed_in_parts() {
         .says(2, &["the offsets are in different parts"]);
     desk.run(&format!("open {on} --offset 16777999"))
         .says(0, &[]);
+    desk.keep_roots("house.opening");
+    let check = format!("{check} --roots {KEPT}");
     desk.run(&format!("{check} --offset 16777999")).says(
         0,
         &["position 49: accepted; it shows bytes 16777968 to 16778095 of the file", "note: the file that is asked about is large, part 2 of 2, bytes 16777200 to 16778199\n"],
@@ -626,7 +654,12 @@ fn a_project_of_many_files_and_one_of_100_mb() {
     timed("100 MB, commit", "commit one").says(0, &["1 file, 100000000 bytes in 6 parts"]);
     let on = "--seal one.seal --file large --seed dice --offset 99999999";
     timed("100 MB, open", &format!("open one {on}")).says(0, &["opened 1 position"]);
-    timed("100 MB, check", &format!("check one.opening {on}")).says(
+    desk.keep_roots("one.opening");
+    timed(
+        "100 MB, check",
+        &format!("check one.opening {on} --roots {KEPT}"),
+    )
+    .says(
         0,
         &[
             "part 6 of 6, bytes 83886000 to 99999999\n",

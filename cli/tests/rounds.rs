@@ -205,7 +205,10 @@ fn an_answer_to_something_else_is_refused() {
     desk.run(&format!(
         "{ASK} --asked plan.txt.asked --answer plan.txt.seal"
     ))
-    .says(2, &["the opening is not whole"]);
+    .says(
+        1,
+        &["this is no answer to what was asked: the opening is not whole"],
+    );
     desk.run(ASK_AGAIN).says(0, &[]);
 }
 
@@ -241,13 +244,18 @@ fn the_check_goes_by_what_was_asked_and_kept() {
     };
     let changed = format!("{}{digit}{}", &roots[..third], &roots[third + 1..]);
     desk.write("plan.txt.opening/roots.txt", changed.as_bytes());
-    desk.run(CHECK_ASKED).says(
-        0,
-        &[
-            "the root of level 2 in the opening is not the one that was kept",
-            "verdict: accepted",
-        ],
-    );
+    desk.run(CHECK_ASKED).says(0, &["verdict: accepted"]);
+    // They are not read at all: neither what no list of roots can be, nor nothing.
+    for name in ["roots.txt", "claim.txt"] {
+        let path = format!("plan.txt.opening/{name}");
+        for text in ["format 9\n", "", "\u{0}"] {
+            desk.write(&path, text.as_bytes());
+            desk.run(CHECK_ASKED).says(0, &["verdict: accepted"]);
+        }
+        fs::remove_file(desk.path(&path)).unwrap();
+        desk.run(CHECK_ASKED).says(0, &["verdict: accepted"]);
+    }
+    desk.write("plan.txt.opening/claim.txt", claim.as_bytes());
     desk.write("plan.txt.opening/roots.txt", roots.as_bytes());
     // Roots that are not this file's: the holder says so, and a check by them refuses.
     desk.copy("plan.txt.asked", "others");

@@ -2,7 +2,7 @@
 
 mod desk;
 
-use desk::{plan, Desk, CHECK};
+use desk::{plan, Desk, CHECK, KEPT};
 
 #[test]
 fn the_bytes_that_are_shown_are_the_file_s() {
@@ -30,19 +30,20 @@ fn the_bytes_that_are_shown_are_the_file_s() {
         );
         assert!(shown.contains(&expected), "{expected} is not in {shown}");
     }
-    desk.run("check f.opening --seal f.seal --seed dice --at 0,9,187,250,255,256")
-        .says(
-            0,
-            &[
-                "position 0: accepted; it shows bytes 0 to 127 of the file\n",
-                "position 9: accepted; it shows bytes 128 to 255 of the file\n",
-                "position 187: accepted; it shows bytes 2944 to 2999 of the file\n",
-                "position 250: accepted; it shows its length, 3000 bytes\n",
-                "position 256: accepted; it shows no byte of the file itself",
-            ],
-        );
+    desk.keep_roots("f.opening");
+    let check = format!("check f.opening --seal f.seal --roots {KEPT} --seed dice --at");
+    desk.run(&format!("{check} 0,9,187,250,255,256")).says(
+        0,
+        &[
+            "position 0: accepted; it shows bytes 0 to 127 of the file\n",
+            "position 9: accepted; it shows bytes 128 to 255 of the file\n",
+            "position 187: accepted; it shows bytes 2944 to 2999 of the file\n",
+            "position 250: accepted; it shows its length, 3000 bytes\n",
+            "position 256: accepted; it shows no byte of the file itself",
+        ],
+    );
     // Without the record that shows the length, nobody knows where the file ends.
-    desk.run("check f.opening --seal f.seal --seed dice --at 9,187").says(
+    desk.run(&format!("{check} 9,187")).says(
         0,
         &[
             "position 9: accepted; it shows bytes 128 to 255 of the file\n",

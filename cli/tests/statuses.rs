@@ -2,7 +2,7 @@
 
 mod desk;
 
-use desk::{Desk, Run, CHECK};
+use desk::{Desk, Run, CHECK, CHECK_UNKEPT};
 
 #[test]
 fn every_command_ends_with_the_status_that_is_documented() {
@@ -59,6 +59,7 @@ fn every_command_ends_with_the_status_that_is_documented() {
         ),
         (2, "open plan.txt --seal absent --seed dice --out d".into()),
         (0, CHECK.into()),
+        (3, CHECK_UNKEPT.into()),
         (
             1,
             "check damaged --seal plan.txt.seal --seed dice --at 7".into(),
@@ -148,8 +149,8 @@ fn the_help_and_the_page_document_every_status() {
     for text in [
         "0 accepted, or done;",
         "1 refused;",
-        "2 could not run: wrong use, a file that cannot be read, a damaged seal, a full disk;",
-        "3 sound, but by the holder's own questions",
+        "2 could not run: wrong use, a file that cannot be read or changes meanwhile, a damaged seal, a full disk;",
+        "3 sound, but not accepted as a whole: by the holder's own questions, or without roots that were kept",
     ] {
         assert!(flat(&help).contains(text), "help: {text}");
     }
@@ -157,7 +158,7 @@ fn the_help_and_the_page_document_every_status() {
         "| 0 | accepted, or done |",
         "| 1 | refused |",
         "| 2 | could not run",
-        "| 3 | sound, but by the holder's own questions",
+        "| 3 | sound, but not accepted as a whole: by the holder's own questions, or without roots that were kept |",
     ] {
         assert!(page.contains(row), "cli/README.md: {row}");
     }

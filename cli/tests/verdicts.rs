@@ -2,7 +2,7 @@
 
 mod desk;
 
-use desk::{Desk, CHECK, FORMAT};
+use desk::{Desk, CHECK, CHECK_UNKEPT, FORMAT, KEPT};
 use std::fs;
 
 const OWN: &str = "check plan.txt.opening --seal plan.txt.seal --own-questions";
@@ -26,10 +26,12 @@ fn a_check_needs_the_checker_s_own_questions() {
         );
         run.does_not_say(&["accepted:", "position 7"]);
     }
-    desk.run(&format!(
-        "check plan.txt.opening --seal plan.txt.seal --challenges {words} --at 7,0,127"
-    ))
-    .says(0, &["verdict: accepted: 3 records and the tail"]);
+    let check =
+        format!("check plan.txt.opening --seal plan.txt.seal --challenges {words} --at 7,0,127");
+    desk.run(&check)
+        .says(3, &["verdict: partly accepted: 3 records"]);
+    desk.run(&format!("{check} --roots {KEPT}"))
+        .says(0, &["verdict: accepted: 3 records and the tail"]);
     desk.run("check plan.txt.opening --seal plan.txt.seal --seed dice --at ,")
         .says(2, &["no position is asked for"]);
     desk.run("check plan.txt.opening --seal plan.txt.seal --seed dice --at 256")
@@ -78,8 +80,16 @@ fn the_holder_s_own_questions_are_never_an_acceptance() {
     let desk = Desk::opened("own-questions");
     let said = "verdict: sound, but by the holder's own questions: the holder chose the challenges and positions. 3 records and the tail were \
                 checked, fewer than the 40 positions of the profile default. This is no acceptance";
-    desk.run(OWN)
-        .says(3, &["position 7: accepted", "tail: accepted", said]);
+    desk.run(OWN).says(
+        3,
+        &[
+            "position 7: accepted on level 0",
+            "tail: not accepted: ",
+            said,
+        ],
+    );
+    desk.run(&format!("{OWN} --roots {KEPT}"))
+        .says(3, &["position 7: accepted; ", "tail: accepted", said]);
     desk.run(&format!("{OWN} --json")).says(
         3,
         &[
@@ -124,27 +134,32 @@ fn fewer_positions_than_the_profile_has_are_said() {
     );
     desk.run("open plan.txt --seal plan.txt.seal --seed dice --out whole")
         .says(0, &["opened 40 positions"]);
-    let whole = desk.run("check whole --seal plan.txt.seal --seed dice");
+    let check = format!("check whole --seal plan.txt.seal --seed dice --roots {KEPT}");
+    let whole = desk.run(&check);
     whole.says(0, &["verdict: accepted: 40 records and the tail\n"]);
-    desk.run("check whole --seal plan.txt.seal --seed dice --count 39")
-        .says(
-            0,
-            &[
-                "not checked: query-",
-                "39 records and the tail, fewer than the 40 positions",
-            ],
-        );
+    desk.run(&format!("{check} --count 39")).says(
+        0,
+        &[
+            "not checked: query-",
+            "39 records and the tail, fewer than the 40 positions",
+        ],
+    );
     desk.run("check whole --seal plan.txt.seal --seed dice --count 41")
         .says(1, &["the opening has no record at this position"]);
     desk.write("f", b"words");
     desk.run("commit f --k 2 --domain d").says(0, &[]);
     desk.run("open f --seal f.seal --seed dice --at 1")
         .says(0, &[]);
-    desk.run("check f.opening --seal f.seal --seed dice --at 1")
-        .says(
-            0,
-            &["1 record and the tail, fewer than the 8 positions of a full check"],
-        );
+    let check = "check f.opening --seal f.seal --seed dice --at 1";
+    desk.run(check).says(
+        3,
+        &["partly accepted: 1 record, fewer than the 8 positions of a full check. What it shows of level 0 is what was deposited. The tail"],
+    );
+    desk.keep_roots("f.opening");
+    desk.run(&format!("{check} --roots {KEPT}")).says(
+        0,
+        &["1 record and the tail, fewer than the 8 positions of a full check"],
+    );
 }
 
 #[test]
@@ -287,7 +302,7 @@ fn an_old_seal_is_read_and_what_it_lacks_is_said() {
     let mut changed = root.clone();
     changed[5] = if root[5] == b'0' { b'1' } else { b'0' };
     desk.write("plan.txt.seal/root.txt", &changed);
-    desk.check().says(
+    desk.run(CHECK_UNKEPT).says(
         1,
         &["it cannot be told whether its root.txt was changed or the opening is the wrong one"],
     );
@@ -314,7 +329,13 @@ fn the_verdict_says_where_an_opening_does_not_fit() {
     desk.write("f", b"short");
     desk.run("commit f").says(0, &[]);
     desk.run("check plan.txt.opening --seal f.seal --seed dice --at 1")
-        .says(2, &["the opening is not whole"]);
+        .says(
+            1,
+            &[
+                "opening: refused: the opening is not whole",
+                "the opening names another n, k or base domain than the seal: it was made for another seal",
+            ],
+        );
     desk.run("commit plan.txt --profile fastchunk --out fast")
         .says(0, &[]);
     desk.run("check plan.txt.opening --seal fast --seed dice --at 7")
@@ -327,7 +348,7 @@ fn the_verdict_says_where_an_opening_does_not_fit() {
 fn kept_roots_that_are_damaged_are_the_checker_s_own() {
     let desk = Desk::opened("kept-roots");
     let kept = desk.text("plan.txt.opening/roots.txt");
-    let check = format!("{CHECK} --roots kept");
+    let check = format!("{CHECK_UNKEPT} --roots kept");
     let with = |text: &str| {
         desk.write("kept", text.as_bytes());
         desk.run(&check)
@@ -400,6 +421,6 @@ fn equal_records_are_the_good_result() {
     .says(0, &[]);
     assert_eq!(
         desk.names("."),
-        ["plan.txt", "plan.txt.opening", "plan.txt.seal"]
+        [KEPT, "plan.txt", "plan.txt.opening", "plan.txt.seal"]
     );
 }

@@ -2,7 +2,7 @@
 
 mod desk;
 
-use desk::{Desk, CHECK, CHECK_ASKED, OPEN_ASKED};
+use desk::{Desk, CHECK, CHECK_ASKED, CHECK_UNKEPT, OPEN_ASKED};
 
 /// The bytes of a query record at n 6, k 2.
 const PRESENT: usize = 2596;
@@ -191,14 +191,14 @@ fn an_opening_of_the_other_set_is_refused_by_its_widths() {
     assert_eq!(desk.read("plan.txt.opening/query-7.record").len(), PRESENT);
     desk.run("commit plan.txt --widths wide --out wide")
         .says(0, &[]);
-    let mixed = CHECK.replace("plan.txt.seal", "wide");
+    let mixed = CHECK_UNKEPT.replace("plan.txt.seal", "wide");
     desk.run(&mixed).says(
         1,
         &[
             "position 0: refused, 16 at level 0: ",
             "position 127: refused, 16 at level 0: ",
             // The last level has 4 words, which both sets have in the same groups.
-            "tail: accepted",
+            "tail: not accepted: it fits the opening's own roots",
             "note: the opening says that it was made under the present set of widths, and the seal is of the wide one: it was made for another seal",
         ],
     );
@@ -323,6 +323,7 @@ fn a_name_that_is_no_set_s() {
     desk.run(&format!("{open} --widths wide"))
         .says(2, &["`seal open` takes no --widths"]);
     desk.run(open).says(0, &[]);
+    desk.keep_roots("plan.txt.opening");
 
     // In a folder: the seal's is not guessed at, and the opening's is a note.
     renamed(&desk, "plan.txt.opening", "broad");
@@ -389,6 +390,7 @@ fn a_seal_that_names_n_and_the_widths() {
         .says(0, &[]);
         desk.run("open plan.txt --seal plan.txt.seal --seed dice --at 7,0,127")
             .says(0, &[]);
+        desk.keep_roots("plan.txt.opening");
         desk.write(
             "plan.txt.seal/parameters.txt",
             b"format 1\nn 6\nwidths wide\n",
@@ -441,15 +443,18 @@ fn a_project_under_the_wide_set() {
     desk.run(&format!("open house --seal house.seal {of}"))
         .says(0, &["opened 1 position"]);
     assert_eq!(desk.value("house.opening/parameters.txt"), "widths wide");
-    desk.run(&format!("check house.opening --seal house.seal {of}"))
-        .says(
-            0,
-            &[
-                "manifest: accepted",
-                "it shows bytes 0 to 511 of the file",
-                "verdict: accepted: 1 record",
-            ],
-        );
+    desk.keep_roots("house.opening");
+    desk.run(&format!(
+        "check house.opening --seal house.seal {of} --roots kept-roots.txt"
+    ))
+    .says(
+        0,
+        &[
+            "manifest: accepted",
+            "it shows bytes 0 to 511 of the file",
+            "verdict: accepted: 1 record",
+        ],
+    );
     desk.run(&format!("check house.opening --seal present {of}"))
         .says(1, &["manifest: refused: "]);
     desk.run("verify house --seal house.seal")

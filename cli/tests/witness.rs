@@ -3,17 +3,17 @@
 
 mod desk;
 
-use desk::{Desk, Run};
+use desk::{Desk, Run, KEPT};
 use std::collections::BTreeMap;
 use std::ffi::OsStr;
 use std::fs;
 use std::os::unix::ffi::OsStrExt;
-use std::process::Command;
 
 /// The levels at which records are damaged: the first, one in the middle, and the last. A deposit of 64 words has six.
 const LEVELS: [usize; 3] = [0, 3, 5];
 
-/// What both say of each position and of the tail: `yes`, `no`, or the number with its level.
+/// What both say of each position and of the tail: `yes`, `no`, or the number with its level; without roots that were kept, `level 0` and `not accepted` in place
+/// of `yes`.
 type Answers = BTreeMap<String, String>;
 
 /// A sealed file of 64 words, k = 2, opened at these positions; the challenges are the checker's own file.
@@ -33,6 +33,7 @@ fn opened_under(name: &str, widths: &str, positions: &[usize]) -> Desk {
     desk.run(&format!("{open} {}", listed(positions)))
         .says(0, &[]);
     desk.keep("challenges.txt");
+    desk.keep_roots("plan.txt.opening");
     desk
 }
 
@@ -41,8 +42,33 @@ fn listed(positions: &[usize]) -> String {
     texts.join(",")
 }
 
-/// Runs both with the same words, which must end with this status, and compares what they say.
+/// Runs both with the same words, by roots that were kept, which must end with this status, and compares what they say. By the opening's own roots they
+/// must refuse the same, and accept level 0 alone.
 fn both(desk: &Desk, status: i32, positions: &[usize], more: &str) -> Answers {
+    let said = both_by(desk, status, positions, &format!("{more} --roots {KEPT}"));
+    let unkept = both_by(desk, without_roots(status), positions, more);
+    let less = |(name, answer): (&String, &String)| {
+        let less = match (&**name, &**answer) {
+            ("tail", "yes") => "not accepted",
+            (_, "yes") => "level 0",
+            (_, answer) => answer,
+        };
+        (name.clone(), less.to_string())
+    };
+    assert_eq!(unkept, said.iter().map(less).collect::<Answers>(), "{more}");
+    said
+}
+
+/// How a check ends without roots that were kept, where it ends so with them.
+fn without_roots(status: i32) -> i32 {
+    match status {
+        0 => 3,
+        status => status,
+    }
+}
+
+/// Runs both with just these words.
+fn both_by(desk: &Desk, status: i32, positions: &[usize], more: &str) -> Answers {
     let words = format!(
         "plan.txt.opening --seal plan.txt.seal --challenges challenges.txt --at {} {more}",
         listed(positions)
@@ -58,19 +84,7 @@ fn both(desk: &Desk, status: i32, positions: &[usize], more: &str) -> Answers {
 
 /// Runs tools/check_seal.py with the words of a line.
 fn witness(desk: &Desk, words: &str) -> Run {
-    python(desk, "check_seal.py", words.split_whitespace())
-}
-
-/// Runs a file of tools/.
-fn python<W: AsRef<OsStr>>(desk: &Desk, file: &str, words: impl IntoIterator<Item = W>) -> Run {
-    let tools = concat!(env!("CARGO_MANIFEST_DIR"), "/../tools");
-    let mut command = Command::new("python3");
-    command
-        .arg(format!("{tools}/{file}"))
-        .args(words)
-        .env("PYTHONDONTWRITEBYTECODE", "1")
-        .current_dir(&desk.0);
-    Run::of(&mut command)
+    desk.python("check_seal.py", words.split_whitespace())
 }
 
 /// A text of values with another one in the place of the one of this number; its first line is the format.
@@ -90,6 +104,8 @@ fn answers(run: &Run, yes: &str, no: &str) -> Answers {
             let answer = match number.and_then(|text| text.split_once(": ")) {
                 Some((number, _)) => number,
                 None if said.split(';').next() == Some(yes) => "yes",
+                None if said.split(';').next() == Some(&format!("{yes} on level 0")) => "level 0",
+                None if said.starts_with("not accepted: ") => "not accepted",
                 None => "no",
             };
             (name.into(), answer.into())
@@ -186,8 +202,6 @@ fn the_witness_accepts_an_intact_opening() {
     let said = both(&desk, 0, &[0, 7, 255], "");
     assert!(said.values().all(|answer| answer == "yes"), "{said:?}");
     assert_eq!(said.len(), 4);
-    fs::copy(desk.path("plan.txt.opening/roots.txt"), desk.path("kept")).unwrap();
-    both(&desk, 0, &[7], "--roots kept");
 }
 
 #[test]
@@ -299,8 +313,8 @@ fn the_witness_on_other_roots() {
     let desk = opened("witness-roots", &[7, 200]);
     let name = "plan.txt.opening/roots.txt";
     let sound = desk.text(name);
-    desk.write("kept", sound.as_bytes());
     let changed = |level: usize| with_value(&sound, level, &"ab".repeat(32));
+    let kept = format!("--roots {KEPT}");
     // Level 0's root is the office's own, so that what the opening says of it does not count.
     desk.write(name, changed(0).as_bytes());
     both(&desk, 0, &[7], "");
@@ -310,15 +324,17 @@ fn the_witness_on_other_roots() {
         (6, "24 at level 5"),
     ] {
         desk.write(name, changed(level).as_bytes());
-        let said = both(&desk, 1, &[7, 200], "");
+        let said = both_by(&desk, 1, &[7, 200], "");
         assert_eq!(said["position 7"], number);
-        assert_eq!(said["tail"], if level == 6 { "30" } else { "yes" });
-        both(&desk, 0, &[7], "--roots kept");
+        let tail = if level == 6 { "30" } else { "not accepted" };
+        assert_eq!(said["tail"], tail);
+        both_by(&desk, 0, &[7], &kept);
         desk.write("other", changed(level).as_bytes());
-        assert_eq!(both(&desk, 1, &[7], "--roots other")["position 7"], number);
+        let said = both_by(&desk, 1, &[7], "--roots other");
+        assert_eq!(said["position 7"], number);
     }
     desk.write("other", changed(0).as_bytes());
-    both(&desk, 2, &[7], "--roots other");
+    both_by(&desk, 2, &[7], "--roots other");
     // One root less in the opening: the length is refused, by the program before it looks at a position.
     desk.write(name, &sound.as_bytes()[..sound.len() - 65]);
     let words = "plan.txt.opening --seal plan.txt.seal --challenges challenges.txt --at 7";
@@ -389,9 +405,19 @@ fn the_witness_accepts_what_earlier_versions_wrote() {
             desk.path("challenges.txt"),
         )
         .unwrap();
+        let roots = format!("{folder}/plan.txt.opening/roots.txt");
+        fs::copy(roots, desk.path(KEPT)).unwrap();
         let opening = format!("{folder}/plan.txt.opening --seal {folder}/plan.txt.seal");
         let words = format!("{opening} --challenges challenges.txt --at 0,7,127");
-        witness(&desk, &words).says(0, &["position 127: yes\ntail: yes\nyes\n"]);
+        witness(&desk, &format!("{words} --roots {KEPT}"))
+            .says(0, &["position 127: yes\ntail: yes\nyes\n"]);
+        witness(&desk, &words).says(
+            3,
+            &[
+                "position 127: yes on level 0\ntail: not accepted: ",
+                "\nyes on level 0 alone: ",
+            ],
+        );
     }
 }
 
@@ -410,6 +436,7 @@ fn the_witness_on_a_seal_that_names_nothing() {
             desk.run("open plan.txt --seal plan.txt.seal --seed dice --at 0,3 --force")
                 .says(0, &[]);
             desk.keep("challenges.txt");
+            desk.keep_roots("plan.txt.opening");
             // Both ways where the seal names its own.
             both(&desk, 0, &[0, 3], "");
             both(&desk, 0, &[0, 3], "--older");
@@ -475,6 +502,7 @@ fn the_witness_on_tails_of_both_sets() {
         desk.run("open plan.txt --seal plan.txt.seal --seed dice --at 3")
             .says(0, &[]);
         desk.keep("challenges.txt");
+        desk.keep_roots("plan.txt.opening");
         both(&desk, 0, &[3], "");
         renamed(&desk, "plan.txt.seal/parameters.txt", other);
         assert_eq!(both(&desk, 1, &[3], "")["tail"], number, "{widths}");
@@ -489,10 +517,14 @@ fn the_witness_on_another_format_and_on_two_files_for_a_position() {
     both(&desk, 1, &[7], "");
     fs::remove_file(file("query-003.record")).unwrap();
     both(&desk, 0, &[7], "");
-    for name in ["plan.txt.seal/root.txt", "plan.txt.opening/roots.txt"] {
+    // The seal is the office's own, and the opening the holder's.
+    for (name, status) in [
+        ("plan.txt.seal/root.txt", 2),
+        ("plan.txt.opening/roots.txt", 1),
+    ] {
         let sound = desk.text(name);
         desk.write(name, sound.replacen("format 1", "format 2", 1).as_bytes());
-        both(&desk, 2, &[7], "");
+        both_by(&desk, status, &[7], "");
         desk.write(name, sound.as_bytes());
     }
 }
@@ -517,14 +549,21 @@ fn the_witness_takes_no_damaged_seal() {
     }
 }
 
-/// Runs the program and tools/check_project.py on an opening of a project, which must end with this status and say the same of each record.
+/// Runs the program and tools/check_project.py on an opening of a project, by roots that were kept, which must end with this status and say the same of each
+/// record; and without such roots.
 fn both_on_a_file(desk: &Desk, status: i32, path: &[u8], offset: &str) -> [Run; 2] {
+    both_on_a_file_by("", desk, without_roots(status), path, offset);
+    both_on_a_file_by("--roots kept-roots.txt", desk, status, path, offset)
+}
+
+fn both_on_a_file_by(roots: &str, desk: &Desk, status: i32, path: &[u8], offset: &str) -> [Run; 2] {
     let words = "house.opening --seal house.seal --challenges challenges.txt --offset";
-    let words = words.split_whitespace().map(OsStr::new);
+    let words = roots.split_whitespace().chain(words.split_whitespace());
+    let words = words.map(OsStr::new);
     let more = [offset.as_bytes(), b"--file", path].map(OsStr::from_bytes);
     let words: Vec<&OsStr> = words.chain(more).collect();
     let program = desk.seal([&[OsStr::new("check")], &words[..]].concat());
-    let witness = python(desk, "check_project.py", words);
+    let witness = desk.python("check_project.py", words);
     program.says(status, &[]);
     witness.says(status, &[]);
     assert_eq!(
@@ -573,6 +612,7 @@ fn the_witness_checks_a_file_of_a_project() {
             desk.path("challenges.txt"),
         )
         .unwrap();
+        desk.keep_roots("house.opening");
         let [program, witness] = both_on_a_file(&desk, 0, path, offset);
         program.says(0, &["manifest: accepted"]);
         witness.says(0, &["manifest: yes\n", "tail: yes\nyes\n"]);
@@ -612,12 +652,13 @@ fn the_witness_on_a_project_whose_seal_names_nothing() {
         desk.path("challenges.txt"),
     )
     .unwrap();
+    desk.keep_roots("house.opening");
     let (path, offset) = (&b"plans/north.txt"[..], "100");
     both_on_a_file(&desk, 0, path, offset);
     desk.unname("house.seal");
     both_on_a_file(&desk, 1, path, offset);
-    let words = "house.opening --seal house.seal --older --challenges challenges.txt --file plans/north.txt --offset 100";
-    python(&desk, "check_project.py", words.split_whitespace())
+    let words = "house.opening --seal house.seal --older --challenges challenges.txt --file plans/north.txt --offset 100 --roots kept-roots.txt";
+    desk.python("check_project.py", words.split_whitespace())
         .says(0, &["manifest: yes\n", "tail: yes\nyes\n"]);
     desk.run(&format!("check {words}"))
         .says(0, &["manifest: accepted", "verdict: accepted: 1 record"]);
@@ -644,6 +685,13 @@ fn the_witness_knows_a_manifest_by_its_form() {
             1,
         ),
         (sound.replace("960 b", "0960 b"), 1),
+        (sound.replace("960 b", "18446744073709551615 b"), 1),
+        (sound.replace("960 b", "18446744073692774416 b"), 1),
+        (sound.replace("960 b", "18446744073709552576 b"), 1),
+        (
+            sound.replace("960 b", &format!("{} b", "9".repeat(5000))),
+            1,
+        ),
         (sound.replace("960 b", "960 \\62"), 1),
         (sound.replace("960 b", "960 ./b"), 1),
         (format!("{sound}{twice}"), 1),
@@ -667,6 +715,7 @@ fn the_witness_knows_a_manifest_by_its_form() {
             desk.path("challenges.txt"),
         )
         .unwrap();
+        desk.keep_roots("house.opening");
         desk.write("house.opening/manifest.txt", text.as_bytes());
         both_on_a_file(&desk, status, b"b", "50");
     }

@@ -9,9 +9,10 @@ use crate::outcome::{Failure, Outcome, Verdict};
 use crate::part::asked_seal;
 use crate::request::{name_of_a_checker, Answered, Request};
 use crate::seal::{Seal, SEAL_FOLDER};
-use crate::shown::{changed_note, Shown};
+use crate::shown::{changed_note, Own, Shown};
 use crate::statement::{checker_s_own, first_difference, statement, Roots};
 use crate::writing::{beside, Target};
+use dequmlo::{Root, Word};
 use std::path::{Path, PathBuf};
 
 pub const TAKEN: [&str; 11] = [
@@ -95,14 +96,16 @@ fn second(options: &Options, asked: &Path, answer: &Path) -> Result<Outcome, Fai
     let out = options.path("--out").unwrap_or_else(|| asked.into());
     let in_place = options.path("--out").is_none();
     let (target, mut notes) = Target::new(&out, Kind::Request, in_place || options.has("--force"))?;
-    let shown = match Shown::read(answer, &seal, seal.shape.queries())? {
+    let shown = match Shown::read(answer, &seal, seal.shape.queries(), Own::by(options))? {
         Ok(shown) => shown,
         Err(sentence) => return Ok(Outcome::declined(sentence)),
     };
     notes.extend(changed_note(&shown.changed()));
-    if let Some(refused) = refused(&seal, &request, &shown)? {
-        return Ok(refused.notes(notes).notes(seal.notes));
-    }
+    notes.extend(shown.size_note());
+    let (roots, claim) = match answered(&seal, &request, &shown) {
+        Ok(answered) => answered,
+        Err(refused) => return Ok(refused.notes(notes).notes(seal.notes)),
+    };
     if !shown.positions().is_empty() {
         notes.push(
             "the answer has records already; nobody asked for them, and they count for nothing"
@@ -117,8 +120,8 @@ fn second(options: &Options, asked: &Path, answer: &Path) -> Result<Outcome, Fai
     }
     let answered = Answered {
         positions: positions(&seal.shape, count)?,
-        roots: shown.roots,
-        claim: shown.claim,
+        roots,
+        claim,
         when: clock::now(),
     };
     let request = Request {
@@ -130,31 +133,33 @@ fn second(options: &Options, asked: &Path, answer: &Path) -> Result<Outcome, Fai
     Ok(told(&answered, &request, &out).notes(notes))
 }
 
-/// Why an answer is none to this request; none where it is one. The tail that goes with the roots is checked by the library.
-fn refused(seal: &Seal, request: &Request, shown: &Shown) -> Result<Option<Outcome>, Failure> {
-    let words = shown
-        .challenges
-        .as_ref()
-        .map_err(|Failure(what)| Failure(what.clone()))?;
+/// The roots and the claim of an answer to this request; why it is none where it is not one. The tail that goes with the roots is checked by the library.
+fn answered(seal: &Seal, request: &Request, shown: &Shown) -> Result<(Vec<Root>, Word), Outcome> {
+    let no_answer =
+        |what: String| Outcome::declined(format!("this is no answer to what was asked: {what}"));
+    let part = |what: &String| no_answer(what.clone());
+    let words = shown.challenges.as_ref().map_err(part)?;
     if let Some(level) = first_difference(words, &request.challenges) {
-        return Ok(Some(Outcome::declined(format!(
-            "this is no answer to what was asked: it was made by other challenges than those of the request; the first that differs is that of \
-             level {level}"
-        ))));
-    }
-    if shown.roots.first() != Some(&seal.root) {
-        return Ok(Some(Outcome::declined(
-            "this is no answer to what was asked: it was made for another root than the seal's"
-                .into(),
+        return Err(no_answer(format!(
+            "it was made by other challenges than those of the request; the first that differs is that of level {level}"
         )));
     }
+    let all = shown.roots.as_ref().map_err(part)?;
+    if all.first() != Some(&seal.root) {
+        return Err(no_answer(
+            "it was made for another root than the seal's".into(),
+        ));
+    }
+    let claim = *shown.claim.as_ref().map_err(part)?;
+    let tail = shown.tail.as_ref().map_err(part)?;
     let roots = Roots {
-        all: shown.roots.clone(),
+        all: all.clone(),
         kept: true,
     };
-    let checked = statement(seal, &roots, words)
-        .and_then(|statement| statement.check_tail(shown.claim, &shown.tail));
-    Ok(checked.err().map(|refusal| Outcome::refused(&refusal)))
+    statement(seal, &roots, words)
+        .and_then(|statement| statement.check_tail(claim, tail))
+        .map_err(|refusal| Outcome::refused(&refusal))?;
+    Ok((roots.all, claim))
 }
 
 fn told(answered: &Answered, request: &Request, out: &Path) -> Outcome {

@@ -13,10 +13,10 @@ use crate::report::{page, Subject};
 use crate::request::{Answered, Request};
 use crate::seal::{Seal, SEAL_FOLDER};
 use crate::shape::Shape;
-use crate::shown::{changed_note, some_of, Record, Shown};
-use crate::statement::{checker_s_own, claim, misfits, roots, statement, Roots};
+use crate::shown::{changed_note, some_of, Own, Record, Shown};
+use crate::statement::{another_shape, checker_s_own, misfits, statement, Brought, Roots};
 use crate::writing::{make, may_be_made};
-use dequmlo::{QueryRecord, Root, Statement, Word};
+use dequmlo::{QueryRecord, Refusal, Statement, Word};
 use std::path::PathBuf;
 
 pub const TAKEN: [&str; 16] = asking_and([
@@ -53,9 +53,12 @@ pub fn run(options: &Options) -> Result<Outcome, Failure> {
         unchecked,
         roots,
         challenges,
+        claim,
     } = examined;
     let extent = Extent {
         own: asked.left_to_the_holder(),
+        kept: roots.kept,
+        claim,
         unchecked: &unchecked,
         checked: positions.len(),
         shape: &seal.shape,
@@ -67,7 +70,7 @@ pub fn run(options: &Options) -> Result<Outcome, Failure> {
             opening_name: shown_path(opening),
             date: clock::now(),
             asked: asked.told(options)?,
-            roots: &roots,
+            roots: &roots.all,
             challenges: &challenges,
         };
         let page = page(&subject, &found, &extent);
@@ -91,8 +94,9 @@ struct Examined {
     found: Found,
     positions: Vec<usize>,
     unchecked: Vec<String>,
-    roots: Vec<Root>,
+    roots: Roots,
     challenges: Vec<Word>,
+    claim: Option<Word>,
 }
 
 impl Examined {
@@ -105,8 +109,12 @@ impl Examined {
             found,
             positions: Vec::new(),
             unchecked: Vec::new(),
-            roots: vec![seal.root],
+            roots: Roots {
+                all: vec![seal.root],
+                kept: false,
+            },
             challenges: Vec::new(),
+            claim: None,
         }
     }
 }
@@ -117,23 +125,27 @@ fn examined(options: &Options, seal: &Seal, asked: &Asked) -> Result<Examined, F
         .positions
         .as_ref()
         .map_or(seal.shape.queries(), Vec::len);
-    let shown = match Shown::read(&options.operands[0], seal, expected)? {
+    let brought = Brought::read(options, seal)?;
+    let own = asked
+        .answered()
+        .map_or_else(|| Own::by(options), |_| Own::NOTHING);
+    let shown = match Shown::read(&options.operands[0], seal, expected, own)? {
         Ok(shown) => shown,
         Err(sentence) => return Ok(Examined::refused(seal, Item::Opening, sentence)),
     };
-    let roots = match asked.answered() {
-        Some(answered) => Roots {
-            all: answered.roots.clone(),
-            kept: true,
-        },
-        None => roots(options, seal, &shown)?,
+    let (roots, claim) = match asked.answered() {
+        Some(answered) => (Ok(answered.kept()), Ok(answered.claim)),
+        None => (brought.roots(seal, &shown), brought.claim(&shown)),
     };
-    let challenges = asked.challenges_for(&shown)?;
+    let (roots, challenges) = match (roots, asked.challenges_for(&shown)) {
+        (Ok(roots), Ok(challenges)) => (roots, challenges),
+        (Err(sentence), _) | (_, Err(sentence)) => {
+            let mut examined = Examined::refused(seal, Item::Opening, sentence);
+            examined.found.notes.extend(another_shape(seal, &shown));
+            return Ok(examined);
+        }
+    };
     let positions = asked.positions.clone().unwrap_or_else(|| shown.positions());
-    let claim = match asked.answered() {
-        Some(answered) => answered.claim,
-        None => claim(options, &shown)?,
-    };
     if let Some(part) = &seal.part {
         found.add(Item::Manifest, Answer::Accepted(None));
         let note = format!("the file that is asked about is {}", part.name());
@@ -141,7 +153,15 @@ fn examined(options: &Options, seal: &Seal, asked: &Asked) -> Result<Examined, F
     }
     doubles(&mut found, &shown);
     match statement(seal, &roots, &challenges) {
-        Ok(statement) => checked(&mut found, seal, &statement, &shown, &positions, claim)?,
+        Ok(statement) => {
+            records(&mut found, seal, &statement, &shown, &positions)?;
+            match (&claim, &shown.tail) {
+                (Ok(claim), Ok(record)) => {
+                    tail(&mut found, statement.check_tail(*claim, record), roots.kept);
+                }
+                (_, Err(what)) | (Err(what), _) => found.declined(Item::Tail, what),
+            }
+        }
         Err(refusal) => found.add(Item::Opening, Answer::Refused(refusal)),
     }
     found.notes.extend(seal.notes.iter().cloned());
@@ -149,6 +169,7 @@ fn examined(options: &Options, seal: &Seal, asked: &Asked) -> Result<Examined, F
         .notes
         .extend(misfits(seal, &shown, &roots, &challenges));
     found.notes.extend(changed_note(&shown.changed()));
+    found.notes.extend(shown.size_note());
     if options.text("--seed")?.is_some() {
         found.notes.push(SEED_WARNING.into());
     }
@@ -156,8 +177,9 @@ fn examined(options: &Options, seal: &Seal, asked: &Asked) -> Result<Examined, F
         unchecked: shown.unchecked(&positions),
         found,
         positions,
-        roots: roots.all,
+        roots,
         challenges,
+        claim: claim.ok(),
     })
 }
 
@@ -281,10 +303,11 @@ impl Asked {
         }
     }
 
-    fn challenges_for(&self, shown: &Shown) -> Result<Vec<Word>, Failure> {
-        match (&self.challenges, &shown.challenges) {
-            (Some(words), _) | (None, Ok(words)) => Ok(words.clone()),
-            (None, Err(Failure(what))) => Err(Failure(what.clone())),
+    /// The challenges to check by; a sentence where they are to be the opening's and it has none.
+    fn challenges_for(&self, shown: &Shown) -> Result<Vec<Word>, String> {
+        match &self.challenges {
+            Some(words) => Ok(words.clone()),
+            None => shown.challenges.clone(),
         }
     }
 }
@@ -298,14 +321,13 @@ fn opened(seal: &Seal, position: usize, record: &QueryRecord) -> Option<Opened> 
     }
 }
 
-/// Has the library check each record that was asked for, and the tail.
-fn checked(
+/// Has the library check each record that was asked for.
+fn records(
     found: &mut Found,
     seal: &Seal,
     statement: &Statement,
     shown: &Shown,
     positions: &[usize],
-    claim: Word,
 ) -> Result<(), Failure> {
     for position in positions {
         let answer = match shown.record(*position)? {
@@ -328,12 +350,17 @@ fn checked(
             "the opening shows no place of the deposit; ask the holder for positions",
         );
     }
-    let tail = statement.check_tail(claim, &shown.tail);
-    found.add(
-        Item::Tail,
-        tail.map_or_else(Answer::Refused, |()| Answer::Accepted(None)),
-    );
     Ok(())
+}
+
+/// What comes of the library's answer to the tail: a tail under roots that nobody kept before the positions were told is made up as easily as they are.
+fn tail(found: &mut Found, checked: Result<(), Refusal>, kept: bool) {
+    let answer = match checked {
+        Err(refusal) => Answer::Refused(refusal),
+        Ok(()) if kept => Answer::Accepted(None),
+        Ok(()) => Answer::Unkept,
+    };
+    found.add(Item::Tail, answer);
 }
 
 /// Two files for one position: which of them the holder means is not for the checker to guess.

@@ -5,12 +5,13 @@ use crate::json::Json;
 use crate::manifest::{Manifest, MANIFEST};
 use crate::options::Options;
 use crate::outcome::{Failure, Outcome, Verdict};
-use crate::project::{manifest_of, root_of, walked, written_path, Walked};
+use crate::project::{file_path, manifest_of, root_of, written_path, Under};
 use crate::reading::{lies_in, reason, shown_path, unreadable};
 use crate::seal::Seal;
 use crate::shape::Shape;
 use crate::shown::some_of;
 use crate::table::{variables, MOST_BYTES};
+use crate::walk::{between, walked, Said, Walked};
 use crate::writing::{beside, parent, Target};
 use dequmlo::{Root, Threads, Widths};
 use std::path::{Path, PathBuf};
@@ -35,13 +36,21 @@ pub fn run(
         )));
     }
     let found = walked(project)?;
+    all_read(project, &found.unread)?;
     if let Some(sentence) = not_a_project(project, &found) {
         return Ok(Outcome::declined(sentence));
     }
-    let manifest = match manifest_of(project, found.files, threads, &domain, widths, k) {
+    let under = Under {
+        threads,
+        domain: &domain,
+        widths,
+        k,
+    };
+    let manifest = match manifest_of(project, &found.files, under) {
         Ok(manifest) => manifest,
         Err(stop) => return stop.outcome(),
     };
+    all_the_same(project, &between(&found, &walked(project)?))?;
     let text = manifest.text();
     if text.len() > MOST_BYTES {
         return Ok(Outcome::declined(format!(
@@ -72,6 +81,25 @@ fn named(project: &Path) -> Result<PathBuf, Failure> {
     project
         .canonicalize()
         .map_err(|e| unreadable(project, reason(&e)))
+}
+
+/// Fails where something of a project could not be looked at, and names the first.
+fn all_read(project: &Path, unread: &[Said]) -> Result<(), Failure> {
+    match unread {
+        [] => Ok(()),
+        [(path, why), ..] => Err(unreadable(&file_path(project, path), why)),
+    }
+}
+
+/// Fails where something came, went or changed while a project was read, and names the first.
+fn all_the_same(project: &Path, said: &[Said]) -> Result<(), Failure> {
+    match said {
+        [] => Ok(()),
+        [(path, why), ..] => Err(Failure(format!(
+            "{}: {why}. Nothing was sealed; run the command again when nobody writes into the project",
+            shown_path(&file_path(project, path))
+        ))),
+    }
 }
 
 /// Why a folder is no project, by name.

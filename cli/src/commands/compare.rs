@@ -11,8 +11,8 @@ use crate::part::asked_seal;
 use crate::questions::challenges;
 use crate::reading::named;
 use crate::shape::{Shape, PARAMETERS};
-use crate::shown::Shown;
-use crate::statement::{roots, statement};
+use crate::shown::{Own, Shown, Use};
+use crate::statement::{statement, Brought};
 use crate::writing::{beside, Target};
 use dequmlo::{Collision, QueryRecord, Refusal, Statement, Widths};
 use std::path::{Path, PathBuf};
@@ -53,7 +53,16 @@ pub fn run(options: &Options) -> Result<Outcome, Failure> {
     let record =
         |i: usize| named(&options.operands[i], seal.sizes.query_bytes).map(QueryRecord::from);
     let (first, second) = (record(0)?, record(1)?);
-    let shown = match Shown::read(&opening, &seal, seal.shape.queries())? {
+    let brought = Brought::read(options, &seal)?;
+    let shown = match Shown::read(
+        &opening,
+        &seal,
+        seal.shape.queries(),
+        Own {
+            claim: Use::Nothing,
+            ..Own::by(options)
+        },
+    )? {
         Ok(shown) => shown,
         Err(sentence) => return Ok(Outcome::declined(sentence)),
     };
@@ -61,9 +70,13 @@ pub fn run(options: &Options) -> Result<Outcome, Failure> {
     let words = match (challenges(options, seal.shape.n)?, &shown.challenges) {
         (Some((words, _)), _) => words,
         (None, Ok(words)) => words.clone(),
-        (None, Err(Failure(what))) => return Err(Failure(what.clone())),
+        (None, Err(what)) => return Ok(Outcome::declined(what.clone())),
     };
-    let statement = match statement(&seal, &roots(options, &seal, &shown)?, &words) {
+    let roots = match brought.roots(&seal, &shown) {
+        Ok(roots) => roots,
+        Err(what) => return Ok(Outcome::declined(what)),
+    };
+    let statement = match statement(&seal, &roots, &words) {
         Ok(statement) => statement,
         Err(refusal) => return Ok(Outcome::refused(&refusal)),
     };

@@ -1,8 +1,8 @@
-//! `seal demo`: a sample deposit sealed, opened and checked; then a byte damaged, and the refusal that names the check.
+//! `seal demo`: a sample deposit sealed, opened and checked by roots that were kept, and without; then a byte damaged, and the refusal that names the check.
 
 use crate::commands::commit::named_widths;
 use crate::json::Json;
-use crate::opening::record_name;
+use crate::opening::{record_name, ROOTS};
 use crate::options::Options;
 use crate::outcome::{Failure, Outcome, Verdict};
 use crate::reading::{named, reason};
@@ -13,6 +13,9 @@ const DAMAGED: usize = 60;
 
 /// The most bytes of a file that the demonstration reads back.
 const MOST_BYTES: usize = 1 << 16;
+
+/// The checker's copy of the roots that the holder answered with.
+const KEPT: &str = "kept-roots.txt";
 
 pub const TAKEN: [&str; 2] = ["--widths", "--json"];
 
@@ -62,15 +65,29 @@ fn steps(commit: &str) -> Result<(Vec<String>, bool), Failure> {
         Verdict::Done,
     )?;
     step(
-        "Years later a checker asks for three places, and the holder opens them:",
+        "Years later a checker sends challenges, and tells no place yet. The holder answers with the roots of all levels, the claim and the tail:",
+        "open deposit.txt --seal deposit.txt.seal --seed dice --count 0 --out deposit.txt.answer",
+        Verdict::Done,
+    )?;
+    let answered = Path::new("deposit.txt.answer").join(ROOTS);
+    write(Path::new(KEPT), named(&answered, MOST_BYTES)?)?;
+    let heading = format!("The checker keeps the roots, as {KEPT}, and only then asks for three places. The holder opens them:");
+    step(
+        &heading,
         "open deposit.txt --seal deposit.txt.seal --seed dice --at 3,500,1023",
         Verdict::Done,
     )?;
     let check = "check deposit.txt.opening --seal deposit.txt.seal --seed dice --at 3,500,1023";
+    let by_roots = format!("{check} --roots {KEPT}");
     step(
-        "The checker checks what is shown:",
-        check,
+        "The checker checks what is shown, by the roots that were kept:",
+        &by_roots,
         Verdict::Accepted,
+    )?;
+    step(
+        "Without them the holder could have made up all but level 0, so less is accepted:",
+        check,
+        Verdict::PartlyAccepted,
     )?;
 
     let record = Path::new("deposit.txt.opening").join(record_name(500));
@@ -79,7 +96,7 @@ fn steps(commit: &str) -> Result<(Vec<String>, bool), Failure> {
     write(&record, bytes)?;
     let heading =
         format!("One bit of the record at 500 is changed, in byte {DAMAGED}, and the check names what failed:");
-    step(&heading, check, Verdict::Refused)?;
+    step(&heading, &by_roots, Verdict::Refused)?;
     Ok((lines, as_expected))
 }
 

@@ -61,7 +61,7 @@ fn older() -> Outcome {
     Outcome::new(Verdict::Done, sentence)
         .say()
         .lines(OLDER.map(String::from))
-        .found("older", texts(&OLDER))
+        .found("older", texts(OLDER))
 }
 
 fn widths() -> Outcome {
@@ -69,7 +69,7 @@ fn widths() -> Outcome {
     Outcome::new(Verdict::Done, sentence)
         .say()
         .lines(WIDTHS.map(String::from))
-        .found("widths", texts(&WIDTHS))
+        .found("widths", texts(WIDTHS))
 }
 
 /// Every number: first those that a holder can cause, then those that only a program can, then those that are retired.

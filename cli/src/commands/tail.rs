@@ -4,8 +4,8 @@ use crate::json::Json;
 use crate::options::Options;
 use crate::outcome::{texts, Failure, Outcome, Verdict};
 use crate::part::asked_seal;
-use crate::shown::{changed_note, Shown};
-use crate::statement::{checker_s_own, claim, roots, statement};
+use crate::shown::{changed_note, Own, Shown, Use};
+use crate::statement::{checker_s_own, statement, Brought};
 use dequmlo::Word;
 
 pub const TAKEN: [&str; 7] = [
@@ -19,24 +19,42 @@ pub fn run(options: &Options) -> Result<Outcome, Failure> {
         Ok(seal) => seal,
         Err(refused) => return Ok(refused.outcome()),
     };
-    let shown = match Shown::read(&options.operands[0], &seal, seal.shape.queries())? {
+    let brought = Brought::read(options, &seal)?;
+    let shown = match Shown::read(
+        &options.operands[0],
+        &seal,
+        seal.shape.queries(),
+        Own {
+            challenges: Use::Nothing,
+            ..Own::by(options)
+        },
+    )? {
         Ok(shown) => shown,
         Err(sentence) => return Ok(Outcome::declined(sentence)),
     };
-    let claim = claim(options, &shown)?;
-    let roots = roots(options, &seal, &shown)?;
+    let whole = (
+        brought.claim(&shown),
+        brought.roots(&seal, &shown),
+        &shown.tail,
+    );
+    let (claim, roots, tail) = match whole {
+        (Ok(claim), Ok(roots), Ok(tail)) => (claim, roots, tail),
+        (_, _, Err(what)) => return Ok(Outcome::declined(what.clone())),
+        (Err(what), ..) | (_, Err(what), _) => return Ok(Outcome::declined(what)),
+    };
     // A tail is checked under no challenge; the statement takes a list of the right length.
     let challenges = vec![Word(0); seal.shape.n];
     let checked = statement(&seal, &roots, &challenges)
-        .and_then(|statement| statement.check_tail(claim, &shown.tail));
+        .and_then(|statement| statement.check_tail(claim, tail));
     let notes = seal
         .notes
         .iter()
         .cloned()
-        .chain(changed_note(&shown.changed()));
+        .chain(changed_note(&shown.changed()))
+        .chain(shown.size_note());
     let outcome = match checked {
         Ok(()) => {
-            let level = shown.tail.words();
+            let level = tail.words();
             sound(roots.kept, &level.expect("an accepted record reads whole"))
         }
         Err(refusal) => Outcome::refused(&refusal),

@@ -1,13 +1,23 @@
 //! A folder for one test, and the program run in it as a user runs it. Not every test file uses all of it.
 #![allow(dead_code)]
 
+pub mod disk;
+
 use std::ffi::OsStr;
 use std::fs;
 use std::path::{Path, PathBuf};
 use std::process::Command;
 
-/// The words of a check by the checker's own questions, for what `Desk::opened` made.
-pub const CHECK: &str = "check plan.txt.opening --seal plan.txt.seal --seed dice --at 7,0,127";
+/// The words of a check by the checker's own questions and by roots that were kept, for what `Desk::opened` made.
+pub const CHECK: &str =
+    "check plan.txt.opening --seal plan.txt.seal --seed dice --at 7,0,127 --roots kept-roots.txt";
+
+/// The same by the roots that the opening itself names.
+pub const CHECK_UNKEPT: &str =
+    "check plan.txt.opening --seal plan.txt.seal --seed dice --at 7,0,127";
+
+/// The file of the roots that the checker kept.
+pub const KEPT: &str = "kept-roots.txt";
 
 /// The words that open and check by a request, for what `Desk::asked` made.
 pub const OPEN_ASKED: &str = "open plan.txt --seal plan.txt.seal --asked plan.txt.asked";
@@ -34,6 +44,7 @@ impl Desk {
         assert_eq!(desk.run("commit plan.txt").status, 0);
         let open = "open plan.txt --seal plan.txt.seal --seed dice --at 7,0,127";
         assert_eq!(desk.run(open).status, 0);
+        desk.keep_roots("plan.txt.opening");
         desk
     }
 
@@ -44,6 +55,7 @@ impl Desk {
         assert_eq!(desk.run("commit plan.txt --widths wide").status, 0);
         let open = "open plan.txt --seal plan.txt.seal --seed dice --at 7,0,127";
         assert_eq!(desk.run(open).status, 0);
+        desk.keep_roots("plan.txt.opening");
         desk
     }
 
@@ -92,6 +104,9 @@ impl Desk {
         let mut copy = Command::new("cp");
         copy.arg("-r").arg(from.join(".")).arg(&desk.0);
         assert!(copy.status().unwrap().success());
+        if desk.path("plan.txt.opening").exists() {
+            desk.keep_roots("plan.txt.opening");
+        }
         desk
     }
 
@@ -140,6 +155,11 @@ impl Desk {
     /// A copy of a file of the opening, as a checker who drew or kept it has it.
     pub fn keep(&self, name: &str) {
         fs::copy(self.path("plan.txt.opening").join(name), self.path(name)).unwrap();
+    }
+
+    /// A copy of the roots of an answer or an opening, as a checker has it who kept them before the positions were told.
+    pub fn keep_roots(&self, folder: &str) {
+        fs::copy(self.path(folder).join("roots.txt"), self.path(KEPT)).unwrap();
     }
 
     pub fn folder(&self, name: &str) {
@@ -215,6 +235,18 @@ impl Desk {
                 .env("PATH", path)
                 .current_dir(self.path(folder)),
         )
+    }
+
+    /// Runs a file of tools/ in this folder.
+    pub fn python<W: AsRef<OsStr>>(&self, file: &str, words: impl IntoIterator<Item = W>) -> Run {
+        let tools = concat!(env!("CARGO_MANIFEST_DIR"), "/../tools");
+        let mut command = Command::new("python3");
+        command
+            .arg(format!("{tools}/{file}"))
+            .args(words)
+            .env("PYTHONDONTWRITEBYTECODE", "1")
+            .current_dir(&self.0);
+        Run::of(&mut command)
     }
 
     /// Runs the program with the words of a line and at most 10 seconds and 2 GB, for what might stall or fill the machine.
