@@ -19,7 +19,13 @@
    Widths. A level's tree has one leaf for each group of consecutive words. How many words a group has depends on the level's length and on the
    set of widths, of which there are two: `DEQUMLO_WIDTHS_PRESENT` and `DEQUMLO_WIDTHS_WIDE`. A seal has one set throughout: it is committed, folded,
    shown, checked and compared under the same. Every function whose answer depends on it takes it as `widths`, right before n. A number that
-   is neither is refused with 4 before every other question. */
+   is neither is refused with 4 before every other question.
+
+   Keys. A tree's digests are made in BLAKE3's hash mode, or under a key of 32 bytes in its keyed mode: then nobody without the key can make its root or
+   check anything against it. A seal has one key throughout, or none: it is committed, folded, checked and compared under the same. Every function that
+   makes or checks digests of a tree takes it by value, as `key`, its first parameter; records are built without it. A key is never refused: under another
+   one, or none, a sound query record is refused with 18 at level 0 and a tail record with 30, as those that do not lead to the root. Gammas, codewords,
+   levels and the words that a record shows are the same under every key. */
 #ifndef DEQUMLO_H
 #define DEQUMLO_H
 
@@ -28,9 +34,9 @@
 
 /* The version of this header, which is that of the archive beside it. */
 #define DEQUMLO_VERSION_MAJOR 0
-#define DEQUMLO_VERSION_MINOR 8
+#define DEQUMLO_VERSION_MINOR 9
 #define DEQUMLO_VERSION_PATCH 0
-#define DEQUMLO_VERSION "0.8.0"
+#define DEQUMLO_VERSION "0.9.0"
 
 /* The sets of widths. The present one has groups of 8 words in levels of 16 words or more, the wide one groups of 32 in levels of 64 or more. Shorter
    levels have groups of 2 words under either, and a level of one word has one. Seals that were made before version 0.6.0 have the present set. */
@@ -67,6 +73,12 @@ typedef struct {
     size_t query;
     size_t tail;
 } dequmlo_seal_sizes;
+
+/* A key of trees, by value. `keyed` is 0 for none, and then the bytes count for nothing; every other number says that the 32 bytes are the key. */
+typedef struct {
+    uint32_t keyed;
+    uint8_t bytes[32];
+} dequmlo_key;
 
 /* A digest; zeros where the number is not 0. */
 typedef struct {
@@ -140,15 +152,22 @@ dequmlo_seal_sizes dequmlo_sizes(uint32_t widths, size_t n, size_t k);
 /* The BLAKE3 digest of the input. Refuses: 13 for more than 2^24 bytes. */
 dequmlo_digested dequmlo_digest(const uint8_t *input, size_t input_length);
 
+/* The BLAKE3 digest of the input in keyed mode. Refuses: 5 (the key is not 32 bytes), 13 (more than 2^24 bytes of input). */
+dequmlo_digested dequmlo_keyed_digest(const uint8_t *key, size_t key_length, const uint8_t *input, size_t input_length);
+
+/* The key of 32 bytes that BLAKE3's key derivation mode gives for a context and key material. The context is a text of the program's own that says what
+   the key is for; the material is the secret. Refuses: 13 (more than 2^24 bytes of the context, then of the material). */
+dequmlo_digested dequmlo_derive_key(const uint8_t *context, size_t context_length, const uint8_t *material, size_t material_length);
+
 /* ---- committing and folding */
 
 /* Commits a table of 2^n words under a base domain of at most 200 bytes: writes the k * n gammas (2 * k * n halves), the codeword of
    2^(n+k) words (level 0), the list of its n coordinates, which is 0 to n - 1, and level 0's tree, whose last digest is the root. The tree has
    2 * groups - 1 digests, where groups is 2^(n+k) / dequmlo_fold_tree_width(widths, 2^(n+k)). n = 0 passes.
    Refuses: 4 (widths, n, k), 5 (a length; that of the list is n), 7 (the base domain). */
-uint32_t dequmlo_commit(uint32_t widths, size_t n, size_t k, const uint8_t *base, size_t base_length, const uint64_t *table,
-                        size_t table_length, uint64_t *gammas, size_t gammas_length, uint64_t *codeword, size_t codeword_length,
-                        size_t *coordinates, size_t coordinates_length, uint8_t *tree, size_t tree_length);
+uint32_t dequmlo_commit(dequmlo_key key, uint32_t widths, size_t n, size_t k, const uint8_t *base, size_t base_length,
+                        const uint64_t *table, size_t table_length, uint64_t *gammas, size_t gammas_length, uint64_t *codeword,
+                        size_t codeword_length, size_t *coordinates, size_t coordinates_length, uint8_t *tree, size_t tree_length);
 
 /* Folds a codeword in use at a variable by r into a buffer of half its words: a + r * (a + b) for each pair of places that differ in bit
    `var`. Answers the new n, which is n - 1. Level l + 1 of a seal is level l folded at variable 0 by challenge l.
@@ -173,9 +192,9 @@ dequmlo_folded dequmlo_fold(size_t n, size_t k, size_t original, size_t var, deq
    - roots: n + 1 digests, the last of each tree, level 0's first.
    `dequmlo_sizes` has each size. The last level and its tree stand at the ends of `levels` and `trees`.
    Refuses: 4 (widths, n is not from 1 to 20, or k), 5 (a length), 7 (the base domain). */
-uint32_t dequmlo_fold_levels(uint32_t widths, size_t n, size_t k, const uint8_t *base, size_t base_length, const uint64_t *challenges,
-                             size_t challenges_length, uint64_t *levels, size_t levels_length, uint64_t *half, size_t half_length,
-                             uint8_t *trees, size_t trees_length, uint8_t *roots, size_t roots_length);
+uint32_t dequmlo_fold_levels(dequmlo_key key, uint32_t widths, size_t n, size_t k, const uint8_t *base, size_t base_length,
+                             const uint64_t *challenges, size_t challenges_length, uint64_t *levels, size_t levels_length, uint64_t *half,
+                             size_t half_length, uint8_t *trees, size_t trees_length, uint8_t *roots, size_t roots_length);
 
 /* ---- trees */
 
@@ -186,8 +205,8 @@ size_t dequmlo_fold_tree_width(uint32_t widths, size_t length);
 /* The tree over `count` words in groups of `width`, under a domain: leaves first, then each level of parents, 2 * (count / width) - 1
    digests; the last is the root. `dequmlo_level_tree` builds the tree of a level of a seal.
    Refuses: 7 (a domain of more than 255 bytes), 8 (count), 9 (width), 10 (width does not divide count), 5 (a length). */
-uint32_t dequmlo_tree(const uint8_t *domain, size_t domain_length, size_t count, size_t width, const uint64_t *values, size_t values_length,
-                      uint8_t *tree, size_t tree_length);
+uint32_t dequmlo_tree(dequmlo_key key, const uint8_t *domain, size_t domain_length, size_t count, size_t width, const uint64_t *values,
+                      size_t values_length, uint8_t *tree, size_t tree_length);
 
 /* The path of the group that holds the value at a place, off a tree: log2(count / width) digests, the leaf's neighbour first.
    Refuses: 8, 9, 10 as above, 11 (the place is not below count), 5 (a length). */
@@ -195,8 +214,9 @@ uint32_t dequmlo_open(size_t count, size_t width, size_t place, const uint8_t *t
 
 /* The root that the `width` words of the group of a place and a path lead to.
    Refuses: 7, 8, 9, 10, 11 as above, 12 (the path is not log2(count / width) digests), 5 (the group is not `width` words). */
-dequmlo_digested dequmlo_root_of_path(const uint8_t *domain, size_t domain_length, size_t count, size_t width, size_t place,
-                                      const uint64_t *values, size_t values_length, const uint8_t *path, size_t path_length);
+dequmlo_digested dequmlo_root_of_path(dequmlo_key key, const uint8_t *domain, size_t domain_length, size_t count, size_t width,
+                                      size_t place, const uint64_t *values, size_t values_length, const uint8_t *path,
+                                      size_t path_length);
 
 /* How long the domain of a level is: the base domain, of at most 200 bytes, "/level/" and the level, from 0 to 20, in decimal.
    Refuses: 4 (the level is above 20), 7 (the base domain). */
@@ -210,7 +230,7 @@ uint32_t dequmlo_level_domain(const uint8_t *base, size_t base_length, size_t le
    - values: the level's 2^(n+k-level) words.
    - tree: 2 * groups - 1 digests, leaves first, where groups is the level's words divided by their `dequmlo_fold_tree_width`; the last is the root.
    Refuses: 4 (widths, n is not from 1 to 20, k, or level is above n), 5 (a length), 7 (the base domain). */
-uint32_t dequmlo_level_tree(uint32_t widths, size_t n, size_t k, size_t level, const uint8_t *base, size_t base_length,
+uint32_t dequmlo_level_tree(dequmlo_key key, uint32_t widths, size_t n, size_t k, size_t level, const uint8_t *base, size_t base_length,
                             const uint64_t *values, size_t values_length, uint8_t *tree, size_t tree_length);
 
 /* ---- parts, for callers that divide the work over threads: each call writes a part of what another function writes whole, into a buffer of its
@@ -243,14 +263,14 @@ uint32_t dequmlo_fold_part(size_t n, size_t k, size_t var, dequmlo_word r, size_
 /* Leaves of a tree, from group `first` on, as many as `out` has digests: a part of the first count / width digests that `dequmlo_tree` makes.
    - values: all `count` words. out: any number of digests.
    Refuses: 7, 8, 9, 10 as for a tree, 11 (the groups do not end within the tree's), 5 (a length). */
-uint32_t dequmlo_tree_leaves(const uint8_t *domain, size_t domain_length, size_t count, size_t width, size_t first, const uint64_t *values,
-                             size_t values_length, uint8_t *out, size_t out_length);
+uint32_t dequmlo_tree_leaves(dequmlo_key key, const uint8_t *domain, size_t domain_length, size_t count, size_t width, size_t first,
+                             const uint64_t *values, size_t values_length, uint8_t *out, size_t out_length);
 
 /* The parents of digests of one level of a tree, two by two: a part of the level above. The parents of the leaves are level 0.
    - children: any even number of digests. out: half as many.
    Refuses: 5 (a length), 7 (a domain of more than 255 bytes). */
-uint32_t dequmlo_tree_parents(const uint8_t *domain, size_t domain_length, size_t level, const uint8_t *children, size_t children_length,
-                              uint8_t *out, size_t out_length);
+uint32_t dequmlo_tree_parents(dequmlo_key key, const uint8_t *domain, size_t domain_length, size_t level, const uint8_t *children,
+                              size_t children_length, uint8_t *out, size_t out_length);
 
 /* Entries of level `level` + 1, from entry `first` on, as many as `out` has words: level `level` folded at variable 0 by its challenge.
    - n, k: those of the commitment; n is from 1. level: below n.
@@ -264,14 +284,14 @@ uint32_t dequmlo_next_part(size_t n, size_t k, size_t level, dequmlo_word r, siz
    - widths, n, k, base: those of the commitment; n is from 1. level: from 0 to n. values: all words of the level. out: any number of digests.
    Refuses: 4 (widths, n is not from 1 to 20, k, or level is above n), 5 (a length), 7 (the base domain), 11 (the groups do not end within the
    level's). */
-uint32_t dequmlo_level_leaves(uint32_t widths, size_t n, size_t k, size_t level, const uint8_t *base, size_t base_length, size_t first,
-                              const uint64_t *values, size_t values_length, uint8_t *out, size_t out_length);
+uint32_t dequmlo_level_leaves(dequmlo_key key, uint32_t widths, size_t n, size_t k, size_t level, const uint8_t *base, size_t base_length,
+                              size_t first, const uint64_t *values, size_t values_length, uint8_t *out, size_t out_length);
 
 /* The parents of digests of one height of a level's tree, two by two; those of the leaves are at height 0. They are the same under either set.
    - children: any even number of digests. out: half as many.
    Refuses: 4 (n is not from 1 to 20, k, or level is above n), 5 (a length), 7 (the base domain). */
-uint32_t dequmlo_level_parents(size_t n, size_t k, size_t level, const uint8_t *base, size_t base_length, size_t height, const uint8_t *children,
-                               size_t children_length, uint8_t *out, size_t out_length);
+uint32_t dequmlo_level_parents(dequmlo_key key, size_t n, size_t k, size_t level, const uint8_t *base, size_t base_length, size_t height,
+                               const uint8_t *children, size_t children_length, uint8_t *out, size_t out_length);
 
 /* ---- records. Challenges are n words, roots are n + 1 digests, level 0's first. */
 
@@ -284,9 +304,9 @@ uint32_t dequmlo_build_query(uint8_t *out, size_t out_length, const uint64_t *le
 /* Checks a query record: 0 is accepted. The record may have any bytes and any length.
    Refuses: 4 (widths, n, k), 5 (challenges or roots), 7 (a base domain of more than 200 bytes), 11 (the position), 14 (it does not read whole),
    15 (it has not n levels), and 16 to 26 with the level; 20 is retired (docs/REFUSALS.md). */
-dequmlo_checked dequmlo_check_query(const uint8_t *base, size_t base_length, uint32_t widths, size_t n, size_t k, size_t position,
-                                    const uint64_t *challenges, size_t challenges_length, const uint8_t *roots, size_t roots_length,
-                                    const uint8_t *record, size_t record_length);
+dequmlo_checked dequmlo_check_query(dequmlo_key key, const uint8_t *base, size_t base_length, uint32_t widths, size_t n, size_t k,
+                                    size_t position, const uint64_t *challenges, size_t challenges_length, const uint8_t *roots,
+                                    size_t roots_length, const uint8_t *record, size_t record_length);
 
 /* Builds the tail record from the last level, 2^k words, and its tree. The record's size is fixed by k: 28, 44, 148, 420 bytes for k from 0 to 3, and
    for k = 4 under the present set 340 bytes, under the wide one 1,092. Refuses: 4 (widths, n, k), 5 (a length). */
@@ -296,17 +316,17 @@ uint32_t dequmlo_build_tail(uint8_t *out, size_t out_length, const uint64_t *lev
 /* Checks a tail record under the last level's root against the terminal claim: 0 is accepted. The record may have any bytes and any
    length. Refuses: 4 (widths, n, k), 5 (the root is not 32 bytes), 7 (the base domain), 14 (it does not read whole), 27 (group count), 28 (a
    group's width), 29 (a path's length), 30 (the root), 31 (the first value is not the claim). */
-uint32_t dequmlo_check_tail(const uint8_t *base, size_t base_length, uint32_t widths, size_t n, size_t k, const uint8_t *root,
-                            size_t root_length, dequmlo_word claim, const uint8_t *record, size_t record_length);
+uint32_t dequmlo_check_tail(dequmlo_key key, const uint8_t *base, size_t base_length, uint32_t widths, size_t n, size_t k,
+                            const uint8_t *root, size_t root_length, dequmlo_word claim, const uint8_t *record, size_t record_length);
 
 /* Compares two records that are both accepted for one position: 33 where they are the same bytes; else 0, and two messages that differ
-   and have one BLAKE3 digest, each in a buffer of `DEQUMLO_MESSAGE_BUFFER` bytes with zeros after it, and their lengths.
+   and have one digest under the key, each in a buffer of `DEQUMLO_MESSAGE_BUFFER` bytes with zeros after it, and their lengths.
    Refuses: 4 (widths, n, k), 5 (challenges, roots or a message buffer), 7 (the base domain), 11 (the position), 32 (a record is not accepted),
    33 (they are the same). */
-dequmlo_compared dequmlo_compare(const uint8_t *base, size_t base_length, uint32_t widths, size_t n, size_t k, size_t position,
-                                 const uint64_t *challenges, size_t challenges_length, const uint8_t *roots, size_t roots_length,
-                                 const uint8_t *first, size_t first_length, const uint8_t *second, size_t second_length,
-                                 uint8_t *first_message, size_t first_message_length, uint8_t *second_message,
+dequmlo_compared dequmlo_compare(dequmlo_key key, const uint8_t *base, size_t base_length, uint32_t widths, size_t n, size_t k,
+                                 size_t position, const uint64_t *challenges, size_t challenges_length, const uint8_t *roots,
+                                 size_t roots_length, const uint8_t *first, size_t first_length, const uint8_t *second,
+                                 size_t second_length, uint8_t *first_message, size_t first_message_length, uint8_t *second_message,
                                  size_t second_message_length);
 
 /* ---- ring switching. Two identities tie these functions together; both are proved (docs/SPECIFICATION.md, 3.5). For the partials s of 2^n

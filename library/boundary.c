@@ -1,5 +1,6 @@
 /* Every exported function that takes a buffer, called with each lent length one short, one long and 0, and with n, k and every other number
-   out of range; those that take a set of widths under both sets, and under numbers that are no set's. A refused call must answer the number of the
+   out of range; those that take a set of widths under both sets, and under numbers that are no set's; those that take a key under none and under one of
+   any number and any bytes, which are refused nothing. A refused call must answer the number of the
    question, 0 in every other field, and leave every lent byte; no call may touch a byte outside its buffers. Each call is made twice, with the
    forbidden page after and before the buffers. */
 #include "lent.h"
@@ -31,6 +32,7 @@ typedef struct call {
 
 static const seal *of;
 static uint32_t widths; /* the set that is called with */
+static dequmlo_key key; /* the key that is called with */
 static dequmlo_coefficients rows;
 static size_t calls;
 
@@ -61,7 +63,7 @@ static answer answered(dequmlo_answered w) {
 
 /* Done, it leaves the list 0 to n - 1. */
 static answer run_commit(const call *c, const lent *b) {
-    uint32_t number = dequmlo_commit(widths, c->numbers[0], c->numbers[1], AT(0), WORDS(1), WORDS(2), WORDS(3), LIST(4), AT(5));
+    uint32_t number = dequmlo_commit(key, widths, c->numbers[0], c->numbers[1], AT(0), WORDS(1), WORDS(2), WORDS(3), LIST(4), AT(5));
     const size_t *list = (const size_t *)(const void *)b[4].bytes;
     for (size_t i = 0; number == 0 && i < c->numbers[0]; i++) MUST(list[i] == i);
     return plain(number);
@@ -77,7 +79,7 @@ static answer run_fold(const call *c, const lent *b) {
 }
 
 static answer run_fold_levels(const call *c, const lent *b) {
-    return plain(dequmlo_fold_levels(widths, c->numbers[0], c->numbers[1], AT(0), WORDS(1), WORDS(2), WORDS(3), AT(4), AT(5)));
+    return plain(dequmlo_fold_levels(key, widths, c->numbers[0], c->numbers[1], AT(0), WORDS(1), WORDS(2), WORDS(3), AT(4), AT(5)));
 }
 
 static answer run_level_domain_length(const call *c, const lent *b) {
@@ -89,11 +91,11 @@ static answer run_level_domain_length(const call *c, const lent *b) {
 static answer run_level_domain(const call *c, const lent *b) { return plain(dequmlo_level_domain(AT(0), c->numbers[0], AT(1))); }
 
 static answer run_level_tree(const call *c, const lent *b) {
-    return plain(dequmlo_level_tree(widths, c->numbers[0], c->numbers[1], c->numbers[2], AT(0), WORDS(1), AT(2)));
+    return plain(dequmlo_level_tree(key, widths, c->numbers[0], c->numbers[1], c->numbers[2], AT(0), WORDS(1), AT(2)));
 }
 
 static answer run_tree(const call *c, const lent *b) {
-    return plain(dequmlo_tree(AT(0), c->numbers[0], c->numbers[1], WORDS(1), AT(2)));
+    return plain(dequmlo_tree(key, AT(0), c->numbers[0], c->numbers[1], WORDS(1), AT(2)));
 }
 
 static answer run_codeword_block(const call *c, const lent *b) {
@@ -109,10 +111,10 @@ static answer run_fold_part(const call *c, const lent *b) {
 }
 
 static answer run_tree_leaves(const call *c, const lent *b) {
-    return plain(dequmlo_tree_leaves(AT(0), c->numbers[0], c->numbers[1], c->numbers[2], WORDS(1), AT(2)));
+    return plain(dequmlo_tree_leaves(key, AT(0), c->numbers[0], c->numbers[1], c->numbers[2], WORDS(1), AT(2)));
 }
 
-static answer run_tree_parents(const call *c, const lent *b) { return plain(dequmlo_tree_parents(AT(0), c->numbers[0], AT(1), AT(2))); }
+static answer run_tree_parents(const call *c, const lent *b) { return plain(dequmlo_tree_parents(key, AT(0), c->numbers[0], AT(1), AT(2))); }
 
 static answer run_gammas(const call *c, const lent *b) { return plain(dequmlo_gammas(c->numbers[0], c->numbers[1], AT(0), WORDS(1))); }
 
@@ -121,11 +123,11 @@ static answer run_next_part(const call *c, const lent *b) {
 }
 
 static answer run_level_leaves(const call *c, const lent *b) {
-    return plain(dequmlo_level_leaves(widths, c->numbers[0], c->numbers[1], c->numbers[2], AT(0), c->numbers[3], WORDS(1), AT(2)));
+    return plain(dequmlo_level_leaves(key, widths, c->numbers[0], c->numbers[1], c->numbers[2], AT(0), c->numbers[3], WORDS(1), AT(2)));
 }
 
 static answer run_level_parents(const call *c, const lent *b) {
-    return plain(dequmlo_level_parents(c->numbers[0], c->numbers[1], c->numbers[2], AT(0), c->numbers[3], AT(1), AT(2)));
+    return plain(dequmlo_level_parents(key, c->numbers[0], c->numbers[1], c->numbers[2], AT(0), c->numbers[3], AT(1), AT(2)));
 }
 
 static answer run_open(const call *c, const lent *b) {
@@ -133,7 +135,7 @@ static answer run_open(const call *c, const lent *b) {
 }
 
 static answer run_root(const call *c, const lent *b) {
-    return digested(dequmlo_root_of_path(AT(0), c->numbers[0], c->numbers[1], c->numbers[2], WORDS(1), AT(2)));
+    return digested(dequmlo_root_of_path(key, AT(0), c->numbers[0], c->numbers[1], c->numbers[2], WORDS(1), AT(2)));
 }
 
 static answer run_build_query(const call *c, const lent *b) {
@@ -141,7 +143,7 @@ static answer run_build_query(const call *c, const lent *b) {
 }
 
 static answer run_check_query(const call *c, const lent *b) {
-    dequmlo_checked k = dequmlo_check_query(AT(0), widths, c->numbers[0], c->numbers[1], c->numbers[2], WORDS(1), AT(2), AT(3));
+    dequmlo_checked k = dequmlo_check_query(key, AT(0), widths, c->numbers[0], c->numbers[1], c->numbers[2], WORDS(1), AT(2), AT(3));
     answer a = {k.number, k.level == 0};
     return a;
 }
@@ -151,12 +153,12 @@ static answer run_build_tail(const call *c, const lent *b) {
 }
 
 static answer run_check_tail(const call *c, const lent *b) {
-    return plain(dequmlo_check_tail(AT(0), widths, c->numbers[0], c->numbers[1], AT(1), c->word, AT(2)));
+    return plain(dequmlo_check_tail(key, AT(0), widths, c->numbers[0], c->numbers[1], AT(1), c->word, AT(2)));
 }
 
 static answer run_compare(const call *c, const lent *b) {
     const uint8_t *base = (const uint8_t *)of->base;
-    dequmlo_compared m = dequmlo_compare(base, strlen(of->base), widths, c->numbers[0], c->numbers[1], c->numbers[2], WORDS(0), AT(1), AT(2), AT(3),
+    dequmlo_compared m = dequmlo_compare(key, base, strlen(of->base), widths, c->numbers[0], c->numbers[1], c->numbers[2], WORDS(0), AT(1), AT(2), AT(3),
                                          AT(4), AT(5));
     answer a = {m.number, m.first == 0 && m.second == 0};
     return a;
@@ -190,9 +192,9 @@ static answer run_export_blocks(const call *c, const lent *b) {
 }
 
 static answer run_ghash(const call *c, const lent *b) {
-    dequmlo_block key = {{0}};
-    memcpy(key.bytes, &c->word, 16);
-    dequmlo_hashed h = dequmlo_ghash(key, AT(0));
+    dequmlo_block hash_key = {{0}};
+    memcpy(hash_key.bytes, &c->word, 16);
+    dequmlo_hashed h = dequmlo_ghash(hash_key, AT(0));
     answer a = {h.number, zeros(h.block.bytes, 16)};
     return a;
 }
@@ -200,6 +202,16 @@ static answer run_ghash(const call *c, const lent *b) {
 static answer run_digest(const call *c, const lent *b) {
     (void)c;
     return digested(dequmlo_digest(AT(0)));
+}
+
+static answer run_keyed_digest(const call *c, const lent *b) {
+    (void)c;
+    return digested(dequmlo_keyed_digest(AT(0), AT(1)));
+}
+
+static answer run_derive_key(const call *c, const lent *b) {
+    (void)c;
+    return digested(dequmlo_derive_key(AT(0), AT(1)));
 }
 
 /* ---- one call */
@@ -211,8 +223,8 @@ static void made(const call *c, uint32_t expected, side page_at) {
     answer a = c->run(c, b);
     calls++;
     if (a.number != expected) {
-        fprintf(stderr, "boundary: %s answers %u, not %u; widths %u, numbers %zu %zu %zu %zu, counts", c->name, a.number, expected, widths,
-                c->numbers[0], c->numbers[1], c->numbers[2], c->numbers[3]);
+        fprintf(stderr, "boundary: %s answers %u, not %u; keyed %u, widths %u, numbers %zu %zu %zu %zu, counts", c->name, a.number, expected, key.keyed,
+                widths, c->numbers[0], c->numbers[1], c->numbers[2], c->numbers[3]);
         for (size_t i = 0; i < c->slices; i++) fprintf(stderr, " %zu", c->slice[i].count);
         fprintf(stderr, "\n");
         exit(1);
@@ -395,11 +407,11 @@ static void folds(const void *codeword, size_t k) {
     number(&none, ORIGINAL, 21, 4);
 }
 
-/* All calls that are made under a set. Its level 0, of 16 words, has two groups of 8 under the present set and eight of 2 under the wide one. */
-static void all(uint32_t set) {
+/* All calls that are made under a key and a set. Its level 0, of 16 words, has two groups of 8 under the present set and eight of 2 under the wide one. */
+static void all(dequmlo_key given, uint32_t set) {
     enum { N = 3, K = 1, POSITION = 5 };
-    widths = set;
-    seal s = sealed(widths, N, K, POSITION, 1);
+    key = given, widths = set;
+    seal s = sealed_under(key, widths, N, K, POSITION, 1);
     of = &s;
     uint64_t seed = 2;
     for (size_t i = 0; i < 128; i++) rows.words[i].lo = drawn(&seed), rows.words[i].hi = drawn(&seed);
@@ -417,6 +429,16 @@ static void all(uint32_t set) {
 
     call digest = {"digest", run_digest, {0}, 1, {reads(scratch, 1, 1025, 0)}, 0, {0, 0}};
     lengths(&digest);
+
+    /* A key of another length is refused, whatever the input is; the two texts of a derivation may have any length up to 2^24. */
+    call keyed_digest = {"keyed_digest", run_keyed_digest, {0}, 2, {reads(scratch, 1, 32, 5), reads(scratch, 1, 1025, 0)}, 0, {0, 0}};
+    lengths(&keyed_digest);
+    counts(&keyed_digest, 0, 32, 1, 0, 0);
+    counts(&keyed_digest, 0, 0, 1, 0, 5);
+    counts(&keyed_digest, 0, 64, 1, 0, 5);
+    call derive_key = {"derive_key", run_derive_key, {0}, 2, {reads(scratch, 1, 47, 0), reads(scratch, 1, 1025, 0)}, 0, {0, 0}};
+    lengths(&derive_key);
+    counts(&derive_key, 0, 0, 1, 0, 0);
 
     call commit = {"commit", run_commit, {N, K}, 6,
                    {reads(domain, 1, base, 0), reads(table, 8, 2 << N, 5), writes(scratch, 8, 2 * K * N), writes(scratch, 8, 2 * words),
@@ -757,8 +779,13 @@ static void all(uint32_t set) {
 
 int main(void) {
     for (size_t i = 0; i < sizeof scratch; i++) scratch[i] = (uint8_t)(i * 7 + 3);
-    all(DEQUMLO_WIDTHS_PRESENT);
-    all(DEQUMLO_WIDTHS_WIDE);
+    /* No key, and one whose number is not 1 and whose bytes are all the same. */
+    dequmlo_key same;
+    same.keyed = UINT32_MAX, memset(same.bytes, 0xff, sizeof same.bytes);
+    for (uint32_t set = DEQUMLO_WIDTHS_PRESENT; set <= DEQUMLO_WIDTHS_WIDE; set++) {
+        all(no_key(), set);
+        all(same, set);
+    }
     printf("boundary: %zu calls, each answer and every byte as it must be\n", calls);
     return 0;
 }

@@ -1,5 +1,5 @@
-/* Calls every function of include/dequmlo.h, those that take a set of widths under both sets, with the small values of SPECIFICATION 12 where there
-   are some. Compiled as C and as C++. */
+/* Calls every function of include/dequmlo.h, those that take a set of widths under both sets, those that take a key under none and under one, with the
+   small values of SPECIFICATION 12 where there are some. Compiled as C and as C++. */
 #include "fixture.h"
 
 static dequmlo_word word(uint64_t lo) {
@@ -54,8 +54,29 @@ static void hash(void) {
     MUST(d.number == 0 && memcmp(d.bytes, abc, 4) == 0);
 }
 
+static int is_of(dequmlo_digested d, const uint8_t *first, size_t count) { return d.number == 0 && memcmp(d.bytes, first, count) == 0; }
+
+/* The other two modes, by the vectors that are published with BLAKE3 for no byte and for 1,025 (SPECIFICATION 12.9), and what they refuse. */
+static void modes(void) {
+    static const uint8_t keyed[2][4] = {{0x92, 0xb2, 0xb7, 0x56}, {0x35, 0x7d, 0xc5, 0x5d}}, derived[2][4] = {{0x2c, 0xc3, 0x97, 0x83}, {0xef, 0xfa, 0xa2, 0x45}};
+    const uint8_t *key = (const uint8_t *)"whats the Elvish word for friend", *context = (const uint8_t *)"BLAKE3 2019-12-27 16:29:52 test vectors context";
+    uint8_t input[1025];
+    for (size_t i = 0; i < sizeof input; i++) input[i] = (uint8_t)(i % 251);
+    for (size_t i = 0; i < 2; i++) {
+        size_t length = i == 0 ? 0 : sizeof input;
+        MUST(is_of(dequmlo_keyed_digest(key, 32, input, length), keyed[i], 4));
+        MUST(is_of(dequmlo_derive_key(context, 47, input, length), derived[i], 4));
+    }
+    static const size_t wrong[] = {0, 31, 33, 64};
+    static const uint8_t long_key[64] = {0}, zeros[32] = {0};
+    for (size_t i = 0; i < sizeof wrong / sizeof *wrong; i++) {
+        dequmlo_digested d = dequmlo_keyed_digest(long_key, wrong[i], input, 3);
+        MUST(d.number == 5 && memcmp(d.bytes, zeros, 32) == 0);
+    }
+}
+
 /* n = k = 1, table 5, 9, gamma 7: codeword 5, 9, 33, 45, folded by 2: 29, 57. Here the codeword is lent as it stands. */
-static void code(uint32_t widths) {
+static void code(dequmlo_key key, uint32_t widths) {
     uint64_t codeword[8] = {5, 0, 9, 0, 33, 0, 45, 0}, out[4];
     size_t list[1] = {0};
     dequmlo_folded f = dequmlo_fold(1, 1, 1, 0, word(2), list, 1, codeword, 8, out, 4);
@@ -64,7 +85,7 @@ static void code(uint32_t widths) {
     uint8_t tree[96];
     MUST(tree_bytes(widths, 4) == 96);
     list[0] = 7;
-    MUST(dequmlo_commit(widths, 1, 1, (const uint8_t *)"d", 1, table, 4, gammas, 2, codeword, 8, list, 1, tree, 96) == 0);
+    MUST(dequmlo_commit(key, widths, 1, 1, (const uint8_t *)"d", 1, table, 4, gammas, 2, codeword, 8, list, 1, tree, 96) == 0);
     MUST(codeword[0] == 5 && codeword[2] == 9 && list[0] == 0);
 }
 
@@ -146,20 +167,20 @@ static void folds_at_any_variable(size_t n, size_t k) {
     unsealed(&s);
 }
 
-static void trees(void) {
+static void trees(dequmlo_key key) {
     uint64_t values[16];
     for (size_t i = 0; i < 16; i++) values[i] = i;
     uint8_t tree[224], path[64];
     const uint8_t *domain = (const uint8_t *)"d";
-    MUST(dequmlo_tree(domain, 1, 8, 2, values, 16, tree, sizeof tree) == 0);
+    MUST(dequmlo_tree(key, domain, 1, 8, 2, values, 16, tree, sizeof tree) == 0);
     MUST(dequmlo_open(8, 2, 5, tree, sizeof tree, path, sizeof path) == 0);
-    dequmlo_digested d = dequmlo_root_of_path(domain, 1, 8, 2, 5, values + 8, 4, path, sizeof path);
+    dequmlo_digested d = dequmlo_root_of_path(key, domain, 1, 8, 2, 5, values + 8, 4, path, sizeof path);
     MUST(d.number == 0 && memcmp(d.bytes, tree + 192, 32) == 0);
 }
 
 /* Blocks and their halves are those of the codeword; a fold and level 0's tree, divided into parts of this many entries or digests, are those made whole. */
-static void parts(uint32_t widths, size_t n, size_t k, size_t each) {
-    seal s = sealed(widths, n, k, 0, n + k);
+static void parts(dequmlo_key key, uint32_t widths, size_t n, size_t k, size_t each) {
+    seal s = sealed_under(key, widths, n, k, 0, n + k);
     size_t words = level_words(n, k, 0), width = dequmlo_fold_tree_width(widths, words), groups = words / width, size = tree_bytes(widths, words);
     size_t block = (size_t)2 << n, list[20];
     uint64_t *folded = (uint64_t *)room(8 * words), *made = (uint64_t *)room(16 * words);
@@ -185,13 +206,13 @@ static void parts(uint32_t widths, size_t n, size_t k, size_t each) {
     }
     for (size_t first = 0, m; first < groups; first += m) {
         m = groups - first < each ? groups - first : each;
-        MUST(dequmlo_tree_leaves(domain, length, words, width, first, s.levels, 2 * words, tree + 32 * first, 32 * m) == 0);
+        MUST(dequmlo_tree_leaves(s.key, domain, length, words, width, first, s.levels, 2 * words, tree + 32 * first, 32 * m) == 0);
     }
     uint8_t *below = tree;
     for (size_t level = 0, half = groups / 2; half > 0; level++, below += 64 * half, half /= 2)
         for (size_t first = 0, m; first < half; first += m) {
             m = half - first < each ? half - first : each;
-            MUST(dequmlo_tree_parents(domain, length, level, below + 64 * first, 64 * m, below + 64 * half + 32 * first, 32 * m) == 0);
+            MUST(dequmlo_tree_parents(s.key, domain, length, level, below + 64 * first, 64 * m, below + 64 * half + 32 * first, 32 * m) == 0);
         }
     MUST(memcmp(tree, s.trees, size) == 0);
     free(folded), free(made), free(tree);
@@ -199,8 +220,8 @@ static void parts(uint32_t widths, size_t n, size_t k, size_t each) {
 }
 
 /* Every level and its tree in parts of this many entries or digests are those of the fixture; the gammas too. */
-static void level_parts(uint32_t widths, size_t n, size_t k, size_t each) {
-    seal s = sealed(widths, n, k, 0, n + k);
+static void level_parts(dequmlo_key key, uint32_t widths, size_t n, size_t k, size_t each) {
+    seal s = sealed_under(key, widths, n, k, 0, n + k);
     const uint8_t *base = (const uint8_t *)s.base, *trees = s.trees;
     const uint64_t *level = s.levels;
     size_t length = strlen(s.base);
@@ -211,13 +232,13 @@ static void level_parts(uint32_t widths, size_t n, size_t k, size_t each) {
         size_t words = level_words(n, k, l), size = tree_bytes(widths, words), groups = (size / 32 + 1) / 2, height = 0;
         for (size_t first = 0, m; first < groups; first += m) {
             m = groups - first < each ? groups - first : each;
-            MUST(dequmlo_level_leaves(widths, n, k, l, base, length, first, level, 2 * words, tree + 32 * first, 32 * m) == 0);
+            MUST(dequmlo_level_leaves(s.key, widths, n, k, l, base, length, first, level, 2 * words, tree + 32 * first, 32 * m) == 0);
         }
         uint8_t *below = tree;
         for (size_t half = groups / 2; half > 0; height++, below += 64 * half, half /= 2)
             for (size_t first = 0, m; first < half; first += m) {
                 m = half - first < each ? half - first : each;
-                MUST(dequmlo_level_parents(n, k, l, base, length, height, below + 64 * first, 64 * m, below + 64 * half + 32 * first, 32 * m) == 0);
+                MUST(dequmlo_level_parents(s.key, n, k, l, base, length, height, below + 64 * first, 64 * m, below + 64 * half + 32 * first, 32 * m) == 0);
             }
         MUST(memcmp(tree, trees, size) == 0);
         for (size_t first = 0, m; l < n && first < words / 2; first += m) {
@@ -246,8 +267,8 @@ static void domains(void) {
 }
 
 /* All levels, trees and roots in one call, and each tree by itself, are what the fixture made fold by fold and tree by tree. */
-static void levels(uint32_t widths, size_t n, size_t k) {
-    seal s = sealed(widths, n, k, 0, n + k);
+static void levels(dequmlo_key key, uint32_t widths, size_t n, size_t k) {
+    seal s = sealed_under(key, widths, n, k, 0, n + k);
     const uint8_t *base = (const uint8_t *)s.base;
     size_t length = strlen(s.base), first = 0, first_tree = 0;
     dequmlo_seal_sizes z = dequmlo_sizes(widths, n, k);
@@ -255,13 +276,13 @@ static void levels(uint32_t widths, size_t n, size_t k) {
     uint8_t *trees = (uint8_t *)room(z.trees), *roots = (uint8_t *)room(z.roots);
     memset(all, 0x5a, 16 * z.levels), memset(half, 0x5a, 16 * z.half);
     memcpy(all, s.levels, 16 * z.codeword);
-    MUST(dequmlo_fold_levels(widths, n, k, base, length, s.challenges, 2 * n, all, 2 * z.levels, half, 2 * z.half, trees, z.trees, roots, z.roots) == 0);
+    MUST(dequmlo_fold_levels(s.key, widths, n, k, base, length, s.challenges, 2 * n, all, 2 * z.levels, half, 2 * z.half, trees, z.trees, roots, z.roots) == 0);
     MUST(memcmp(all, s.levels, 16 * z.levels) == 0 && memcmp(trees, s.trees, z.trees) == 0 && memcmp(roots, s.roots, z.roots) == 0);
     for (size_t i = 0; i < 2 * z.half; i++) MUST(half[i] == 0);
     for (size_t l = 0; l <= n; l++) {
         size_t words = level_words(n, k, l), size = tree_bytes(widths, words);
         memset(trees, 0x5a, z.trees);
-        MUST(dequmlo_level_tree(widths, n, k, l, base, length, s.levels + 2 * first, 2 * words, trees, size) == 0);
+        MUST(dequmlo_level_tree(s.key, widths, n, k, l, base, length, s.levels + 2 * first, 2 * words, trees, size) == 0);
         MUST(memcmp(trees, s.trees + first_tree, size) == 0);
         first += words, first_tree += size;
     }
@@ -271,21 +292,60 @@ static void levels(uint32_t widths, size_t n, size_t k) {
 
 /* The records of a seal are accepted under its own set. Where the sets' widths differ, the other one refuses them: the query record by the width of its
    first group, the tail record by its group count. */
-static void records(uint32_t widths, size_t n, size_t k, size_t position) {
-    seal s = sealed(widths, n, k, position, 1);
+static void records(dequmlo_key key, uint32_t widths, size_t n, size_t k, size_t position) {
+    seal s = sealed_under(key, widths, n, k, position, 1);
     const uint8_t *base = (const uint8_t *)s.base, *last = s.roots + 32 * n;
     size_t length = strlen(s.base), query = query_bytes(widths, n, k), tail = tail_bytes(widths, k), roots = 32 * (n + 1);
     static uint8_t first[DEQUMLO_MESSAGE_BUFFER], second[DEQUMLO_MESSAGE_BUFFER];
     for (uint32_t set = 0; set < 2; set++) {
         uint32_t own = set == widths || n + k < 4;
-        dequmlo_checked c = dequmlo_check_query(base, length, set, n, k, position, s.challenges, 2 * n, s.roots, roots, s.query, query);
+        dequmlo_checked c = dequmlo_check_query(s.key, base, length, set, n, k, position, s.challenges, 2 * n, s.roots, roots, s.query, query);
         MUST(c.number == (own ? 0u : 16u) && c.level == 0);
-        MUST(dequmlo_check_tail(base, length, set, n, k, last, 32, s.claim, s.tail, tail) == (set == widths || k < 4 ? 0u : 27u));
-        dequmlo_compared same = dequmlo_compare(base, length, set, n, k, position, s.challenges, 2 * n, s.roots, roots, s.query, query, s.query,
+        MUST(dequmlo_check_tail(s.key, base, length, set, n, k, last, 32, s.claim, s.tail, tail) == (set == widths || k < 4 ? 0u : 27u));
+        dequmlo_compared same = dequmlo_compare(s.key, base, length, set, n, k, position, s.challenges, 2 * n, s.roots, roots, s.query, query, s.query,
                                                 query, first, sizeof first, second, sizeof second);
         MUST(same.number == (own ? 33u : 32u) && same.first == 0 && same.second == 0);
     }
     unsealed(&s);
+}
+
+/* Whether the records of a seal are accepted under a key: else 18 at level 0 says so, 30 of the tail, and 32 of two records. */
+static void under(const seal *s, dequmlo_key key, int accepted) {
+    const uint8_t *base = (const uint8_t *)s->base, *last = s->roots + 32 * s->n;
+    size_t n = s->n, k = s->k, length = strlen(s->base), query = query_bytes(s->widths, n, k), tail = tail_bytes(s->widths, k), roots = 32 * (n + 1);
+    static uint8_t first[DEQUMLO_MESSAGE_BUFFER], second[DEQUMLO_MESSAGE_BUFFER];
+    dequmlo_checked c = dequmlo_check_query(key, base, length, s->widths, n, k, s->position, s->challenges, 2 * n, s->roots, roots, s->query, query);
+    MUST(c.number == (accepted ? 0u : 18u) && c.level == 0);
+    MUST(dequmlo_check_tail(key, base, length, s->widths, n, k, last, 32, s->claim, s->tail, tail) == (accepted ? 0u : 30u));
+    dequmlo_compared same = dequmlo_compare(key, base, length, s->widths, n, k, s->position, s->challenges, 2 * n, s->roots, roots, s->query, query,
+                                            s->query, query, first, sizeof first, second, sizeof second);
+    MUST(same.number == (accepted ? 33u : 32u) && same.first == 0 && same.second == 0);
+}
+
+/* A seal under a key, under others and under none. The number before the bytes is 0 for none, whatever the bytes are, and any other for a key: also one
+   that a byte or a bit of it would take for none. A key of zeros is a key. Table, gammas, levels and claim are the same under every key. */
+static void keys(uint32_t widths, size_t n, size_t k, size_t position) {
+    static const uint32_t yes[] = {1, 2, 256, 65536, 0x80000000, UINT32_MAX};
+    dequmlo_key key = key_of(3), other = key, zeros = no_key(), none = no_key(), bare = zeros;
+    memset(zeros.bytes, 0, 32);
+    bare = zeros, zeros.keyed = 1;
+    seal keyed = sealed_under(key, widths, n, k, position, 1), plain = sealed(widths, n, k, position, 1);
+    for (size_t i = 0; i < sizeof yes / sizeof *yes; i++) {
+        key.keyed = yes[i];
+        under(&keyed, key, 1);
+        under(&plain, key, 0);
+    }
+    for (size_t i = 0; i < 32; i++) {
+        other = key;
+        other.bytes[i] ^= (uint8_t)(1u << i % 8);
+        under(&keyed, other, 0);
+    }
+    key.keyed = 0;
+    under(&keyed, key, 0), under(&keyed, none, 0), under(&keyed, bare, 0), under(&keyed, zeros, 0);
+    under(&plain, key, 1), under(&plain, none, 1), under(&plain, bare, 1), under(&plain, zeros, 0);
+    MUST(memcmp(keyed.gammas, plain.gammas, 16 * k * n) == 0 && memcmp(keyed.levels, plain.levels, 16 * levels_words(n, k)) == 0);
+    for (size_t l = 0; l <= n; l++) MUST(memcmp(keyed.roots + 32 * l, plain.roots + 32 * l, 32) != 0);
+    unsealed(&keyed), unsealed(&plain);
 }
 
 /* z = (2), point (2), rb[0] = 1, rb[1] = 4, others 0: indicator 7. Words (5), empty point: s_0 = s_2 = 1, others 0. */
@@ -387,31 +447,41 @@ static void parameters(void) {
     for (size_t i = 0; i < sizeof yes / sizeof *yes; i++) profile(dequmlo_unnamed_parameters(yes[i]), 1, 40, "magnetar/pcs/default");
 }
 
+/* All that is done with trees, under a key or none. */
+static void under_a_key(dequmlo_key key, uint32_t widths) {
+    trees(key);
+    code(key, widths);
+    levels(key, widths, 1, 0);
+    levels(key, widths, 1, 4);
+    levels(key, widths, 3, 1);
+    levels(key, widths, 6, 2);
+    levels(key, widths, 11, 0);
+    parts(key, widths, 1, 0, 1);
+    parts(key, widths, 3, 1, 3);
+    parts(key, widths, 6, 2, 5);
+    parts(key, widths, 8, 3, 64);
+    parts(key, widths, 8, 3, 100000);
+    level_parts(key, widths, 1, 0, 1);
+    level_parts(key, widths, 3, 1, 3);
+    level_parts(key, widths, 8, 4, 100);
+    records(key, widths, 2, 1, 5);
+    records(key, widths, 3, 1, 5);
+    records(key, widths, 4, 2, 37);
+    records(key, widths, 6, 4, 1000);
+}
+
 int main(void) {
     hash();
+    modes();
     tree_widths();
-    trees();
     domains();
     for (uint32_t widths = DEQUMLO_WIDTHS_PRESENT; widths <= DEQUMLO_WIDTHS_WIDE; widths++) {
         sizes(widths);
-        code(widths);
-        levels(widths, 1, 0);
-        levels(widths, 1, 4);
-        levels(widths, 3, 1);
-        levels(widths, 6, 2);
-        levels(widths, 11, 0);
-        parts(widths, 1, 0, 1);
-        parts(widths, 3, 1, 3);
-        parts(widths, 6, 2, 5);
-        parts(widths, 8, 3, 64);
-        parts(widths, 8, 3, 100000);
-        level_parts(widths, 1, 0, 1);
-        level_parts(widths, 3, 1, 3);
-        level_parts(widths, 8, 4, 100);
-        records(widths, 2, 1, 5);
-        records(widths, 3, 1, 5);
-        records(widths, 4, 2, 37);
-        records(widths, 6, 4, 1000);
+        under_a_key(no_key(), widths);
+        under_a_key(key_of(7), widths);
+        keys(widths, 1, 0, 1);
+        keys(widths, 4, 2, 37);
+        keys(widths, 6, 4, 1000);
     }
     for (size_t k = 0; k <= MOST_K; k++)
         for (size_t n = 1; n <= MOST_N; n++) folds_at_any_variable(n, k);

@@ -25,7 +25,8 @@ int main(void) {
     if (table == NULL || gammas == NULL || codeword == NULL || tree == NULL) return 1;
     for (size_t i = 0; i < sizes.table; i++) table[2 * i] = i;
 
-    uint32_t number = dequmlo_commit(DEQUMLO_WIDTHS_PRESENT, N, K, (const uint8_t *)base, strlen(base), table, 2 * sizes.table, gammas,
+    dequmlo_key none = {0, {0}}; /* with a key of 32 bytes nobody without it can make this root */
+    uint32_t number = dequmlo_commit(none, DEQUMLO_WIDTHS_PRESENT, N, K, (const uint8_t *)base, strlen(base), table, 2 * sizes.table, gammas,
                                      2 * sizes.gammas, codeword, 2 * sizes.codeword, coordinates, N, tree, sizes.tree);
     if (number != 0) {
         fprintf(stderr, "refused: %u\n", (unsigned)number); /* docs/REFUSALS.md */

@@ -1,5 +1,5 @@
 /* A seal made through the library, for the tests: a table committed, folded by challenges, with its trees, roots and records. The sizes are
-   computed here once more, from docs/LINKING.md's formulas. A set of widths comes before n. */
+   computed here once more, from docs/LINKING.md's formulas. A key comes first, a set of widths before n. */
 #ifndef FIXTURE_H
 #define FIXTURE_H
 
@@ -9,6 +9,7 @@
 #include <string.h>
 
 typedef struct {
+    dequmlo_key key;
     uint32_t widths;
     size_t n, k;
     const char *base;
@@ -81,6 +82,24 @@ static inline void *room(size_t bytes) {
     return p;
 }
 
+/* ---- keys */
+
+/* None: the bytes count for nothing, so they are not zeros. */
+static inline dequmlo_key no_key(void) {
+    dequmlo_key key;
+    key.keyed = 0;
+    memset(key.bytes, 0xee, sizeof key.bytes);
+    return key;
+}
+
+/* A key whose bytes look random. */
+static inline dequmlo_key key_of(uint64_t seed) {
+    dequmlo_key key;
+    key.keyed = 1;
+    for (size_t i = 0; i < sizeof key.bytes; i++) key.bytes[i] = (uint8_t)drawn(&seed);
+    return key;
+}
+
 /* ---- lists of coordinates */
 
 /* Whether a list of n is what a fold at `var` leaves of one that was `before`: without its entry, and 0 after its end. */
@@ -103,13 +122,13 @@ static inline void next_level(seal *s, size_t l, size_t *list, size_t first, siz
     int length = snprintf(domain, sizeof domain, "%s/level/%zu", s->base, l + 1);
     uint8_t *tree = s->trees + first_tree + tree_bytes(s->widths, from);
     size_t width = dequmlo_fold_tree_width(s->widths, to), size = tree_bytes(s->widths, to);
-    MUST(dequmlo_tree((const uint8_t *)domain, (size_t)length, to, width, next, 2 * to, tree, size) == 0);
+    MUST(dequmlo_tree(s->key, (const uint8_t *)domain, (size_t)length, to, width, next, 2 * to, tree, size) == 0);
     memcpy(s->roots + 32 * (l + 1), tree + size - 32, 32);
 }
 
-static inline seal sealed(uint32_t widths, size_t n, size_t k, size_t position, uint64_t seed) {
+static inline seal sealed_under(dequmlo_key key, uint32_t widths, size_t n, size_t k, size_t position, uint64_t seed) {
     seal s;
-    s.widths = widths, s.n = n, s.k = k, s.base = "dequmlo/test", s.position = position;
+    s.key = key, s.widths = widths, s.n = n, s.k = k, s.base = "dequmlo/test", s.position = position;
     s.table = (uint64_t *)room(16 << n);
     s.gammas = (uint64_t *)room(16 * k * n);
     s.levels = (uint64_t *)room(16 * levels_words(n, k));
@@ -122,8 +141,8 @@ static inline seal sealed(uint32_t widths, size_t n, size_t k, size_t position, 
     for (size_t i = 0; i < (size_t)2 << n; i++) s.table[i] = drawn(&seed);
     for (size_t i = 0; i < 2 * n; i++) s.challenges[i] = drawn(&seed);
     size_t words = level_words(n, k, 0), size = tree_bytes(widths, words);
-    MUST(dequmlo_commit(widths, n, k, (const uint8_t *)s.base, strlen(s.base), s.table, (size_t)2 << n, s.gammas, 2 * k * n, s.levels, 2 * words,
-                        s.coordinates, n, s.trees, size) == 0);
+    MUST(dequmlo_commit(key, widths, n, k, (const uint8_t *)s.base, strlen(s.base), s.table, (size_t)2 << n, s.gammas, 2 * k * n, s.levels,
+                        2 * words, s.coordinates, n, s.trees, size) == 0);
     memcpy(s.roots, s.trees + size - 32, 32);
     for (size_t i = 0; i < n; i++) MUST(s.coordinates[i] == i);
     size_t first = 0, first_tree = 0, *list = (size_t *)room(n * sizeof(size_t));
@@ -141,6 +160,11 @@ static inline seal sealed(uint32_t widths, size_t n, size_t k, size_t position, 
     MUST(dequmlo_build_query(s.query, query_bytes(widths, n, k), s.levels, 2 * levels_words(n, k), s.trees, trees_bytes(widths, n, k), widths, n, k,
                              position) == 0);
     return s;
+}
+
+/* The same under no key. */
+static inline seal sealed(uint32_t widths, size_t n, size_t k, size_t position, uint64_t seed) {
+    return sealed_under(no_key(), widths, n, k, position, seed);
 }
 
 static inline void unsealed(seal *s) {

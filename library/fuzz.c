@@ -118,7 +118,7 @@ static void compared(const seal *s, const lent *shown, int is_same, side page_at
     static const uint8_t before[ROOM] = {1, 2, 3};
     size_t n = s->n;
     lent first = lend(before, ROOM, page_at), second = lend(before, ROOM, page_at);
-    dequmlo_compared c = dequmlo_compare((const uint8_t *)s->base, strlen(s->base), s->widths, n, s->k, s->position, s->challenges, 2 * n, s->roots,
+    dequmlo_compared c = dequmlo_compare(s->key, (const uint8_t *)s->base, strlen(s->base), s->widths, n, s->k, s->position, s->challenges, 2 * n, s->roots,
                                          32 * (n + 1), s->query, query_bytes(s->widths, n, s->k), shown->bytes, shown->size, first.bytes, ROOM,
                                          second.bytes, ROOM);
     MUST(c.number == (is_same ? 33u : 32u) && c.first == 0 && c.second == 0);
@@ -134,7 +134,7 @@ static void query(const seal *s, uint8_t *copy, side page_at) {
     size_t shown_size = below(4) == 0 ? reshaped_query(copy, size, n) : damage(copy, size);
     int is_same = same(copy, shown_size, s->query, size);
     lent shown = lend(copy, shown_size, page_at);
-    dequmlo_checked c = dequmlo_check_query((const uint8_t *)s->base, strlen(s->base), s->widths, n, s->k, s->position, s->challenges, 2 * n, s->roots,
+    dequmlo_checked c = dequmlo_check_query(s->key, (const uint8_t *)s->base, strlen(s->base), s->widths, n, s->k, s->position, s->challenges, 2 * n, s->roots,
                                             32 * (n + 1), shown.bytes, shown.size);
     MUST((c.number == 0) == is_same);
     MUST(c.number == 0 || (c.number >= 14 && c.number <= 26 && c.number != 20)); /* 20 is retired */
@@ -150,7 +150,7 @@ static void tail(const seal *s, uint8_t *copy, side page_at) {
     memcpy(copy, s->tail, size);
     size_t shown_size = below(4) == 0 ? reshaped_tail(copy, size) : damage(copy, size);
     lent shown = lend(copy, shown_size, page_at);
-    uint32_t number = dequmlo_check_tail((const uint8_t *)s->base, strlen(s->base), s->widths, s->n, s->k, s->roots + 32 * s->n, 32, s->claim,
+    uint32_t number = dequmlo_check_tail(s->key, (const uint8_t *)s->base, strlen(s->base), s->widths, s->n, s->k, s->roots + 32 * s->n, 32, s->claim,
                                          shown.bytes, shown.size);
     MUST((number == 0) == same(copy, shown_size, s->tail, size));
     MUST(number == 0 || number == 14 || (number >= 27 && number <= 31));
@@ -236,13 +236,13 @@ static void fold(const seal *s, side page_at) {
 
 static dequmlo_checked checked(const seal *s) {
     size_t n = s->n;
-    dequmlo_checked c = dequmlo_check_query((const uint8_t *)s->base, strlen(s->base), s->widths, n, s->k, s->position, s->challenges, 2 * n, s->roots,
+    dequmlo_checked c = dequmlo_check_query(s->key, (const uint8_t *)s->base, strlen(s->base), s->widths, n, s->k, s->position, s->challenges, 2 * n, s->roots,
                                             32 * (n + 1), s->query, query_bytes(s->widths, n, s->k));
     answers[c.number]++;
     return c;
 }
 
-/* A sound record under another challenge, another root or another claim: the answer is known to the level. */
+/* A sound record under another challenge, another root, another key or another claim: the answer is known to the level. */
 static void elsewhere(seal *s) {
     size_t n = s->n;
     MUST(checked(s).number == 0);
@@ -260,8 +260,13 @@ static void elsewhere(seal *s) {
         MUST(l == 0 ? c.number == 18 && c.level == 0 : c.number == 24 && c.level == l - 1);
         *byte ^= 1;
     }
+    dequmlo_key kept = s->key;
+    s->key.keyed = 1, s->key.bytes[below(32)] ^= (uint8_t)(1u << below(8));
+    dequmlo_checked under_another = checked(s);
+    MUST(under_another.number == 18 && under_another.level == 0);
+    s->key = kept;
     dequmlo_word claim = {s->claim.lo ^ 1, s->claim.hi};
-    uint32_t number = dequmlo_check_tail((const uint8_t *)s->base, strlen(s->base), s->widths, n, s->k, s->roots + 32 * n, 32, claim, s->tail,
+    uint32_t number = dequmlo_check_tail(s->key, (const uint8_t *)s->base, strlen(s->base), s->widths, n, s->k, s->roots + 32 * n, 32, claim, s->tail,
                                          tail_bytes(s->widths, s->k));
     MUST(number == 31);
     answers[number]++;
@@ -271,12 +276,13 @@ int main(int count, char **words) {
     uint64_t seed = count > 1 ? strtoull(words[1], NULL, 10) : 1;
     size_t rounds = count > 2 ? strtoull(words[2], NULL, 10) : 1500;
     static const struct {
-        uint32_t widths;
+        uint32_t keyed, widths;
         size_t n, k, position;
-    } shapes[] = {{0, 1, 0, 1}, {0, 1, 4, 31}, {0, 2, 1, 5}, {0, 3, 3, 40}, {0, 5, 2, 77}, {0, 8, 2, 1000}, {1, 1, 4, 31}, {1, 3, 3, 40}, {1, 5, 2, 77}};
+    } shapes[] = {{0, 0, 1, 0, 1}, {0, 0, 1, 4, 31}, {0, 0, 2, 1, 5},  {0, 0, 3, 3, 40}, {0, 0, 5, 2, 77}, {0, 0, 8, 2, 1000},
+                  {0, 1, 1, 4, 31}, {0, 1, 3, 3, 40}, {0, 1, 5, 2, 77}, {1, 0, 5, 2, 77}, {1, 1, 3, 3, 40}};
     for (size_t i = 0; i < sizeof shapes / sizeof *shapes; i++) {
         size_t n = shapes[i].n, k = shapes[i].k;
-        seal s = sealed(shapes[i].widths, n, k, shapes[i].position, seed + i);
+        seal s = sealed_under(shapes[i].keyed ? key_of(seed) : no_key(), shapes[i].widths, n, k, shapes[i].position, seed + i);
         state = seed * 1000 + i;
         elsewhere(&s);
         uint8_t *copy = (uint8_t *)room(query_bytes(s.widths, n, k) + tail_bytes(s.widths, k) + 64);

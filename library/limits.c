@@ -14,6 +14,7 @@ static const size_t ROOM = (size_t)1 << 31;
 static uint8_t *ends[2][PLACES]; /* of what is written, and of what may only be read */
 static int refusing;
 static uint32_t widths; /* the set of the rows that are run */
+static dequmlo_key key; /* their key: none, or one */
 
 static uint8_t *bytes_of(int place, size_t size) { return ends[refusing][place] - size; }
 static uint64_t *halves_of(int place, size_t words) { return (uint64_t *)(void *)bytes_of(place, 16 * words); }
@@ -104,12 +105,18 @@ static uint32_t digest(const size_t *v) {
     return digested(d);
 }
 
+/* bytes of the key, bytes */
+static uint32_t keyed_digest(const size_t *v) { return digested(dequmlo_keyed_digest(BYTES(DOMAIN, v[0]), BYTES(INPUT, v[1]))); }
+
+/* bytes of the context, bytes of the material */
+static uint32_t derive_key(const size_t *v) { return digested(dequmlo_derive_key(BYTES(BLOCKS, v[0]), BYTES(INPUT, v[1]))); }
+
 /* n, k, bytes of the base domain, numbers of the list */
 static uint32_t commit(const size_t *v) {
     size_t n = v[0], k = v[1], words = level_words(n, k, 0), *list = list_of(v[3], 7);
     uint64_t *codeword = halves_of(LEVELS, levels_words(n, k));
     uint8_t *tree = bytes_of(TREES, trees_bytes(widths, n, k));
-    uint32_t number = dequmlo_commit(widths, n, k, BYTES(DOMAIN, v[2]), WORDS(TABLE, (size_t)1 << n), WORDS(GAMMAS, k * n), codeword, 2 * words, list, v[3],
+    uint32_t number = dequmlo_commit(key, widths, n, k, BYTES(DOMAIN, v[2]), WORDS(TABLE, (size_t)1 << n), WORDS(GAMMAS, k * n), codeword, 2 * words, list, v[3],
                                      tree, tree_bytes(widths, words));
     if (number == 0) MUST(memcmp(codeword, halves_of(TABLE, (size_t)1 << n), (size_t)16 << n) == 0);
     for (size_t i = 0; number == 0 && i < n; i++) MUST(list[i] == i);
@@ -138,7 +145,7 @@ static size_t bytes_of_tree(size_t count, size_t width) { return width == 0 || c
 /* bytes of the domain, count, width. Over the largest codeword. */
 static uint32_t tree(const size_t *v) {
     const uint64_t *values = halves_of(LEVELS, levels_words(20, 4));
-    return dequmlo_tree(BYTES(DOMAIN, v[0]), v[1], v[2], values, 2 * v[1], BYTES(TREE, bytes_of_tree(v[1], v[2])));
+    return dequmlo_tree(key, BYTES(DOMAIN, v[0]), v[1], v[2], values, 2 * v[1], BYTES(TREE, bytes_of_tree(v[1], v[2])));
 }
 
 /* n, k, block. The same block as in the codeword that was committed. */
@@ -169,7 +176,7 @@ static uint32_t fold_part(const size_t *v) {
 /* bytes of the domain, count, width, first group, groups. The same leaves as in the tree above. */
 static uint32_t tree_leaves(const size_t *v) {
     const uint64_t *values = halves_of(LEVELS, levels_words(20, 4));
-    uint32_t number = dequmlo_tree_leaves(BYTES(DOMAIN, v[0]), v[1], v[2], v[3], values, 2 * v[1], BYTES(LEVEL_TREE, 32 * v[4]));
+    uint32_t number = dequmlo_tree_leaves(key, BYTES(DOMAIN, v[0]), v[1], v[2], v[3], values, 2 * v[1], BYTES(LEVEL_TREE, 32 * v[4]));
     if (number == 0) MUST(memcmp(bytes_of(LEVEL_TREE, 32 * v[4]), bytes_of(TREE, bytes_of_tree(v[1], v[2])) + 32 * v[3], 32 * v[4]) == 0);
     return number;
 }
@@ -177,7 +184,7 @@ static uint32_t tree_leaves(const size_t *v) {
 /* bytes of the domain, level, parents. The parents of its first leaves stand after all of them. */
 static uint32_t tree_parents(const size_t *v) {
     const uint8_t *leaves = bytes_of(TREE, bytes_of_tree((size_t)1 << 24, 512));
-    uint32_t number = dequmlo_tree_parents(BYTES(DOMAIN, v[0]), v[1], leaves, 64 * v[2], BYTES(LEVEL_TREE, 32 * v[2]));
+    uint32_t number = dequmlo_tree_parents(key, BYTES(DOMAIN, v[0]), v[1], leaves, 64 * v[2], BYTES(LEVEL_TREE, 32 * v[2]));
     if (number == 0 && v[1] == 0) MUST(memcmp(bytes_of(LEVEL_TREE, 32 * v[2]), leaves + ((size_t)32 << 15), 32 * v[2]) == 0);
     return number;
 }
@@ -191,7 +198,7 @@ static uint32_t open(const size_t *v) {
 static uint32_t root_of_path(const size_t *v) {
     size_t first = v[2] == 0 ? 0 : v[3] / v[2] * v[2];
     const uint64_t *group = halves_of(LEVELS, levels_words(20, 4)) + 2 * first;
-    dequmlo_digested d = dequmlo_root_of_path(BYTES(DOMAIN, v[0]), v[1], v[2], v[3], group, 2 * v[2], BYTES(PATH, 32 * v[4]));
+    dequmlo_digested d = dequmlo_root_of_path(key, BYTES(DOMAIN, v[0]), v[1], v[2], v[3], group, 2 * v[2], BYTES(PATH, 32 * v[4]));
     if (d.number == 0) MUST(memcmp(d.bytes, bytes_of(TREE, 32), 32) == 0);
     return digested(d);
 }
@@ -217,7 +224,7 @@ static uint32_t level_domain(const size_t *v) {
 /* bytes of the base domain, n, k, challenges. All levels, their trees and roots, from the codeword that was committed. */
 static uint32_t fold_levels(const size_t *v) {
     size_t n = v[1], k = v[2];
-    return dequmlo_fold_levels(widths, n, k, BYTES(DOMAIN, v[0]), WORDS(CHALLENGES, v[3]), WORDS(LEVELS, levels_words(n, k)),
+    return dequmlo_fold_levels(key, widths, n, k, BYTES(DOMAIN, v[0]), WORDS(CHALLENGES, v[3]), WORDS(LEVELS, levels_words(n, k)),
                                WORDS(HALF, level_words(n, k, 0) / 2), BYTES(TREES, trees_bytes(widths, n, k)), BYTES(ROOTS, 32 * (n + 1)));
 }
 
@@ -229,7 +236,7 @@ static size_t bytes_before(size_t n, size_t k, size_t l) { return l > n ? 0 : tr
 static uint32_t level_tree(const size_t *v) {
     size_t n = v[1], k = v[2], l = v[3], words = level_words(n, k, l), size = tree_bytes(widths, words);
     const uint64_t *level = halves_of(LEVELS, levels_words(n, k)) + 2 * words_before(n, k, l);
-    uint32_t number = dequmlo_level_tree(widths, n, k, l, BYTES(DOMAIN, v[0]), level, 2 * words, BYTES(LEVEL_TREE, size));
+    uint32_t number = dequmlo_level_tree(key, widths, n, k, l, BYTES(DOMAIN, v[0]), level, 2 * words, BYTES(LEVEL_TREE, size));
     if (number == 0) MUST(memcmp(bytes_of(LEVEL_TREE, size), bytes_of(TREES, trees_bytes(widths, n, k)) + bytes_before(n, k, l), size) == 0);
     return number;
 }
@@ -252,7 +259,7 @@ static uint32_t next_part(const size_t *v) {
 static uint32_t level_leaves(const size_t *v) {
     size_t n = v[1], k = v[2], l = v[3], words = level_words(n, k, l);
     const uint64_t *level = halves_of(LEVELS, levels_words(n, k)) + 2 * words_before(n, k, l);
-    uint32_t number = dequmlo_level_leaves(widths, n, k, l, BYTES(DOMAIN, v[0]), v[4], level, 2 * words, BYTES(LEVEL_TREE, 32 * v[5]));
+    uint32_t number = dequmlo_level_leaves(key, widths, n, k, l, BYTES(DOMAIN, v[0]), v[4], level, 2 * words, BYTES(LEVEL_TREE, 32 * v[5]));
     if (number == 0)
         MUST(memcmp(bytes_of(LEVEL_TREE, 32 * v[5]), bytes_of(TREES, trees_bytes(widths, n, k)) + bytes_before(n, k, l) + 32 * v[4], 32 * v[5]) == 0);
     return number;
@@ -261,7 +268,7 @@ static uint32_t level_leaves(const size_t *v) {
 /* bytes of the base domain, n, k, level, parents. Those of level 0's leaves stand after all of them. */
 static uint32_t level_parents(const size_t *v) {
     const uint8_t *leaves = bytes_of(TREES, trees_bytes(widths, 20, 4));
-    uint32_t number = dequmlo_level_parents(v[1], v[2], v[3], BYTES(DOMAIN, v[0]), 0, leaves, 64 * v[4], BYTES(LEVEL_TREE, 32 * v[4]));
+    uint32_t number = dequmlo_level_parents(key, v[1], v[2], v[3], BYTES(DOMAIN, v[0]), 0, leaves, 64 * v[4], BYTES(LEVEL_TREE, 32 * v[4]));
     if (number == 0 && v[3] == 0) MUST(memcmp(bytes_of(LEVEL_TREE, 32 * v[4]), leaves + ((size_t)32 << 21), 32 * v[4]) == 0);
     return number;
 }
@@ -276,7 +283,7 @@ static uint32_t build_query(const size_t *v) {
 /* bytes of the base domain, n, k, position, challenges, roots */
 static uint32_t check_query(const size_t *v) {
     size_t n = v[1], k = v[2];
-    dequmlo_checked c = dequmlo_check_query(BYTES(DOMAIN, v[0]), widths, n, k, v[3], WORDS(CHALLENGES, v[4]), BYTES(ROOTS, 32 * v[5]),
+    dequmlo_checked c = dequmlo_check_query(key, BYTES(DOMAIN, v[0]), widths, n, k, v[3], WORDS(CHALLENGES, v[4]), BYTES(ROOTS, 32 * v[5]),
                                             BYTES(QUERY, query_bytes(widths, n, k)));
     MUST(c.level == 0);
     return c.number;
@@ -292,14 +299,14 @@ static uint32_t build_tail(const size_t *v) {
 static uint32_t check_tail(const size_t *v) {
     const uint64_t *last_level = halves_of(LEVELS, (size_t)1 << v[2]);
     dequmlo_word claim = {last_level[0], last_level[1]};
-    return dequmlo_check_tail(BYTES(DOMAIN, v[0]), widths, v[1], v[2], BYTES(ROOTS, v[3]), claim, BYTES(TAIL, tail_bytes(widths, v[2])));
+    return dequmlo_check_tail(key, BYTES(DOMAIN, v[0]), widths, v[1], v[2], BYTES(ROOTS, v[3]), claim, BYTES(TAIL, tail_bytes(widths, v[2])));
 }
 
 /* bytes of the base domain, n, k, position, bytes of the first and of the second message's buffer. The query record with itself. */
 static uint32_t compare(const size_t *v) {
     size_t n = v[1], k = v[2];
     size_t size = query_bytes(widths, n, k);
-    dequmlo_compared c = dequmlo_compare(BYTES(DOMAIN, v[0]), widths, n, k, v[3], WORDS(CHALLENGES, n), BYTES(ROOTS, 32 * (n + 1)), BYTES(QUERY, size),
+    dequmlo_compared c = dequmlo_compare(key, BYTES(DOMAIN, v[0]), widths, n, k, v[3], WORDS(CHALLENGES, n), BYTES(ROOTS, 32 * (n + 1)), BYTES(QUERY, size),
                                          BYTES(QUERY, size), BYTES(FIRST, v[4]), BYTES(SECOND, v[5]));
     MUST(c.first == 0 && c.second == 0);
     return c.number;
@@ -400,6 +407,20 @@ static const row rows[] = {
     {CALL(digest), {0}, 0},
     {CALL(digest), {MOST}, 0},
     {CALL(digest), {MOST + 1}, 13},
+
+    {CALL(keyed_digest), {32, 0}, 0},
+    {CALL(keyed_digest), {32, MOST}, 0},
+    {CALL(keyed_digest), {32, MOST + 1}, 13},
+    {CALL(keyed_digest), {31, 0}, 5},
+    {CALL(keyed_digest), {33, MOST}, 5},
+    {CALL(keyed_digest), {31, MOST + 1}, 5},
+    {CALL(keyed_digest), {0, MOST + 1}, 5},
+
+    {CALL(derive_key), {0, 0}, 0},
+    {CALL(derive_key), {MOST, MOST}, 0},
+    {CALL(derive_key), {MOST + 1, 0}, 13},
+    {CALL(derive_key), {0, MOST + 1}, 13},
+    {CALL(derive_key), {MOST + 1, MOST + 1}, 13},
 
     {CALL(commit), {0, 0, 0, 0}, 0},
     {CALL(commit), {0, 4, 200, 0}, 0},
@@ -699,6 +720,30 @@ static const row wide_rows[] = {
     {CALL(commit), {20, 5, 200, 20}, 4},
 };
 
+/* Under a key, from the same codeword: its trees are made again, and what is refused is refused as without one. */
+static const row keyed_rows[] = {
+    {CALL(fold_levels), {200, 20, 4, 20}, 0},
+    {CALL(fold_levels), {200, 20, 4, 21}, 5},
+    {CALL(fold_levels), {201, 20, 4, 20}, 7},
+
+    {CALL(level_tree), {200, 20, 4, 18}, 0},
+    {CALL(level_leaves), {200, 20, 4, 0, MOST / 8 - 1, 1}, 0},
+    {CALL(level_parents), {200, 20, 4, 0, 1}, 0},
+
+    {CALL(tree), {255, MOST, 512}, 0},
+    {CALL(tree), {256, MOST, 512}, 7},
+    {CALL(tree_leaves), {255, MOST, 512, LAST / 512, 1}, 0},
+    {CALL(tree_parents), {255, 0, 1}, 0},
+
+    {CALL(build_query), {20, 4, LAST}, 0},
+    {CALL(check_query), {200, 20, 4, LAST, 20, 21}, 0},
+    {CALL(check_query), {201, 20, 4, LAST, 20, 21}, 7},
+    {CALL(build_tail), {20, 4}, 0},
+    {CALL(check_tail), {200, 20, 4, 32}, 0},
+    {CALL(check_tail), {200, 20, 4, 33}, 5},
+    {CALL(compare), {200, 20, 4, LAST, ROOM_OF_MESSAGE, ROOM_OF_MESSAGE}, 33},
+};
+
 /* Under a number that is no set's: 4, also where all else is right, or where a length or the base domain is wrong too. */
 static const row unnamed_rows[] = {
     {CALL(sizes), {20, 4}, 4},
@@ -757,6 +802,8 @@ int main(void) {
     size_t calls = run(DEQUMLO_WIDTHS_PRESENT, TABLE_OF(rows));
     calls += run(DEQUMLO_WIDTHS_WIDE, TABLE_OF(wide_rows));
     calls += run(2, TABLE_OF(unnamed_rows)) + run(UINT32_MAX, TABLE_OF(unnamed_rows));
+    key = key_of(5);
+    calls += run(DEQUMLO_WIDTHS_PRESENT, TABLE_OF(keyed_rows));
     printf("limits: %zu calls at the limit or one past it, each answer as it must be\n", calls);
     return 0;
 }

@@ -1,4 +1,4 @@
-/* How much stack each function takes, under either set of widths: it is run on a painted stack, and the paint that is left is counted. Fails above
+/* How much stack each function takes, under a key and either set of widths: it is run on a painted stack, and the paint that is left is counted. Fails above
    96 KiB. */
 #include "fixture.h"
 #include <pthread.h>
@@ -16,9 +16,11 @@ static uint8_t bytes[1 << 16];
 
 static void nothing(void) {}
 static void digest(void) { dequmlo_digest(bytes, sizeof bytes); }
+static void keyed_digest(void) { MUST(dequmlo_keyed_digest(bytes, 32, bytes, sizeof bytes).number == 0); }
+static void derive_key(void) { MUST(dequmlo_derive_key(bytes, sizeof bytes, bytes, sizeof bytes).number == 0); }
 static void commit(void) {
     size_t count = level_words(s.n, s.k, 0);
-    MUST(dequmlo_commit(s.widths, s.n, s.k, BASE, s.table, (size_t)2 << s.n, s.gammas, 2 * s.k * s.n, s.levels, 2 * count, s.coordinates, s.n,
+    MUST(dequmlo_commit(s.key, s.widths, s.n, s.k, BASE, s.table, (size_t)2 << s.n, s.gammas, 2 * s.k * s.n, s.levels, 2 * count, s.coordinates, s.n,
                         s.trees, tree_bytes(s.widths, count)) == 0);
 }
 static void fold(void) {
@@ -29,12 +31,12 @@ static void fold(void) {
 }
 static void fold_levels(void) {
     size_t levels = 2 * levels_words(s.n, s.k);
-    MUST(dequmlo_fold_levels(s.widths, s.n, s.k, BASE, s.challenges, 2 * s.n, s.levels, levels, words, level_words(s.n, s.k, 0), s.trees,
+    MUST(dequmlo_fold_levels(s.key, s.widths, s.n, s.k, BASE, s.challenges, 2 * s.n, s.levels, levels, words, level_words(s.n, s.k, 0), s.trees,
                              trees_bytes(s.widths, s.n, s.k), s.roots, 32 * (s.n + 1)) == 0);
 }
 static void level_domain(void) { MUST(dequmlo_level_domain(BASE, 8, bytes, strlen(s.base) + 8) == 0); }
-static void level_tree(void) { MUST(dequmlo_level_tree(s.widths, s.n, s.k, 0, BASE, s.levels, 2048, bytes, tree_bytes(s.widths, 1024)) == 0); }
-static void tree(void) { MUST(dequmlo_tree(BASE, 1024, 512, s.levels, 2048, bytes, 96) == 0); }
+static void level_tree(void) { MUST(dequmlo_level_tree(s.key, s.widths, s.n, s.k, 0, BASE, s.levels, 2048, bytes, tree_bytes(s.widths, 1024)) == 0); }
+static void tree(void) { MUST(dequmlo_tree(s.key, BASE, 1024, 512, s.levels, 2048, bytes, 96) == 0); }
 static void codeword_block(void) {
     size_t block = (size_t)2 << s.n;
     MUST(dequmlo_codeword_block(s.n, s.k, 1, s.table, block, s.gammas, 2 * s.k * s.n, words, block) == 0);
@@ -46,28 +48,28 @@ static void codeword_half(void) {
 static void fold_part(void) { MUST(dequmlo_fold_part(s.n, s.k, 0, s.claim, 1, s.levels, 2 * level_words(s.n, s.k, 0), words, 1000) == 0); }
 static void gammas(void) { MUST(dequmlo_gammas(s.n, s.k, BASE, s.gammas, 2 * s.k * s.n) == 0); }
 static void next_part(void) { MUST(dequmlo_next_part(s.n, s.k, 0, s.claim, 1, s.levels, 2 * level_words(s.n, s.k, 0), words, 1000) == 0); }
-static void level_leaves(void) { MUST(dequmlo_level_leaves(s.widths, s.n, s.k, 0, BASE, 1, s.levels, 2048, bytes, 32 * 30) == 0); }
-static void level_parents(void) { MUST(dequmlo_level_parents(s.n, s.k, 0, BASE, 0, s.trees, 128 * 32, bytes, 64 * 32) == 0); }
-static void tree_leaves(void) { MUST(dequmlo_tree_leaves(BASE, 1024, 512, 1, s.levels, 2048, bytes, 32) == 0); }
-static void tree_parents(void) { MUST(dequmlo_tree_parents(BASE, 0, s.trees, 128 * 32, bytes, 64 * 32) == 0); }
+static void level_leaves(void) { MUST(dequmlo_level_leaves(s.key, s.widths, s.n, s.k, 0, BASE, 1, s.levels, 2048, bytes, 32 * 30) == 0); }
+static void level_parents(void) { MUST(dequmlo_level_parents(s.key, s.n, s.k, 0, BASE, 0, s.trees, 128 * 32, bytes, 64 * 32) == 0); }
+static void tree_leaves(void) { MUST(dequmlo_tree_leaves(s.key, BASE, 1024, 512, 1, s.levels, 2048, bytes, 32) == 0); }
+static void tree_parents(void) { MUST(dequmlo_tree_parents(s.key, BASE, 0, s.trees, 128 * 32, bytes, 64 * 32) == 0); }
 static void open(void) {
     MUST(dequmlo_open(1024, width_of(s.widths, 1024), 5, s.trees, tree_bytes(s.widths, 1024), bytes, 32 * depth_of(s.widths, 1024)) == 0);
 }
-static void root(void) { MUST(dequmlo_root_of_path(BASE, 1024, 512, 5, s.levels, 1024, s.trees, 32).number == 0); }
+static void root(void) { MUST(dequmlo_root_of_path(s.key, BASE, 1024, 512, 5, s.levels, 1024, s.trees, 32).number == 0); }
 static void build_query(void) {
     MUST(dequmlo_build_query(bytes, query_bytes(s.widths, s.n, s.k), s.levels, 2 * levels_words(s.n, s.k), s.trees, trees_bytes(s.widths, s.n, s.k),
                              s.widths, s.n, s.k, 3) == 0);
 }
-static void check_query(void) { MUST(dequmlo_check_query(BASE, s.widths, s.n, s.k, CHECKED).number == 0); }
+static void check_query(void) { MUST(dequmlo_check_query(s.key, BASE, s.widths, s.n, s.k, CHECKED).number == 0); }
 static void build_tail(void) {
     size_t last = (size_t)1 << s.k;
     MUST(dequmlo_build_tail(bytes, tail_bytes(s.widths, s.k), s.levels + 2 * (levels_words(s.n, s.k) - last), 2 * last,
                             s.trees + trees_bytes(s.widths, s.n, s.k) - tree_bytes(s.widths, last), tree_bytes(s.widths, last), s.widths, s.n,
                             s.k) == 0);
 }
-static void check_tail(void) { MUST(dequmlo_check_tail(BASE, s.widths, s.n, s.k, s.roots + 32 * s.n, 32, s.claim, s.tail, tail_bytes(s.widths, s.k)) == 0); }
+static void check_tail(void) { MUST(dequmlo_check_tail(s.key, BASE, s.widths, s.n, s.k, s.roots + 32 * s.n, 32, s.claim, s.tail, tail_bytes(s.widths, s.k)) == 0); }
 static void compare(void) {
-    MUST(dequmlo_compare(BASE, s.widths, s.n, s.k, CHECKED, s.query, query_bytes(s.widths, s.n, s.k), bytes, DEQUMLO_MESSAGE_BUFFER,
+    MUST(dequmlo_compare(s.key, BASE, s.widths, s.n, s.k, CHECKED, s.query, query_bytes(s.widths, s.n, s.k), bytes, DEQUMLO_MESSAGE_BUFFER,
                          bytes + DEQUMLO_MESSAGE_BUFFER, DEQUMLO_MESSAGE_BUFFER)
              .number == 33);
 }
@@ -118,6 +120,8 @@ static size_t used(const function *f) {
 int main(void) {
     static const function functions[] = {
         {"digest", digest},
+        {"keyed_digest", keyed_digest},
+        {"derive_key", derive_key},
         {"commit", commit},
         {"fold", fold},
         {"fold_levels", fold_levels},
@@ -154,7 +158,7 @@ int main(void) {
     static size_t most[COUNT];
     size_t thread = used(&empty);
     for (uint32_t widths = DEQUMLO_WIDTHS_PRESENT; widths <= DEQUMLO_WIDTHS_WIDE; widths++) {
-        s = sealed(widths, 8, 2, 100, 1);
+        s = sealed_under(key_of(1), widths, 8, 2, 100, 1);
         for (size_t i = 0; i < COUNT; i++) {
             size_t whole = used(&functions[i]), own = whole > thread ? whole - thread : 0;
             if (own > most[i]) most[i] = own;

@@ -1,26 +1,33 @@
 """The model's answer to a request line: the questions of SPECIFICATION 8.4 and definitions by model.py and records.py, apart from the code and the Rust.
 
-An operation gets its arguments, words as their bytes, and how long its outputs are, in halves of words or in bytes. It answers the numbers,
-and what the outputs hold, a list that it is lent for writing first; None for one that holds what it held."""
+An operation gets its arguments, words as their bytes, and how long its outputs are, in halves of words or in bytes; one that hashes trees the key that
+lines before it set, too. It answers the numbers, and what the outputs hold, a list that it is lent for writing first; None for one that holds what it held."""
 import collections
 import struct
 
 import records
 from lines import FILL, listed, shown
-from model import CHUNK_END, CHUNK_START, PARENT, PROFILES, ROOT_NODE, blake3, compress
-from model import derive, encode, equality_table, extension, fold_tree_width, gamma_message, leaf_message, level_domain, mul, node_message, path
-from model import exported, fold as fold_first, ghash, imported, number as number_bytes, part, root_of_path, seal_parameters as parameters_of_seal, shift, tree
+from model import CHUNK_END, CHUNK_START, PARENT, PROFILES, ROOT_NODE, blake3, compress, derive_key as derived_key, digest_in
+from model import derive, encode, equality_table, extension, fold_tree_width, gamma_message, leaf_message, level_domain, mul, path
+from model import exported, fold as fold_first, ghash, imported, number as number_bytes, part, seal_parameters as parameters_of_seal, shift
+from model import leaf_digest as leaf_of, level_trees, node_digest as node_of, root_of_path, tree
 from records import Deposit, first_no, query, query_bytes, tail_bytes
 
 # how many bytes a message of a comparison is given
 MESSAGE_BUFFER = 1024
 
-OPERATIONS = {}
+OPERATIONS, UNDER_KEY = {}, set()
 
 
 def operation(f):
     OPERATIONS[f.__name__] = f
     return f
+
+
+def of_trees(f):
+    """An operation that hashes trees: under a key, or none."""
+    UNDER_KEY.add(f)
+    return operation(f)
 
 
 def answer(reader, letters, line):
@@ -43,7 +50,8 @@ def answer(reader, letters, line):
             arguments.append(reader.bytes(text, letter == "w"))
     assert next(texts, None) is None, line
     lengths = [size // 8 if words else size for words, size in outputs]
-    numbers, held = OPERATIONS[name](*arguments, *lengths)
+    asked = OPERATIONS[name]
+    numbers, held = asked(*arguments, *lengths, **({"key": reader.key} if asked in UNDER_KEY else {}))
     before = lists + [FILL * size for _, size in outputs]
     held = list(held) + [None] * (len(before) - len(held))
     after = [x if y is None else y for x, y in zip(before, held)]
@@ -421,6 +429,33 @@ def pieces(message, first, step, _):
     return [0], [blake3(message)]
 
 
+def key_number(key):
+    return no((5, len(key) == 32))
+
+
+@operation
+def keyed_blake3(key, message, _):
+    number = key_number(key)
+    return refused_digest(number) if number else ([0], [blake3(message, key)])
+
+
+@operation
+def derive_key(context, material, _):
+    return [0], [derived_key(context, material)]
+
+
+@operation
+def keyed_pieces(key, message, first, step, _):
+    """By a hasher that is started with a key; one that is not started is a state of zeros."""
+    number = key_number(key)
+    return [number], [digest_in(((0,) * 8, 0), message) if number else blake3(message, key)]
+
+
+@operation
+def derived_pieces(context, material, first, step, _):
+    return [0], [derived_key(context, material)]
+
+
 @operation
 def fed(message, times, last, _):
     """The message so many times, then a last piece: the number that this gets, and the digest of what was taken."""
@@ -478,12 +513,12 @@ def refused_digest(number):
     return [number], [bytes(32)]
 
 
-@operation
-def leaf_digest(domain, count, width, place, values, _):
+@of_trees
+def leaf_digest(domain, count, width, place, values, _, key):
     number = no((7, len(domain) <= 255), *shaped(count, width), (11, place < count), (5, halves(values) == 2 * width))
     if number:
         return refused_digest(number)
-    return [0], [blake3(leaf_message(domain, count, width, place // width, ints(values)))]
+    return [0], [leaf_of(domain, count, width, place // width, ints(values), key)]
 
 
 @operation
@@ -494,33 +529,33 @@ def leaf_message_(domain, count, width, group, values):
 OPERATIONS["leaf_message"] = OPERATIONS.pop("leaf_message_")
 
 
-@operation
-def node_digest(domain, level, left, right, _):
+@of_trees
+def node_digest(domain, level, left, right, _, key):
     number = no((5, len(left) == 32), (5, len(right) == 32), (7, len(domain) <= 255))
-    return refused_digest(number) if number else ([0], [blake3(node_message(domain, level, left, right))])
+    return refused_digest(number) if number else ([0], [node_of(domain, level, left, right, key)])
 
 
-@operation
-def build(domain, count, width, values, out):
+@of_trees
+def build(domain, count, width, values, out, key):
     questions = [(7, len(domain) <= 255), *shaped(count, width)]
     number = no(*questions) or no((5, halves(values) == 2 * count and out == 32 * (2 * (count // width) - 1)))
-    return done(number, *([b"".join(tree(domain, width, ints(values)))] if number == 0 else []))
+    return done(number, *([b"".join(tree(domain, width, ints(values), key))] if number == 0 else []))
 
 
-@operation
-def leaves(domain, count, width, first, values, out):
+@of_trees
+def leaves(domain, count, width, first, values, out, key):
     questions = [(7, len(domain) <= 255), *shaped(count, width)]
     number = no(*questions) or no((11, first + out // 32 <= count // width), (5, halves(values) == 2 * count), (5, out % 32 == 0))
     if number:
         return [number], []
-    return [0], [b"".join(tree(domain, width, ints(values)))[32 * first : 32 * first + out]]
+    return [0], [b"".join(tree(domain, width, ints(values), key))[32 * first : 32 * first + out]]
 
 
-@operation
-def parents(domain, level, children, out):
+@of_trees
+def parents(domain, level, children, out, key):
     number = no((5, len(children) % 64 == 0), (5, out == len(children) // 2), (7, len(domain) <= 255))
     pairs = [children[i : i + 64] for i in range(0, len(children), 64)]
-    return done(number, *([b"".join(blake3(node_message(domain, level, pair[:32], pair[32:])) for pair in pairs)] if number == 0 else []))
+    return done(number, *([b"".join(node_of(domain, level, pair[:32], pair[32:], key) for pair in pairs)] if number == 0 else []))
 
 
 @operation
@@ -538,15 +573,16 @@ def open_(count, width, place, digests, out):
 OPERATIONS["open"] = OPERATIONS.pop("open_")
 
 
-@operation
-def root_of_path_(domain, count, width, place, values, siblings, _):
+@of_trees
+def root_of_path_(domain, count, width, place, values, siblings, _, key):
     number = no((7, len(domain) <= 255), *shaped(count, width), (11, place < count))
     if number == 0:
         depth = (count // width).bit_length() - 1
         number = no((12, len(siblings) == 32 * depth), (5, halves(values) == 2 * width))
     if number:
         return refused_digest(number)
-    return [0], [root_of_path(domain, count, width, place, ints(values), [siblings[i : i + 32] for i in range(0, len(siblings), 32)])]
+    digests = [siblings[i : i + 32] for i in range(0, len(siblings), 32)]
+    return [0], [root_of_path(domain, count, width, place, ints(values), digests, key)]
 
 
 OPERATIONS["root_of_path"] = OPERATIONS.pop("root_of_path_")
@@ -571,8 +607,8 @@ def level_domain_(base, level, out):
 OPERATIONS["level_domain"] = OPERATIONS.pop("level_domain_")
 
 
-@operation
-def commit(widths, n, k, base, table, coordinates, gammas, codeword, out):
+@of_trees
+def commit(widths, n, k, base, table, coordinates, gammas, codeword, out, key):
     number = no((4, in_range(n, k)))
     if number == 0:
         count, width, _ = records.shape(widths, n, k, 0)
@@ -583,7 +619,7 @@ def commit(widths, n, k, base, table, coordinates, gammas, codeword, out):
         return [number], []
     made = derive(base, n, k)
     words = encode(n, k, ints(table), made)
-    return [0], [list(range(n)), packed(made), packed(words), b"".join(tree(level_domain(base, 0), width, words))]
+    return [0], [list(range(n)), packed(made), packed(words), b"".join(tree(level_domain(base, 0), width, words, key))]
 
 
 @operation
@@ -608,14 +644,14 @@ def level_sizes(widths, n, k, l):
     return 2 * count, 32 * (2 * (count // width) - 1)
 
 
-@operation
-def level_tree(widths, n, k, l, base, values, out):
+@of_trees
+def level_tree(widths, n, k, l, base, values, out, key):
     number = no((4, has_level(n, k, l)))
     if number == 0:
         number = no((5, (halves(values), out) == level_sizes(widths, n, k, l)), (7, len(base) <= 200))
     if number:
         return [number], []
-    return [0], [b"".join(tree(level_domain(base, l), fold_tree_width(widths, len(values) // 16), ints(values)))]
+    return [0], [b"".join(tree(level_domain(base, l), fold_tree_width(widths, len(values) // 16), ints(values), key))]
 
 
 @operation
@@ -627,25 +663,25 @@ def next_part(n, k, l, r, first, values, out):
     return done(number, *([packed(fold_first(ints(values), ints(r)[0])[first : first + out // 2])] if number == 0 else []))
 
 
-@operation
-def level_leaves(widths, n, k, l, base, first, values, out):
+@of_trees
+def level_leaves(widths, n, k, l, base, first, values, out, key):
     number = no((4, has_level(n, k, l)))
     if number == 0:
         count, width, _ = records.shape(widths, n, k, l)
         number = no((5, halves(values) == 2 * count and out % 32 == 0), (7, len(base) <= 200), (11, first + out // 32 <= count // width))
     if number:
         return [number], []
-    return [0], [b"".join(tree(level_domain(base, l), width, ints(values)))[32 * first : 32 * first + out]]
+    return [0], [b"".join(tree(level_domain(base, l), width, ints(values), key))[32 * first : 32 * first + out]]
 
 
-@operation
-def level_parents(n, k, l, base, height, children, out):
+@of_trees
+def level_parents(n, k, l, base, height, children, out, key):
     number = no((4, has_level(n, k, l)), (5, len(children) % 64 == 0 and out == len(children) // 2), (7, len(base) <= 200))
-    return [number], [] if number else parents(level_domain(base, l), height, children, out)[1]
+    return [number], [] if number else parents(level_domain(base, l), height, children, out, key)[1]
 
 
-@operation
-def fold_levels(widths, n, k, base, challenges, codeword, levels, half, trees, roots):
+@of_trees
+def fold_levels(widths, n, k, base, challenges, codeword, levels, half, trees, roots, key):
     before = (codeword + FILL * (8 * levels))[: 8 * levels]
     number = no((4, 1 <= n and in_range(n, k)))
     if number == 0:
@@ -658,7 +694,7 @@ def fold_levels(widths, n, k, base, challenges, codeword, levels, half, trees, r
     made = [ints(before)[: 1 << n + k]]
     for r in ints(challenges):
         made.append(fold_first(made[-1], r))
-    built = [tree(level_domain(base, l), fold_tree_width(widths, len(v)), v) for l, v in enumerate(made)]
+    built = level_trees(base, widths, made, key)
     every = b"".join(digest for digests in built for digest in digests)
     return [0], [packed([w for level in made for w in level]), bytes(8 * half), every, b"".join(digests[-1] for digests in built)]
 
@@ -700,14 +736,14 @@ def build_tail(widths, n, k, words, digests, out):
     return [0], [tail_bytes(groups)]
 
 
-@operation
-def check_query(base, widths, n, k, position, challenges, roots, record):
-    return first_no(records.check_query(base, widths, n, k, position, challenges, roots, record)), []
+@of_trees
+def check_query(base, widths, n, k, position, challenges, roots, record, key):
+    return first_no(records.check_query(base, widths, n, k, position, challenges, roots, record, key)), []
 
 
-@operation
-def check_tail(base, widths, n, k, root, claim, record):
-    return [first_no(records.check_tail(base, widths, n, k, claim, root, record))[0]], []
+@of_trees
+def check_tail(base, widths, n, k, root, claim, record, key):
+    return [first_no(records.check_tail(base, widths, n, k, claim, root, record, key))[0]], []
 
 
 def tally(numbers):
@@ -728,32 +764,32 @@ def prefixes(record):
     return (record[:i] for i in range(len(record)))
 
 
-@operation
-def damaged_query(step, *given):
+@of_trees
+def damaged_query(step, *given, key):
     *given, record = given
-    return tally([check_query(*given, wrong)[0][0] for wrong in damaged(step, record)])
+    return tally([check_query(*given, wrong, key)[0][0] for wrong in damaged(step, record)])
 
 
-@operation
-def prefixes_query(*given):
+@of_trees
+def prefixes_query(*given, key):
     *given, record = given
-    return tally([check_query(*given, wrong)[0][0] for wrong in prefixes(record)])
+    return tally([check_query(*given, wrong, key)[0][0] for wrong in prefixes(record)])
 
 
-@operation
-def damaged_tail(step, *given):
+@of_trees
+def damaged_tail(step, *given, key):
     *given, record = given
-    return tally([check_tail(*given, wrong)[0][0] for wrong in damaged(step, record)])
+    return tally([check_tail(*given, wrong, key)[0][0] for wrong in damaged(step, record)])
 
 
-@operation
-def prefixes_tail(*given):
+@of_trees
+def prefixes_tail(*given, key):
     *given, record = given
-    return tally([check_tail(*given, wrong)[0][0] for wrong in prefixes(record)])
+    return tally([check_tail(*given, wrong, key)[0][0] for wrong in prefixes(record)])
 
 
-@operation
-def compare(base, widths, n, k, position, challenges, roots, first, second, room, other):
+@of_trees
+def compare(base, widths, n, k, position, challenges, roots, first, second, room, other, key):
     def questions():
         yield 4, 0, 1 <= n <= 20 and k <= 4
         yield 5, 0, len(challenges) == 16 * n
@@ -763,7 +799,7 @@ def compare(base, widths, n, k, position, challenges, roots, first, second, room
         yield 7, 0, len(base) <= 200
         yield 11, 0, position < 1 << (n + k)
         for record in (first, second):
-            yield 32, 0, first_no(records.check_query(base, widths, n, k, position, challenges, roots, record)) == (0, 0)
+            yield 32, 0, first_no(records.check_query(base, widths, n, k, position, challenges, roots, record, key)) == (0, 0)
         yield 33, 0, first != second
 
     number, _ = first_no(questions())
@@ -821,8 +857,8 @@ RUN_ROOMS = (160, 1640, 160, MESSAGE_BUFFER + 8, MESSAGE_BUFFER + 8)
 class Run(Deposit):
     """A table committed, and a list of fold calls until n are done, each on what the last done one left; the levels behind stay zeros."""
 
-    def __init__(self, widths, n, k, base, table, calls):
-        self.widths, self.n, self.k, self.base, self.challenges = widths, n, k, base, []
+    def __init__(self, widths, n, k, base, table, calls, key=None):
+        self.widths, self.n, self.k, self.base, self.key, self.challenges = widths, n, k, base, key, []
         self.levels, self.coordinates = [encode(n, k, table, derive(base, n, k))], list(range(n))
         for call_n, call_k, original, var, room, r in calls:
             lent = self.coordinates, 2 * len(self.levels[-1]), room
@@ -831,7 +867,7 @@ class Run(Deposit):
                 self.coordinates = without(self.coordinates, var)
                 self.challenges.append(r)
         self.levels += [[0] * (1 << (n + k - l)) for l in range(len(self.levels), n + 1)]
-        self.trees = [tree(level_domain(base, l), fold_tree_width(widths, len(v)), v) for l, v in enumerate(self.levels)]
+        self.trees = level_trees(base, widths, self.levels, key)
         self.roots = [digests[-1] for digests in self.trees]
 
 
@@ -861,17 +897,17 @@ def run_questions(widths, n, k, position, base, table, calls, challenges, length
     yield 11, 0, position < 1 << (n + k)
 
 
-@operation
-def run(widths, n, k, position, base, table, calls, challenges, claim, first, second, lengths, coordinates, kept, out, counts):
+@of_trees
+def run(widths, n, k, position, base, table, calls, challenges, claim, first, second, lengths, coordinates, kept, out, counts, key):
     refusal, _ = first_no(run_questions(widths, n, k, position, base, table, calls, challenges, lengths, coordinates, kept))
     if refusal:
         return [refusal, 0, 0, 0], [None, None, None, bytes(32)]
-    made = Run(widths, n, k, base, ints(table), zip(*(calls[i::CALL] for i in range(CALL)), ints(challenges)))
+    made = Run(widths, n, k, base, ints(table), zip(*(calls[i::CALL] for i in range(CALL)), ints(challenges)), key)
     held, roots = packed(made.challenges).ljust(16 * n, FILL), b"".join(made.roots)
     record, tail = query_bytes(query(made, position)), tail_bytes(made.tail())
-    number, level = first_no(records.check_query(base, widths, n, k, position, held, roots, record))
-    number_of_tail, _ = first_no(records.check_tail(base, widths, n, k, claim, made.roots[n], tail))
-    (compared, one, two), _ = compare(base, widths, n, k, position, held, roots, first, second, MESSAGE_BUFFER, MESSAGE_BUFFER)
+    number, level = first_no(records.check_query(base, widths, n, k, position, held, roots, record, key))
+    number_of_tail, _ = first_no(records.check_tail(base, widths, n, k, claim, made.roots[n], tail, key))
+    (compared, one, two), _ = compare(base, widths, n, k, position, held, roots, first, second, MESSAGE_BUFFER, MESSAGE_BUFFER, key)
     left = b"".join(part.ljust(size, FILL) for part, size in zip((roots, record, tail, b"", b""), RUN_ROOMS))
     done = b"".join(x.to_bytes(8, "little") for x in (len(made.challenges), level, one, two))
     unfolded = made.coordinates + [0] * (n - len(made.coordinates))

@@ -19,7 +19,8 @@ from records import Deposit, LastLevel, OpenedDeposit, Reader, first_no, query, 
 
 @dataclasses.dataclass
 class Check:
-    """The items of a record, the edit of its bytes, and the scheme; a kind of record adds what its check is lent besides, by how it stands in a line."""
+    """The items of a record, the edit of its bytes, the scheme, and the key that it is asked under; a kind of record adds what its check is lent besides, by
+    how it stands in a line."""
 
     base: bytes
     widths: int
@@ -27,6 +28,7 @@ class Check:
     k: int
     items: list
     edit: typing.Callable = dataclasses.field(default=bytes, kw_only=True)
+    key: typing.Optional[bytes] = dataclasses.field(default=None, kw_only=True)
 
     @property
     def name(self):
@@ -41,7 +43,7 @@ class Check:
 
     def answer(self):
         lent = {field: getattr(self, field) for field in self.lent}
-        return first_no(self.questions(self.base, self.widths, self.n, self.k, record=self.record(), **lent))
+        return first_no(self.questions(self.base, self.widths, self.n, self.k, record=self.record(), key=self.key, **lent))
 
 
 def number(store, value):
@@ -108,6 +110,7 @@ class Compare:
     second: bytes
     first_message: bytes = bytes(answers.MESSAGE_BUFFER)
     second_message: bytes = bytes(answers.MESSAGE_BUFFER)
+    key: typing.Optional[bytes] = None
 
     kind, name = "query", "compare"
 
@@ -118,18 +121,18 @@ class Compare:
 
     def answer(self):
         given = self.base, self.widths, self.n, self.k, self.position, self.challenges, self.roots, self.first, self.second
-        return answers.compare(*given, len(self.first_message), len(self.second_message))[0][0], 0
+        return answers.compare(*given, len(self.first_message), len(self.second_message), self.key)[0][0], 0
 
 
 def check_query(deposit, position):
     roots = b"".join(deposit.roots)
     lent = position, words_bytes(deposit.challenges), roots
-    return CheckQuery(deposit.base, deposit.widths, deposit.n, deposit.k, query(deposit, position), *lent)
+    return CheckQuery(deposit.base, deposit.widths, deposit.n, deposit.k, query(deposit, position), *lent, key=deposit.key)
 
 
 def check_tail(deposit):
     claim = word_bytes(deposit.levels[-1][0])
-    return CheckTail(deposit.base, deposit.widths, deposit.n, deposit.k, deposit.tail(), deposit.roots[-1], claim)
+    return CheckTail(deposit.base, deposit.widths, deposit.n, deposit.k, deposit.tail(), deposit.roots[-1], claim, key=deposit.key)
 
 
 def build_query(deposit, position):
@@ -147,7 +150,7 @@ def compare(deposit, position):
     """A deposit's query record with itself."""
     record = query_bytes(query(deposit, position))
     lent = position, words_bytes(deposit.challenges), b"".join(deposit.roots)
-    return Compare(deposit.base, deposit.widths, deposit.n, deposit.k, *lent, record, record)
+    return Compare(deposit.base, deposit.widths, deposit.n, deposit.k, *lent, record, record, key=deposit.key)
 
 
 # ---- cases: a remark, an operation, and what it is given
@@ -434,11 +437,11 @@ def first_call_number(call):
     return answers.fold_number(n, k, original, var, [0, 1], 16, room)
 
 
-def run_cases():
+def run_cases(key=None):
     from model import extension
 
     table, folds = [5, 9, 3, 7], [(2, 1, 2, 0, 8, 2), (1, 1, 2, 0, 4, 4)]
-    made = answers.Run(PRESENT, 2, 1, b"deposit", table, folds)
+    made = answers.Run(PRESENT, 2, 1, b"deposit", table, folds, key)
     records_at = [query_bytes(query(made, position)) for position in range(8)]
     claim = extension(table, [2, 4])
     right = WholeRun(folds, 5, claim, records_at[5], records_at[5])
@@ -484,14 +487,14 @@ LENGTHS = {
 }
 
 
-def wide_run_cases():
+def wide_run_cases(key=None):
     """One table under both sets: each has its own roots and records, and takes no length and no record of the other."""
     from model import extension
 
     table, challenges = some_words("table of a run", 16), some_words("challenges of a run", 4)
     folds = [(4 - l, 2, 4, 0, 64 >> l, r) for l, r in enumerate(challenges)]
     given = dict(n=4, k=2, table=hex_words(table), coordinates=room(4), kept=8, claim=extension(table, challenges), position=37)
-    made = {widths: answers.Run(widths, 4, 2, b"deposit", table, folds) for widths in LENGTHS}
+    made = {widths: answers.Run(widths, 4, 2, b"deposit", table, folds, key) for widths in LENGTHS}
     shown = {widths: query_bytes(query(run, 37)) for widths, run in made.items()}
     runs = {widths: WholeRun(folds, first=x, second=x, widths=widths, lengths=LENGTHS[widths], **given) for widths, x in shown.items()}
     assert made[PRESENT].roots[0] != made[WIDE].roots[0] and made[PRESENT].roots[4] == made[WIDE].roots[4]
@@ -542,9 +545,8 @@ def run_lengths(n, k):
     return 2 * k * n, 2 * ((2 << n) - 1 << k), 1 << (n + k), trees, 32 * (n + 1), record, tail, answers.MESSAGE_BUFFER, answers.MESSAGE_BUFFER
 
 
-def run_lines():
-    store = Store()
-    for remark, case in itertools.chain(run_cases(), wide_run_cases(), resumed_run_cases()):
+def run_lines(store, cases):
+    for remark, case in cases:
         line = case.line(store)
         yield from kept(store)
         yield "# " + remark
@@ -656,6 +658,6 @@ def files():
         ("compare.txt", text(case_lines(compared()))),
         ("walks.txt", text(walks(compare_store))),
         ("tail_list.txt", text([first, *tail_lines(store)])),
-        ("run.txt", text(run_lines())),
+        ("run.txt", text(run_lines(Store(), [*run_cases(), *wide_run_cases(), *resumed_run_cases()]))),
         ("differences.txt", text(difference_lines())),
     ]

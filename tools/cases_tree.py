@@ -3,26 +3,60 @@ import itertools
 import pathlib
 
 from cases_field import text
-from model import blake3
+from lines import drawn_bytes
+from model import blake3, derive_key
 
 # How many bytes an update takes, in `pieces`.
 SIZES = 8
 
-PUBLISHED = pathlib.Path(__file__).resolve().parent / "b3sum.txt"
+TOOLS = pathlib.Path(__file__).resolve().parent
+
+# what the vectors that are published with BLAKE3 have for keyed mode and for key derivation mode
+KEY, CONTEXT = b"whats the Elvish word for friend", b"BLAKE3 2019-12-27 16:29:52 test vectors context"
+
+
+def witnessed(name, digest=blake3):
+    """The lengths in a list of what b3sum says, with which the model must agree."""
+    lengths = []
+    for line in (TOOLS / name).read_text().splitlines():
+        said, length = line.split()
+        assert digest(bytes(i % 251 for i in range(int(length)))).hex() == said, "b3sum differs on %s bytes: %s" % (length, name)
+        lengths.append(int(length))
+    return lengths
 
 
 def vectors():
     """The published vectors' lengths, in one call, and fed to a hasher by each size and by all sizes in turn."""
-    lengths = []
-    for line in PUBLISHED.read_text().splitlines():
-        digest, length = line.split()
-        assert blake3(bytes(i % 251 for i in range(int(length)))).hex() == digest, "b3sum differs on %s bytes" % length
-        lengths.append(int(length))
+    lengths = witnessed("b3sum.txt")
     for length in lengths:
         yield "blake3 %%%d" % length
     for length in lengths:
         yield from ("pieces %%%d %d 0" % (length, first) for first in range(SIZES))
         yield "pieces %%%d 0 1" % length
+
+
+def vectors_of(mode, given, lengths):
+    """A mode with a key or a context, in one call and by a hasher: the published lengths by one size each and by all sizes in turn."""
+    entry, pieces = mode
+    yield "= " + given.hex()
+    for length in lengths:
+        yield "%s @0+%d %%%d" % (entry, len(given), length)
+    for i, length in enumerate(witnessed("b3sum.txt")):
+        yield from ("%s @0+%d %%%d %d %d" % (pieces, len(given), length, *sizes) for sizes in ((i % SIZES, 0), (0, 1)))
+
+
+def keyed_vectors():
+    lengths = witnessed("b3sum_keyed.txt", lambda message: blake3(message, KEY))
+    yield from vectors_of(("keyed_blake3", "keyed_pieces"), KEY, lengths)
+
+
+def derived_vectors():
+    """Key material of these lengths with one context; then contexts of some lengths, with material as long as they are."""
+    lengths = witnessed("b3sum_derive_key.txt", lambda material: derive_key(CONTEXT, material))
+    yield from vectors_of(("derive_key", "derived_pieces"), CONTEXT, lengths)
+    for length in witnessed("b3sum_context.txt", lambda material: derive_key(drawn_bytes("t", 1, len(material)), material)):
+        yield "derive_key ~t1x%d %%%d" % (length, length)
+        yield "derived_pieces ~t1x%d %%%d 0 1" % (length, length)
 
 
 def parts():
@@ -121,18 +155,18 @@ def trees():
         yield "parents %s %d %%%d %d" % (DOMAINS[255 if pairs == 5 else 1], level, 64 * pairs, 32 * pairs)
 
 
-def openings():
+def openings(domains=DOMAINS, shapes=SHAPES, key=None):
     """Places of small trees that are built here: leaf digest, path, and the root of both."""
     from answers import packed
-    from lines import Store, drawn_bytes
+    from lines import Store
     from model import path, tree
 
     store, said = Store(), []
-    for d, (count, width) in itertools.product(DOMAINS, SHAPES):
+    for d, (count, width) in itertools.product(domains, shapes):
         domain = letters(d)
         values = drawn_bytes("w", count, count)
         words = [int.from_bytes(values[i : i + 16], "little") for i in range(0, len(values), 16)]
-        digests = tree(domain, width, words)
+        digests = tree(domain, width, words, key)
         for place in sorted({0, 2 * count // 3, count - 1}):
             group = place // width
             lent, siblings = b"".join(digests), b"".join(path(digests, group))
@@ -154,14 +188,19 @@ def differences():
     yield from ["# 27: a byte after 2^24 bytes, and none", "fed 00x65536 256 00", "fed 00x65536 256 -"]
 
 
+def by_b3sum(what, lines):
+    return "# Answers: Debian's b3sum %s; the model agrees (tools/answers.py).\n" % what + "".join(line + "\n" for line in lines)
+
+
 def files():
-    source = "# Answers: Debian's b3sum 1.2.0, whose digests tools/b3sum.txt has; the model agrees (tools/answers.py).\n"
     return [
-        ("vectors.txt", source + "".join(line + "\n" for line in vectors())),
+        ("vectors.txt", by_b3sum("1.2.0, whose digests tools/b3sum.txt has", vectors())),
         ("parts.txt", text(parts())),
         ("trees.txt", text(trees())),
         ("openings.txt", text(openings())),
         ("refusals.txt", text(refusals())),
         ("states.txt", text(states())),
         ("differences.txt", text(differences())),
+        ("keyed_vectors.txt", by_b3sum("1.2.0 with --keyed, whose digests tools/b3sum_keyed.txt has", keyed_vectors())),
+        ("derived_vectors.txt", by_b3sum("1.2.0 with --derive-key, whose digests tools/b3sum_derive_key.txt and b3sum_context.txt have", derived_vectors())),
     ]

@@ -49,9 +49,9 @@ def joined(pieces):
 class Drawn(OpenedDeposit):
     """An opened deposit whose values, paths and challenges are drawn."""
 
-    def __init__(self, widths, n, k, base, position):
+    def __init__(self, widths, n, k, base, position, key=None):
         self.streams, self.first = {}, 4096 * (8 * n + k)
-        super().__init__(widths, n, k, base, position)
+        super().__init__(widths, n, k, base, position, key)
 
     def words(self, what, count):
         self.streams[what] = self.first + len(self.streams)

@@ -1,7 +1,7 @@
 #!/usr/bin/env python3
 """Checks an opening of a file of a project by docs/SPECIFICATION.md alone. It needs Python 3.6 or later and check_seal.py beside it.
 
-    tools/check_project.py OPENING --seal FOLDER [--older] --file PATH --offset B,B,.. --challenges FILE [--roots FILE] [--claim WORD]
+    tools/check_project.py OPENING --seal FOLDER [--older] [--key-file FILE] --file PATH --offset B,B,.. --challenges FILE [--roots FILE] [--claim WORD]
 
 It commits the manifest that the opening shows, compares its root with the project's (SPECIFICATION 16.5), and then checks the records under the part's root as
 check_seal.py does. `manifest: no` or a later `no` says which of the two failed. Committing takes some minutes where the manifest has megabytes.
@@ -72,17 +72,17 @@ def codeword(base, n, k, table):
     return [word.to_bytes(16, "little") for word in words]
 
 
-def root_of(base, widths, k, data):
+def root_of(mode, base, widths, k, data):
     """n and the root of level 0 of these bytes as a file (SPECIFICATION 15.1, 5.4)."""
     n = max(1, ((len(data) + 15) // 16).bit_length())
     table = [int.from_bytes(data[at : at + 16], "little") for at in range(0, 2 ** n * 16, 16)]
     table[-1] = len(data)
-    level, words = Level(base, widths, n, k, 0), codeword(base, n, k, table)
+    level, words = Level(mode, base, widths, n, k, 0), codeword(base, n, k, table)
     groups = [words[at : at + level.width] for at in range(0, level.count, level.width)]
     fresh = digest.__wrapped__
-    digests = [fresh(leaf_message(level.domain, level.count, level.width, g, values)) for g, values in enumerate(groups)]
+    digests = [fresh(leaf_message(level.domain, level.count, level.width, g, values), mode) for g, values in enumerate(groups)]
     for height in range(level.depth):
-        digests = [fresh(node_message(level.domain, height, left, right)) for left, right in zip(digests[::2], digests[1::2])]
+        digests = [fresh(node_message(level.domain, height, left, right), mode) for left, right in zip(digests[::2], digests[1::2])]
     return n, digests[0]
 
 
@@ -118,13 +118,13 @@ def manifest(text):
 
 def check_file(asked):
     """Prints the answer for the manifest, and then those for the records. The exit status."""
-    base, widths, n, k, root = read_seal(Path(asked.seal), asked.older)
+    mode, base, widths, n, k, root = read_seal(Path(asked.seal), asked.older, asked.key_file)
     shown = Path(asked.OPENING) / "manifest.txt"
     checkers_own(asked)
     if not Path(asked.OPENING).is_dir():
         raise CannotCheck(f"there is no opening {asked.OPENING}")
     text = content(shown, PART) if shown.is_file() and not shown.is_symlink() else b""
-    files = manifest(text) if len(text) <= PART and root_of(base, widths, k, text) == (n, root) else None
+    files = manifest(text) if len(text) <= PART and root_of(mode, base, widths, k, text) == (n, root) else None
     if files is None:
         print("manifest: no: what the opening shows is not the project's manifest")
         return NO
@@ -135,7 +135,7 @@ def check_file(asked):
     index = asked.offset[0] // PART
     in_part = min(PART, size - PART * index)
     asked.at = sorted({offset % PART // 16 for offset in asked.offset})
-    return check_opening(asked, base, widths, max(1, ((in_part + 15) // 16).bit_length()), k, roots[index])
+    return check_opening(asked, mode, base, widths, max(1, ((in_part + 15) // 16).bit_length()), k, roots[index])
 
 
 def main():
@@ -144,6 +144,7 @@ def main():
     for name in ("--seal", "--challenges", "--file"):
         parser.add_argument(name, required=True)
     parser.add_argument("--older", action="store_true")
+    parser.add_argument("--key-file")
     parser.add_argument("--offset", required=True, type=numbers)
     parser.add_argument("--roots")
     parser.add_argument("--claim")

@@ -1,11 +1,12 @@
 #!/usr/bin/env python3
 """Checks an opening of a deposit seal by docs/SPECIFICATION.md alone: neither the proved library nor the program is needed, only Python 3.6 or later.
 
-    tools/check_seal.py OPENING --seal FOLDER [--older] --challenges FILE --at P,P,.. [--roots FILE] [--claim WORD]
+    tools/check_seal.py OPENING --seal FOLDER [--older] [--key-file FILE] --challenges FILE --at P,P,.. [--roots FILE] [--claim WORD]
     tools/check_seal.py --try
 
 Challenges, positions and --roots, roots that were kept, are the checker's own; --claim is a value that is expected. --older says that a seal which names
-neither k nor a base domain was made before version 0.4.0 (SPECIFICATION 6.10). The set of widths is the seal's, the present one where it names none. A line for each position and one for
+neither k nor a base domain was made before version 0.4.0 (SPECIFICATION 6.10). The set of widths is the seal's, the present one where it names none. --key-file has the key of a keyed
+seal, and only of one (SPECIFICATION 15.10): 32 bytes, or 64 hexadecimal digits and perhaps a line end. A line for each position and one for
 the tail: `yes`, or `no` with the number of the first question that was answered with no (SPECIFICATION 8.2), its level where it has one, and the question.
 The last line is the verdict on all of it. Without --roots a record is answered with `yes on level 0` and the tail with `not accepted`: who knew challenges and positions
 beforehand can invent the rest (SPECIFICATION 15.6). --try tries this file on the values of SPECIFICATION 12. Exit status: 0 yes, 1 no, 2 nothing could be
@@ -78,7 +79,7 @@ def folded(a, b, r):
 # 4. The hash.
 
 IV = (0x6A09E667, 0xBB67AE85, 0x3C6EF372, 0xA54FF53A, 0x510E527F, 0x9B05688C, 0x1F83D9AB, 0x5BE0CD19)
-CHUNK_START, CHUNK_END, PARENT, ROOT = 1, 2, 4, 8
+CHUNK_START, CHUNK_END, PARENT, ROOT, KEYED, CONTEXT, MATERIAL = 1, 2, 4, 8, 16, 32, 64
 MIXED = ((0, 4, 8, 12), (1, 5, 9, 13), (2, 6, 10, 14), (3, 7, 11, 15), (0, 5, 10, 15), (1, 6, 11, 12), (2, 7, 8, 13), (3, 4, 9, 14))
 PERMUTED = (2, 6, 3, 10, 7, 0, 4, 13, 1, 11, 12, 5, 9, 14, 15, 8)
 LOW = 0xFFFFFFFF
@@ -104,29 +105,44 @@ def compress(h, m, t, length, flags):
     return [v[i] ^ v[i + 8] for i in range(8)]
 
 
-def chunk(data, number, root):
-    h = IV
+# 4.4. A mode: the key words that chunks and parents start from, and the flag that every compression has.
+Mode = collections.namedtuple("Mode", "words flag")
+HASH = Mode(IV, 0)
+
+
+def keyed(key):
+    return Mode(struct.unpack("<8I", key), KEYED)
+
+
+def derived(context, material):
+    """SPECIFICATION 4.4: the key that a context and key material give."""
+    of_context = digest(context, Mode(IV, CONTEXT))
+    return digest(material, Mode(struct.unpack("<8I", of_context), MATERIAL))
+
+
+def chunk(mode, data, number, root):
+    h = mode.words
     starts = range(0, max(1, len(data)), 64)
     for start in starts:
         block = data[start : start + 64]
-        flags = (CHUNK_START if start == 0 else 0) | (CHUNK_END | root if start == starts[-1] else 0)
+        flags = (CHUNK_START if start == 0 else 0) | (CHUNK_END | root if start == starts[-1] else 0) | mode.flag
         h = compress(h, struct.unpack("<16I", block.ljust(64, b"\0")), number, len(block), flags)
     return h
 
 
-def chunks(data, first, root):
+def chunks(mode, data, first, root):
     """The chaining value of a run of chunks, of which the first has this number."""
     count = max(1, (len(data) + 1023) // 1024)
     if count == 1:
-        return chunk(data, first, root)
+        return chunk(mode, data, first, root)
     left = 1 << (count - 1).bit_length() - 1
-    children = chunks(data[: 1024 * left], first, 0) + chunks(data[1024 * left :], first + left, 0)
-    return compress(IV, children, 0, 64, PARENT | root)
+    children = chunks(mode, data[: 1024 * left], first, 0) + chunks(mode, data[1024 * left :], first + left, 0)
+    return compress(mode.words, children, 0, 64, PARENT | root | mode.flag)
 
 
 @functools.lru_cache(maxsize=None)
-def digest(message):
-    return struct.pack("<8I", *chunks(message, 0, ROOT))
+def digest(message, mode=HASH):
+    return struct.pack("<8I", *chunks(mode, message, 0, ROOT))
 
 
 # 5. Trees.
@@ -155,9 +171,10 @@ WIDTHS = {"present": (16, 8), "wide": (64, 32)}
 
 
 class Level:
-    """Level l of a deposit and the shape of its tree (SPECIFICATION 6.7)."""
+    """Level l of a deposit and the shape of its tree (SPECIFICATION 6.7), whose digests are made in a mode (5.6)."""
 
-    def __init__(self, base, widths, n, k, l):
+    def __init__(self, mode, base, widths, n, k, l):
+        self.mode = mode
         self.count = 2 ** (n + k - l)
         threshold, width = WIDTHS[widths]
         self.width = width if self.count >= threshold else 2 if self.count >= 2 else 1
@@ -167,10 +184,10 @@ class Level:
 
     def root(self, group, values, path):
         """SPECIFICATION 5.5: the digest to which a group and its path lead."""
-        at = digest(leaf_message(self.domain, self.count, self.width, group, values))
+        at = digest(leaf_message(self.domain, self.count, self.width, group, values), self.mode)
         for i, sibling in enumerate(path):
             left, right = (at, sibling) if (group >> i) % 2 == 0 else (sibling, at)
-            at = digest(node_message(self.domain, i, left, right))
+            at = digest(node_message(self.domain, i, left, right), self.mode)
         return at
 
 
@@ -217,7 +234,7 @@ class Reader:
 
 def record_bytes(widths, n, k):
     """SPECIFICATION 7.6: the sizes of a query record and of a tail record."""
-    levels = [Level(b"", widths, n, k, l) for l in range(n + 1)]
+    levels = [Level(HASH, b"", widths, n, k, l) for l in range(n + 1)]
     opened = [8 + 16 * level.width + 32 * level.depth for level in levels]
     return 4 + sum(48 + opened[l] + opened[l + 1] for l in range(n)), 4 + levels[n].groups * opened[n]
 
@@ -225,7 +242,7 @@ def record_bytes(widths, n, k):
 # 8. Questions.
 
 
-def check_query(base, widths, n, k, position, challenges, roots, record):
+def check_query(mode, base, widths, n, k, position, challenges, roots, record):
     """SPECIFICATION 8.6."""
     ask(4, 1 <= n <= 20 and k <= 4)
     ask(5, len(challenges) == n and len(roots) == n + 1)
@@ -235,7 +252,7 @@ def check_query(base, widths, n, k, position, challenges, roots, record):
     ask(15, len(levels) == n)
     for l, (a, b, c, a_group, c_group, a_path, c_path) in enumerate(levels):
         q = position // 2 ** (l + 1)
-        this, following = Level(base, widths, n, k, l), Level(base, widths, n, k, l + 1)
+        this, following = Level(mode, base, widths, n, k, l), Level(mode, base, widths, n, k, l + 1)
         w, w_next = this.width, following.width
         ask(16, len(a_group) == w, l)
         ask(17, len(a_path) == this.depth, l)
@@ -249,13 +266,13 @@ def check_query(base, widths, n, k, position, challenges, roots, record):
         ask(26, folded(a, b, challenges[l]) == c, l)
 
 
-def check_tail(base, widths, n, k, root, claim, record):
+def check_tail(mode, base, widths, n, k, root, claim, record):
     """SPECIFICATION 8.7."""
     ask(4, 1 <= n <= 20 and k <= 4)
     ask(5, len(root) == 32)
     ask(7, len(base) <= 200)
     groups = Reader(record).tail()
-    last = Level(base, widths, n, k, n)
+    last = Level(mode, base, widths, n, k, n)
     ask(27, len(groups) == last.groups)
     for g, (values, path) in enumerate(groups):
         ask(28, len(values) == last.width)
@@ -327,20 +344,51 @@ def one(path, values):
 
 
 def parameters(path, older):
-    """The base domain, the set of widths, n and k. Where n is named without k and the base domain, these two are those of SPECIFICATION 6.10; a set that is
-    not named is the present one (15.3)."""
-    form = r"n (0|[1-9][0-9]?)(?:\nk ([0-9])\n(?:domain ([!-~]+)|domain-hex ?((?:[0-9a-f]{2})*)))?(?:\nwidths (.+))?"
+    """The key's check value, the base domain, the set of widths, n and k. Where n is named without k and the base domain, these two are those of SPECIFICATION
+    6.10; a set that is not named is the present one, and without a check value there is no key (15.3)."""
+    form = r"n (0|[1-9][0-9]?)(?:\nk ([0-9])\n(?:domain ([!-~]+)|domain-hex ?((?:[0-9a-f]{2})*)))?(?:\nwidths (.+))?(?:\nkey ([0-9a-f]{32}))?"
     found = re.fullmatch(form, "\n".join(lines(path, 1024)))
     if not found:
-        raise CannotCheck(f"{path} does not have its lines n, k, domain and widths, nor those without k and domain")
-    n, k, text, digits, widths = found.groups("")
+        raise CannotCheck(f"{path} does not have its lines n, k, domain, widths and perhaps key, nor those without k and domain")
+    n, k, text, digits, widths, value = found.groups("")
     if widths and widths not in WIDTHS:
         raise CannotCheck(f"{path} names the set of widths `{widths}`, and this file knows `present` and `wide` alone")
     if not k:
         base, k = DEFAULT_DOMAIN, FIRST_DEFAULT_K if older else DEFAULT_K
     else:
         base = text.encode() if text else bytes.fromhex(digits)
-    return base, widths or "present", int(n), int(k)
+    return bytes.fromhex(value), base, widths or "present", int(n), int(k)
+
+
+# 15.10. The key of a keyed seal.
+
+CHECK_CONTEXT = b"dequmlo 2026-11-17 key check value"
+
+
+def read_key(path):
+    """32 bytes, or 64 hexadecimal digits and perhaps a line end."""
+    data = content(path, 66, linked=True)
+    if len(data) == 32:
+        return data
+    found = re.fullmatch(rb"([0-9a-fA-F]{64})(?:\r?\n)?", data)
+    if not found:
+        raise CannotCheck(f"{path} has no key: a key is 32 bytes, or 64 hexadecimal digits and perhaps a line end")
+    return bytes.fromhex(found.group(1).decode())
+
+
+def mode_of(value, key_file):
+    """The mode of a seal's trees: that of the key in the file, whose check value must be the seal's; hash mode where there is neither."""
+    if not value and not key_file:
+        return HASH
+    if not value:
+        raise CannotCheck("the seal is not keyed, and --key-file is given")
+    if not key_file:
+        raise CannotCheck(f"the seal is keyed, under the key with the check value {value.hex()}, and no --key-file is given")
+    key = read_key(key_file)
+    own = derived(CHECK_CONTEXT, key)[:16]
+    if own != value:
+        raise CannotCheck(f"the key in {key_file} is not the seal's: its check value is {own.hex()}, and the seal's is {value.hex()}")
+    return keyed(key)
 
 
 def answered(name, check, *given, yes="yes"):
@@ -354,9 +402,9 @@ def answered(name, check, *given, yes="yes"):
     return True
 
 
-def read_seal(folder, older):
-    """The base domain, the set of widths, n, k and the root, of a seal that is said to be older or not. One whose check lines are not its files' is damaged
-    (SPECIFICATION 15.5)."""
+def read_seal(folder, older, key_file):
+    """The mode, the base domain, the set of widths, n, k and the root, of a seal that is said to be older or not, with the file of its key or none. One whose
+    check lines are not its files' is damaged (SPECIFICATION 15.5)."""
     if not folder.is_dir():
         raise CannotCheck(f"there is no seal {folder}")
     check = folder / "check.txt"
@@ -368,7 +416,8 @@ def read_seal(folder, older):
         text = "".join(line + "\n" for line in written(folder / name))
         if then is not None and digest((text.lower() if name == "root.txt" else text).encode()).hex() != then.get(name):
             raise CannotCheck(f"the seal is damaged: {name} and its line in check.txt do not agree")
-    return parameters(folder / "parameters.txt", older) + (one(folder / "root.txt", digests(folder / "root.txt", 1)),)
+    value, *shape = parameters(folder / "parameters.txt", older)
+    return (mode_of(value, key_file), *shape, one(folder / "root.txt", digests(folder / "root.txt", 1)))
 
 
 # 15.6: the exit status, and what it says of all that was checked.
@@ -378,7 +427,7 @@ VERDICTS = {YES: "yes", NO: "no", ON_LEVEL_0: "yes on level 0 alone: no roots we
 
 def checkers_own(asked):
     """Refuses a file of the opening in the place of one of the checker's."""
-    for path in filter(None, (asked.challenges, asked.roots)):
+    for path in filter(None, (asked.challenges, asked.roots, asked.key_file)):
         if Path(asked.OPENING).resolve() in Path(path).resolve().parents:
             raise CannotCheck(f"{path} lies in the opening, so it is the holder's")
 
@@ -426,12 +475,12 @@ def check_record(asked, opening, position, size, given):
     except CannotCheck as why:
         print(f"position {position}: no: {why}")
         return False
-    base, widths, n, k, challenges, roots = given
-    given = (base, widths, n, k, position, challenges, roots, record)
+    mode, base, widths, n, k, challenges, roots = given
+    given = (mode, base, widths, n, k, position, challenges, roots, record)
     return answered(f"position {position}", check_query, *given, yes="yes" if asked.roots else "yes on level 0")
 
 
-def check_opening(asked, base, widths, n, k, root):
+def check_opening(asked, mode, base, widths, n, k, root):
     """Prints an answer for each position and one for the tail. The exit status. Level 0's root is the office's, whatever the opening says; the other roots count
     where the checker kept them. What the opening lacks is the holder's, and a no."""
     opening = Path(asked.OPENING)
@@ -453,7 +502,7 @@ def check_opening(asked, base, widths, n, k, root):
         print(f"position {position}: no: the opening has {files[position]} files for it")
     yes = not doubles
     for position in asked.at:
-        yes &= check_record(asked, opening, position, query_bytes, (base, widths, n, k, challenges, roots))
+        yes &= check_record(asked, opening, position, query_bytes, (mode, base, widths, n, k, challenges, roots))
     try:
         shown = opening / "claim.txt"
         claim = expected or word(shown, one(shown, lines(shown, most_bytes(1, 32))).strip(BLANKS))
@@ -461,7 +510,7 @@ def check_opening(asked, base, widths, n, k, root):
     except CannotCheck as why:
         print(f"tail: no: {why}")
         return NO
-    given = (base, widths, n, k, b"".join(roots[n : n + 1]), claim, tail)
+    given = (mode, base, widths, n, k, b"".join(roots[n : n + 1]), claim, tail)
     yes &= answered("tail", check_tail, *given, yes="yes" if asked.roots else "not accepted: it fits the opening's own roots, which nobody kept")
     return NO if not yes else YES if asked.roots else ON_LEVEL_0
 
@@ -473,17 +522,27 @@ ROOT_0 = "0669330e9f8271b8709da61c36482c788924e6026d5792c2f7e4fa50d61a51f3"
 ROOT_1 = "da293e0d68ec957f29e0f182a5808a566e7b12a855c63c2ab68aec541043a7f5"
 A, B, C = "489a8bcfc565532d361c653a2ab6a572", "449a8bcfc565532d361c653a2ab6a572", "509a8bcfc565532d361c653a2ab6a572"
 LAST = "02000000 1d000000000000000000000000000000" + C
-PATH = "01000000 6623d25b5b1154c90c456a3387fc71b22ddd13ed2e66c679bdbdd170b6b4143d"
-QUERY = bytes.fromhex("01000000" + A + B + C + "02000000" + A + B + LAST + PATH + "00000000")
+PATH = "6623d25b5b1154c90c456a3387fc71b22ddd13ed2e66c679bdbdd170b6b4143d"
+KEY, KEYED_OF_3073 = b"whats the Elvish word for friend", "68dede9bef00ba89e43f31a6825f4cf433389fedae75c04ee9f0cf16a427c95a"
+KEYED_ROOT_0 = "a02b21a951bed19be553ca2e340cd8ee18bfdeb209e4a25a5cd6977b9c9fbaba"
+KEYED_ROOT_1 = "7b56a8eb10b7568da1b18527c839aa732fa0f08a6755835884e6635eaa532956"
+KEYED_PATH = "2f22ab09026d0c89495da598eda8f03a35ac51d345590a0bfa36eb9c4eae0441"
+CHECK_VALUE = "d46dee072981d581712fa78bfecb9c0d"
+DEPOSITS = (("12.4", HASH, ROOT_0, ROOT_1, PATH), ("12.10", keyed(KEY), KEYED_ROOT_0, KEYED_ROOT_1, KEYED_PATH))
 
 
 def try_this_file():
-    """Whether SPECIFICATION 12.1, 12.3 and 12.4 come out as they stand there, as far as a check needs them."""
-    yes = digest(bytes(i % 251 for i in range(3073))).hex() == OF_3073 and folded(bytes(16), bytes(15) + b"\x80", b"\2" + bytes(15))[0] == 0x87
-    roots, tail = [bytes.fromhex(ROOT_0), bytes.fromhex(ROOT_1)], bytes.fromhex("01000000" + LAST + "00000000")
-    for widths in WIDTHS:  # Under either set: no level has 16 words.
-        yes &= answered(f"12.4, the query record, {widths} widths", check_query, b"d", widths, 1, 1, 2, [b"\2" + bytes(15)], roots, QUERY)
-        yes &= answered(f"12.4, the tail record, {widths} widths", check_tail, b"d", widths, 1, 1, roots[1], b"\x1d" + bytes(15), tail)
+    """Whether SPECIFICATION 12.1, 12.3, 12.4, 12.9 and 12.10 come out as they stand there, as far as a check needs them."""
+    message = bytes(i % 251 for i in range(3073))
+    yes = digest(message).hex() == OF_3073 and folded(bytes(16), bytes(15) + b"\x80", b"\2" + bytes(15))[0] == 0x87
+    yes &= digest(message, keyed(KEY)).hex() == KEYED_OF_3073 and derived(CHECK_CONTEXT, KEY)[:16].hex() == CHECK_VALUE
+    tail = bytes.fromhex("01000000" + LAST + "00000000")
+    for section, mode, *root_texts, path in DEPOSITS:
+        roots = [bytes.fromhex(root) for root in root_texts]
+        query = bytes.fromhex("01000000" + A + B + C + "02000000" + A + B + LAST + "01000000" + path + "00000000")
+        for widths in WIDTHS:  # Under either set: no level has 16 words.
+            yes &= answered(f"{section}, the query record, {widths} widths", check_query, mode, b"d", widths, 1, 1, 2, [b"\2" + bytes(15)], roots, query)
+            yes &= answered(f"{section}, the tail record, {widths} widths", check_tail, mode, b"d", widths, 1, 1, roots[1], b"\x1d" + bytes(15), tail)
     return yes
 
 
@@ -500,6 +559,7 @@ def main():
     parser.add_argument("OPENING")
     parser.add_argument("--seal", required=True)
     parser.add_argument("--older", action="store_true")
+    parser.add_argument("--key-file")
     parser.add_argument("--challenges", required=True)
     parser.add_argument("--at", required=True, type=lambda text: sorted(set(numbers(",".join(text.replace(",", " ").split())))))
     parser.add_argument("--roots")
@@ -512,7 +572,7 @@ def main():
             seal = Path(asked.seal)
             if os.path.lexists(seal / "manifest.txt"):
                 raise CannotCheck(f"{seal} is a project's: check_project.py checks a file of it")
-            status = check_opening(asked, *read_seal(seal, asked.older))
+            status = check_opening(asked, *read_seal(seal, asked.older, asked.key_file))
     except (CannotCheck, OSError) as why:
         print(f"nothing was checked: {why}", file=sys.stderr)
         return 2

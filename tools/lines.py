@@ -36,10 +36,10 @@ def drawn_bytes(kind, stream, count):
 
 
 class Reader:
-    """The lines of a file: what an argument stands for, and the bytes that lines keep."""
+    """The lines of a file: what an argument stands for, the bytes that lines keep, and the key of trees that they set."""
 
     def __init__(self):
-        self.store = b""
+        self.store, self.key = b"", None
 
     def piece(self, text, words):
         if text[0] == "~":
@@ -68,8 +68,14 @@ class Reader:
         pieces = [piece.partition("x") for piece in text.split(",") if piece != "-"]
         return [int(number) for number, _, times in pieces for _ in range(int(times or 1))]
 
-    def keep(self, line):
-        self.store += self.bytes(line[2:])
+    def takes(self, line):
+        """Is a line for those after it? Then it keeps bytes, or sets the key."""
+        name, _, text = line.partition(" ")
+        if name == "=":
+            self.store += self.bytes(text)
+        elif name == "key":
+            self.key = self.bytes(text) or None
+        return name in ("=", "key")
 
 
 def tables():

@@ -107,6 +107,7 @@ IV = (0x6A09E667, 0xBB67AE85, 0x3C6EF372, 0xA54FF53A, 0x510E527F, 0x9B05688C, 0x
 PERMUTATION = [2, 6, 3, 10, 7, 0, 4, 13, 1, 11, 12, 5, 9, 14, 15, 8]
 QUARTERS = [(0, 4, 8, 12), (1, 5, 9, 13), (2, 6, 10, 14), (3, 7, 11, 15), (0, 5, 10, 15), (1, 6, 11, 12), (2, 7, 8, 13), (3, 4, 9, 14)]
 CHUNK_START, CHUNK_END, PARENT, ROOT_NODE = 1, 2, 4, 8
+KEYED, CONTEXT, MATERIAL = 16, 32, 64
 
 
 def mix(s, a, b, c, d, x, y):
@@ -139,31 +140,46 @@ def compress(h, block, counter, length, flags):
     return tuple(s[i] ^ s[i + 8] for i in range(8))
 
 
-def chunk_node(chunk, counter):
+def chunk_node(mode, chunk, counter):
     """The last compression of a chunk, as its arguments."""
+    h, flags = mode
     blocks = [chunk[i : i + 64] for i in range(0, len(chunk), 64)] or [b""]
-    h = IV
     for i, block in enumerate(blocks):
-        flags = (CHUNK_START if i == 0 else 0) | (CHUNK_END if i == len(blocks) - 1 else 0)
-        node = (h, block.ljust(64, b"\0"), counter, len(block), flags)
+        ends = (CHUNK_START if i == 0 else 0) | (CHUNK_END if i == len(blocks) - 1 else 0)
+        node = (h, block.ljust(64, b"\0"), counter, len(block), flags | ends)
         if i < len(blocks) - 1:
             h = compress(*node)
     return node
 
 
-def parent_node(left, right):
-    return (IV, struct.pack("<16I", *compress(*left), *compress(*right)), 0, 64, PARENT)
+def parent_node(mode, left, right):
+    key, flags = mode
+    return (key, struct.pack("<16I", *compress(*left), *compress(*right)), 0, 64, flags | PARENT)
 
 
-def blake3(message):
-    """The digest in hash mode."""
+def digest_in(mode, message):
+    """The digest in a mode: key words, and the flags that every compression has."""
     starts = range(0, max(len(message), 1), 1024)
-    nodes = [chunk_node(message[i : i + 1024], i // 1024) for i in starts]
+    nodes = [chunk_node(mode, message[i : i + 1024], i // 1024) for i in starts]
     while len(nodes) > 1:
-        pairs = [parent_node(*nodes[i : i + 2]) for i in range(0, len(nodes) - 1, 2)]
+        pairs = [parent_node(mode, *nodes[i : i + 2]) for i in range(0, len(nodes) - 1, 2)]
         nodes = pairs + nodes[2 * len(pairs) :]
     h, block, counter, length, flags = nodes[0]
     return struct.pack("<8I", *compress(h, block, counter, length, flags | ROOT_NODE))
+
+
+def key_words(key):
+    return struct.unpack("<8I", key)
+
+
+def blake3(message, key=None):
+    """The digest in keyed mode, or, without a key, in hash mode."""
+    return digest_in((IV, 0) if key is None else (key_words(key), KEYED), message)
+
+
+def derive_key(context, material):
+    """The key that key derivation mode gives for a context and key material."""
+    return digest_in((key_words(digest_in((IV, CONTEXT), context)), MATERIAL), material)
 
 
 # ---- messages
@@ -196,7 +212,7 @@ def node_message(domain, level, left, right):
 
 
 def derive(base, n, k):
-    """The gammas of a base domain, j outer."""
+    """The gammas of a base domain, j outer: in hash mode, under every key."""
     return [int.from_bytes(blake3(gamma_message(base, n, k, j, i))[:16], "little") for j in range(k) for i in range(n)]
 
 
@@ -235,15 +251,28 @@ def level_domain(base, l):
     return base + b"/level/" + str(l).encode()
 
 
-def tree(domain, width, values):
-    """The digests of a tree over groups of values, leaves first."""
+def leaf_digest(domain, count, width, group, values, key=None):
+    return blake3(leaf_message(domain, count, width, group, values), key)
+
+
+def node_digest(domain, level, left, right, key=None):
+    return blake3(node_message(domain, level, left, right), key)
+
+
+def tree(domain, width, values, key=None):
+    """The digests of a tree over groups of values, leaves first, under a key or none."""
     count = len(values)
-    level = [blake3(leaf_message(domain, count, width, g, values[width * g : width * (g + 1)])) for g in range(count // width)]
+    level = [leaf_digest(domain, count, width, g, values[width * g : width * (g + 1)], key) for g in range(count // width)]
     digests, height = list(level), 0
     while len(level) > 1:
-        level = [blake3(node_message(domain, height, *level[i : i + 2])) for i in range(0, len(level), 2)]
+        level = [node_digest(domain, height, *level[i : i + 2], key) for i in range(0, len(level), 2)]
         digests, height = digests + level, height + 1
     return digests
+
+
+def level_trees(base, widths, levels, key=None):
+    """The trees of all levels of a deposit."""
+    return [tree(level_domain(base, l), fold_tree_width(widths, len(values)), values, key) for l, values in enumerate(levels)]
 
 
 def path(digests, group):
@@ -255,11 +284,11 @@ def path(digests, group):
     return siblings
 
 
-def root_of_path(domain, count, width, place, values, siblings):
+def root_of_path(domain, count, width, place, values, siblings, key=None):
     """Where the group of a place, with these values, and a path lead to."""
     group = place // width
-    digest = blake3(leaf_message(domain, count, width, group, values))
+    digest = leaf_digest(domain, count, width, group, values, key)
     for height, sibling in enumerate(siblings):
         pair = (digest, sibling) if group % 2 == 0 else (sibling, digest)
-        digest, group = blake3(node_message(domain, height, *pair)), group // 2
+        digest, group = node_digest(domain, height, *pair, key), group // 2
     return digest

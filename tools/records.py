@@ -2,7 +2,7 @@
 builds (SPECIFICATION 8.6 to 8.8), and deposits to make them of. Rests on model.py, and on nothing of the code or of the Rust."""
 import dataclasses
 
-from model import derive, encode, fold, fold_tree_width, level_domain, mul, path, root_of_path, some_words, tree, word_bytes
+from model import derive, encode, fold, fold_tree_width, level_domain, level_trees, mul, path, root_of_path, some_words, tree, word_bytes
 
 # ---- bytes
 
@@ -125,7 +125,7 @@ def sizes(widths, n, k):
     return sum(32 * (2 * g - 1) for g in groups), 4 + sum(48 + a + c for a, c in zip(opened, opened[1:])), 4 + groups[n] * opened[n]
 
 
-def check_query(base, widths, n, k, position, challenges, roots, record):
+def check_query(base, widths, n, k, position, challenges, roots, record, key=None):
     yield 4, 0, 1 <= n <= 20 and k <= 4
     yield 5, 0, len(challenges) == 16 * n
     yield 5, 0, len(roots) == 32 * (n + 1)
@@ -140,20 +140,20 @@ def check_query(base, widths, n, k, position, challenges, roots, record):
         count, width, depth = shape(widths, n, k, l)
         yield 16, l, len(x.a_group) == width
         yield 17, l, len(x.a_path) == depth
-        root = root_of_path(level_domain(base, l), count, width, 2 * q, x.a_group, x.a_path)
+        root = root_of_path(level_domain(base, l), count, width, 2 * q, x.a_group, x.a_path, key)
         yield 18, l, root == roots[32 * l : 32 * (l + 1)]
         yield 19, l, x.a_group[2 * q % width] == x.a
         yield 21, l, x.a_group[(2 * q + 1) % width] == x.b
         count, width, depth = shape(widths, n, k, l + 1)
         yield 22, l, len(x.c_group) == width
         yield 23, l, len(x.c_path) == depth
-        root = root_of_path(level_domain(base, l + 1), count, width, q, x.c_group, x.c_path)
+        root = root_of_path(level_domain(base, l + 1), count, width, q, x.c_group, x.c_path, key)
         yield 24, l, root == roots[32 * (l + 1) : 32 * (l + 2)]
         yield 25, l, x.c_group[q % width] == x.c
         yield 26, l, x.a ^ mul(r, x.a ^ x.b) == x.c
 
 
-def check_tail(base, widths, n, k, claim, root, record):
+def check_tail(base, widths, n, k, claim, root, record, key=None):
     yield 4, 0, 1 <= n <= 20 and k <= 4
     yield 5, 0, len(root) == 32
     yield 7, 0, len(base) <= 200
@@ -164,7 +164,7 @@ def check_tail(base, widths, n, k, claim, root, record):
     for g, x in enumerate(groups):
         yield 28, 0, len(x.values) == width
         yield 29, 0, len(x.path) == depth
-        yield 30, 0, root_of_path(level_domain(base, n), count, width, width * g, x.values, x.path) == root
+        yield 30, 0, root_of_path(level_domain(base, n), count, width, width * g, x.values, x.path, key) == root
     yield 31, 0, word_bytes(groups[0].values[0]) == claim
 
 
@@ -190,15 +190,16 @@ def build_tail(widths, n, k, level, tree, out):
 
 
 class Deposit:
-    """A table committed under a base domain, with a set of widths, and folded n times. The table and the challenges are the same under either set."""
+    """A table committed under a base domain, with a set of widths and a key or none, and folded n times. The table and the challenges are the same under
+    either set and under every key."""
 
-    def __init__(self, widths, n, k, base):
+    def __init__(self, widths, n, k, base, key=None):
         words = some_words("deposit %d %d %s" % (n, k, base.hex()), (1 << n) + n)
-        self.widths, self.n, self.k, self.base, self.challenges = widths, n, k, base, words[1 << n :]
+        self.widths, self.n, self.k, self.base, self.key, self.challenges = widths, n, k, base, key, words[1 << n :]
         self.levels = [encode(n, k, words[: 1 << n], derive(base, n, k))]
         for r in self.challenges:
             self.levels.append(fold(self.levels[-1], r))
-        self.trees = [tree(level_domain(base, l), fold_tree_width(widths, len(v)), v) for l, v in enumerate(self.levels)]
+        self.trees = level_trees(base, widths, self.levels, key)
         self.roots = [digests[-1] for digests in self.trees]
 
     def opening(self, l, place):
@@ -217,8 +218,8 @@ class OpenedDeposit:
     """A deposit that is too long to make: of each level the one group that a query at a position opens. Its other values and the digests on
     its path are any, and the root is what they lead to."""
 
-    def __init__(self, widths, n, k, base, position):
-        self.widths, self.n, self.k, self.base, self.position = widths, n, k, base, position
+    def __init__(self, widths, n, k, base, position, key=None):
+        self.widths, self.n, self.k, self.base, self.position, self.key = widths, n, k, base, position, key
         self.challenges = self.words("challenges", n)
         self.openings, self.roots, folded = [], [], None
         for l in range(n + 1):
@@ -233,7 +234,7 @@ class OpenedDeposit:
                 even = place - place % 2
                 (folded,) = fold([values[even % width], values[(even + 1) % width]], self.challenges[l])
             self.openings.append((values, siblings))
-            self.roots.append(root_of_path(level_domain(base, l), count, width, place, values, siblings))
+            self.roots.append(root_of_path(level_domain(base, l), count, width, place, values, siblings, key))
 
     def words(self, what, count):
         return some_words("opened %d %d %d %s" % (self.n, self.k, self.position, what), count)
@@ -245,10 +246,10 @@ class OpenedDeposit:
 class LastLevel(Deposit):
     """A deposit that is too long to make: its last level alone, of any values."""
 
-    def __init__(self, widths, n, k, base):
+    def __init__(self, widths, n, k, base, key=None):
         values = some_words("last level %d %d" % (n, k), 1 << k)
-        self.widths, self.n, self.k, self.base, self.levels = widths, n, k, base, [[]] * n + [values]
-        self.trees = [[]] * n + [tree(level_domain(base, n), fold_tree_width(widths, 1 << k), values)]
+        self.widths, self.n, self.k, self.base, self.key, self.levels = widths, n, k, base, key, [[]] * n + [values]
+        self.trees = [[]] * n + [tree(level_domain(base, n), fold_tree_width(widths, 1 << k), values, key)]
         self.roots = [self.trees[n][-1]]
 
 

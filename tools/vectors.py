@@ -12,6 +12,7 @@ import answers
 import cases_blocks
 import cases_field
 import cases_half_folded
+import cases_keyed
 import cases_record
 import cases_rust
 import cases_tree
@@ -41,8 +42,8 @@ def files(oracle):
     return {
         "test_field": [*cases_field.files(), *cases_blocks.files(), *cases_half_folded.files(), *cases_rust.field_files()],
         "test_record": [
-            *below("tree", [*cases_tree.files(), *cases_rust.tree_files()]),
-            *below("record", [*cases_record.files(), *cases_wide.files(), *cases_rust.record_files(records(oracle))]),
+            *below("tree", [*cases_tree.files(), *cases_keyed.tree_files(), *cases_rust.tree_files()]),
+            *below("record", [*cases_record.files(), *cases_wide.files(), *cases_keyed.record_files(), *cases_rust.record_files(records(oracle))]),
         ],
     }
 
@@ -55,9 +56,7 @@ def requests(text):
 def by_model(letters, text):
     reader, said = lines.Reader(), []
     for i, line in enumerate(text.splitlines(), 1):
-        if line.startswith("= "):
-            reader.keep(line)
-        elif line and line[0] != "#":
+        if not reader.takes(line) and line and line[0] != "#":
             said.append("%d %s\n" % (i, answers.answer(reader, letters[line.split()[0]], line)))
     return "".join(said)
 
@@ -71,14 +70,14 @@ def by_rust(oracle, text):
 
 
 def rust_has(reader, line, number):
-    """Whether the Rust answers a request. On a fold or on L: it is done, and L is in the earlier reading. On a record: its set of widths is the present
-    one, no question before 14 has a no, and the domain is text of at most 79 bytes."""
+    """Whether the Rust answers a request. On a fold or on L: it is done, and L is in the earlier reading. On a record: it is under no key, its set of widths
+    is the present one, no question before 14 has a no, and the domain is text of at most 79 bytes."""
     name, *given = line.split()
     if name == "fold":
         return number == 0
     if name == "l_of":
         return number == 0 and reader.numbers(given[4]) == list(range(int(given[0])))
-    if name not in ("check_query", "check_tail", "build_query") or 0 < number < 14:
+    if name not in ("check_query", "check_tail", "build_query") or reader.key or 0 < number < 14:
         return False
     base, widths = (b"", given[0]) if name == "build_query" else (reader.bytes(given[0]), given[1])
     if int(widths) != PRESENT:
@@ -91,9 +90,8 @@ def hold_to_rust(oracle, text, said):
     reader, asked, wanted = lines.Reader(), [], []
     answered = dict(line.split(" ", 1) for line in said.splitlines())
     for i, line in enumerate(text.splitlines(), 1):
-        if line.startswith("= "):
-            reader.keep(line)
-            asked.append(line)
+        if reader.takes(line):
+            asked += [line] if line[0] == "=" else []
         elif str(i) in answered and rust_has(reader, line, int(answered[str(i)].split()[0])):
             asked.append(line)
             wanted.append("%d %s\n" % (len(asked), answered[str(i)]))

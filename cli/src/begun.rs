@@ -20,7 +20,7 @@ use crate::reading::{exactly, listed, text_inside, unreadable};
 use crate::seal::Seal;
 use crate::shape::{Shape, PARAMETERS};
 use crate::statement::first_difference;
-use dequmlo::{HalfFolded, Kept, NotTakenUp, Root, Threads, Word};
+use dequmlo::{HalfFolded, Kept, Key, NotTakenUp, Root, Threads, Word};
 use std::borrow::Cow;
 use std::io;
 use std::path::{Path, PathBuf};
@@ -67,11 +67,11 @@ impl Begun {
         &self.folder
     }
 
-    /// The deposit as it was left, every level checked; a sentence where one is damaged.
-    pub fn take_up(self, threads: Threads) -> Result<HalfFolded, String> {
+    /// The deposit as it was left, every level checked under the seal's key; a sentence where one is damaged.
+    pub fn take_up(self, threads: Threads, key: Option<&Key>) -> Result<HalfFolded, String> {
         let (folder, level) = (&self.folder, self.level());
         let mut read = Vec::new();
-        let half = HalfFolded::take_up(threads, self.kept, |level, room| {
+        let half = HalfFolded::take_up(threads, key, self.kept, |level, room| {
             read.extend(fill(folder, level, room)?);
             Ok(())
         });
@@ -106,7 +106,7 @@ impl Texts {
         let shown = folder.display();
         if self.shape != seal.shape {
             return Err(format!(
-                "the interrupted work in {shown} is of another seal: it names another n, k, base domain or set of widths"
+                "the interrupted work in {shown} is of another seal: it names another n, k, base domain, set of widths or key"
             ));
         }
         if let Some(root) = self.roots.first().filter(|root| **root != seal.root) {
@@ -134,6 +134,7 @@ impl Texts {
             k,
             domain,
             widths,
+            ..
         } = self.shape;
         let level = n.checked_sub(self.coordinates.len());
         let done = self.challenges[..level.ok_or(NotTakenUp::Coordinates)?].to_vec();
@@ -206,11 +207,12 @@ pub fn files<'a>(
 ) -> Vec<(String, Cow<'a, [u8]>)> {
     let (level, roots) = (half.level(), half.roots());
     let summary = format!(
-        "{} {file}.\n\nFolded up to level {level} of {}.\nThe challenges: {drawn}.\nMade for the root: {}\n\n\
+        "{} {file}.\n\nFolded up to level {level} of {}.\nThe challenges: {drawn}.\nMade for the root: {}\n{}\n\
          `seal open` goes on from here with --resume.\n\n{}",
         Kind::Begun.heading(),
         shape.n,
         roots[0],
+        shape.key_sentence(),
         signature()
     );
     let mut files: Vec<(String, Cow<[u8]>)> = vec![

@@ -69,6 +69,7 @@ mod tests {
             k: 2,
             domain: Vec::new(),
             widths: Widths::Present,
+            key: None,
         }
     }
 

@@ -1,6 +1,7 @@
 //! What a check found, record by record: the lines, the object for programs and the verdict that come of it.
 
 use crate::json::Json;
+use crate::key;
 use crate::opened::Opened;
 use crate::outcome::{answer, lines_of, texts, Outcome, Verdict};
 use crate::shape::Shape;
@@ -189,7 +190,7 @@ impl Found {
                 ("accepted", Json::Bool(self.has_a_tail())),
             ])
         });
-        Outcome::new(verdict, sentence)
+        let outcome = Outcome::new(verdict, sentence)
             .refusal(self.first_refusal())
             .lines(self.lines(kept))
             .lines(not_checked)
@@ -207,7 +208,8 @@ impl Found {
             .found(
                 "positions_of_a_full_check",
                 Json::number(extent.shape.queries()),
-            )
+            );
+        key::found(outcome, extent.shape.key)
     }
 
     pub fn verdict(&self, extent: &Extent) -> (Verdict, String) {

@@ -14,11 +14,12 @@ struct Command {
     takes: &'static [&'static str],
 }
 
-const COMMANDS: [Command; 12] = [
+const COMMANDS: [Command; 13] = [
     Command {
         name: "commit",
-        usage: "seal commit FILE|FOLDER [--profile NAME | --k K --domain TEXT] [--widths SET] [--out FOLDER] [--force] [--threads N]",
-        does: "Seals a file, or a project of all files below a folder: its root and parameters go into the folder FILE.seal.",
+        usage: "seal commit FILE|FOLDER [--profile NAME | --k K --domain TEXT] [--widths SET] [--key-file FILE] [--out FOLDER] [--force] [--threads N]",
+        does: "Seals a file, or a project of all files below a folder: its root and parameters go into the folder FILE.seal.\n    \
+               With --key-file it is sealed under a key: nobody without the key makes or checks its root.",
         takes: &commands::commit::TAKEN,
     },
     Command {
@@ -75,10 +76,18 @@ const COMMANDS: [Command; 12] = [
         takes: &commands::compare::TAKEN,
     },
     Command {
+        name: "key",
+        usage: "seal key new FILE\n\
+                seal key derive --context TEXT --from FILE FILE",
+        does: "Writes a key into a new file that its owner alone may read, 64 hexadecimal digits and a line end: from the system's randomness, or derived from\n    \
+               key material. A file that exists is never written over.",
+        takes: &commands::key::TAKEN,
+    },
+    Command {
         name: "explain",
-        usage: "seal explain [NUMBER | older | widths]",
-        does: "Says what the number of a refusal means, and what to ask the holder for, or that it is retired; which seals --older is for; or what the\n    \
-               sets of widths are.",
+        usage: "seal explain [NUMBER | older | widths | keys]",
+        does: "Says what the number of a refusal means, and what to ask the holder for, or that it is retired; which seals --older is for; what the\n    \
+               sets of widths are; or what a key gives and what it does not.",
         takes: &["--json"],
     },
     Command {
@@ -105,7 +114,8 @@ const FOR_ALL: &str = "\
 --json prints one object for programs, whatever happens. A folder that exists is left alone; --force replaces it where it holds exactly what
 this program wrote, a seal by a seal and an opening by an opening. Profiles: default, fastchunk, balanced, compactwrap, deepwrap, firstdefault;
 `seal commit` takes the default, k 2, and the present set of widths where none is named; every other command goes by what the seal says. Wherever
---seal is given, --older says that a seal which names neither k nor a base domain was made before version 0.4.0, when the default had k 1.";
+--seal is given, --older says that a seal which names neither k nor a base domain was made before version 0.4.0, when the default had k 1, and
+--key-file names the file of the key of a seal that was made under one: such a seal is not read without it.";
 
 const STATUSES: &str = "\
 Exit status: 0 accepted, or done; 1 refused; 2 could not run: wrong use, a file that cannot be read or changes meanwhile, a damaged seal, a full

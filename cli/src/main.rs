@@ -15,6 +15,7 @@ mod found;
 mod help;
 mod hex;
 mod json;
+mod key;
 mod lines;
 mod manifest;
 #[cfg(test)]
@@ -74,6 +75,7 @@ fn run(options: &Options) -> Result<Outcome, Failure> {
         "compare" => commands::compare::run(options),
         "explain" => commands::explain::run(options),
         "demo" => commands::demo::run(options),
+        "key" => commands::key::run(options),
         "help" => help::run(options),
         "version" | "--version" | "-V" => help::version(options),
         other => Err(help::no_such_command(other)),

@@ -35,6 +35,7 @@ fn group(seal: &Seal, position: usize, record: &QueryRecord) -> Option<Vec<(usiz
     let (count, width) = (seal.sizes.codeword_words, shown.a_group.len());
     let domain = level_domain(&seal.shape.domain, 0).ok()?;
     let root = root_of_path(
+        seal.key(),
         &domain,
         count,
         width,

@@ -40,13 +40,14 @@ impl Opening {
     pub fn files(&self, file: &str, drawn: &str, manifest: Option<Vec<u8>>) -> Vec<Named> {
         let positions: Vec<String> = self.queries.iter().map(|(p, _)| p.to_string()).collect();
         let summary = format!(
-            "{} {file}.\n\nRecords at {} positions: {}.\nThe challenges: {drawn}.\nMade for the root: {}\nTerminal claim: {}\n\n\
+            "{} {file}.\n\nRecords at {} positions: {}.\nThe challenges: {drawn}.\nMade for the root: {}\nTerminal claim: {}\n{}\n\
              `seal check` checks it against a seal.\n\n{}",
             Kind::Opening.heading(),
             positions.len(),
             positions.join(", "),
             self.roots[0],
             self.claim,
+            self.shape.key_sentence(),
             signature()
         );
         let mut files: Vec<Named> = vec![

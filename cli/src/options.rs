@@ -26,7 +26,7 @@ const fn option(name: &'static str, value: &'static str, means: &'static str) ->
 }
 
 /// Every option, in the order of the help.
-pub const OPTIONS: [Known; 29] = [
+pub const OPTIONS: [Known; 32] = [
     option("--seal", "FOLDER", "the seal, as `seal commit` wrote it"),
     option("--older", "", "the seal names neither k nor a base domain and was made before version 0.4.0; `seal explain older` says more"),
     option("--asked", "FOLDER", "the request that `seal ask` wrote; it has challenges, positions, roots and claim"),
@@ -37,6 +37,7 @@ pub const OPTIONS: [Known; 29] = [
     option("--k", "K", "k by itself, from 0 to 4, together with --domain"),
     option("--domain", "TEXT", "the base domain by itself, at most 200 bytes, together with --k"),
     option("--widths", "SET", "the set of the groups' widths: present, which is taken where none is named, or wide; `seal explain widths` says more"),
+    option("--key-file", "FILE", "the file of the key, for a seal under a key: 32 bytes, or 64 hexadecimal digits and a line end; `seal explain keys` says more"),
     option("--challenges", "FILE", "the checker's challenges, n words, one to a line"),
     option("--at", "P,P,..", "the checker's positions"),
     option("--positions", "FILE", "the checker's positions in a file, with blanks or line ends between them"),
@@ -49,6 +50,8 @@ pub const OPTIONS: [Known; 29] = [
     option("--claim", "WORD", "the terminal claim that is expected, in place of the opening's"),
     option("--own-questions", "", "checks by the holder's own challenges and positions, which is never an acceptance"),
     option("--report", "FILE", "writes what was found as a page for the archive's file, FILE.html"),
+    option("--context", "TEXT", "what a derived key is for: a text under which no other key is derived"),
+    option("--from", "FILE", "the key material, which is secret: any bytes, at most 2^24, as hard to guess as a key"),
     option("--until", "LEVEL", "stops when this level is folded, from 0 to n, and keeps the work so far in FILE.begun"),
     option("--resume", "FOLDER", "goes on from the work that --until kept; FILE itself is not read again"),
     option("--out", "FOLDER", "where to write, in place of the folder beside the file"),

@@ -83,12 +83,13 @@ pub fn manifest_in(
         k,
         domain,
         widths,
+        ..
     } = &seal.shape;
     if bytes.len() > MOST_BYTES || variables(bytes.len()) != *n {
         return another("it has another size".into());
     }
     room_for(&seal.shape)?;
-    match root_of(&bytes, Threads::all(), domain, *widths, *k) {
+    match root_of(&bytes, Threads::all(), seal.key(), domain, *widths, *k) {
         Ok(root) if root == seal.root => (),
         Ok(root) => {
             return another(format!(
@@ -127,7 +128,7 @@ pub fn asked_seal(
     opening: Option<&Path>,
 ) -> Result<Result<Seal, RefusedManifest>, Failure> {
     let folder = options.needed_path("--seal", SEAL_FOLDER)?;
-    let seal = Seal::read(&folder, options.has("--older"))?;
+    let seal = Seal::read(&folder, options.has("--older"))?.with_key(&folder, options)?;
     if options.path("--file").is_none() {
         // What the holder puts into an opening does not decide what is asked about.
         if folder.join(MANIFEST).exists() {

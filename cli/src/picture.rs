@@ -169,6 +169,7 @@ mod tests {
             k,
             domain: Vec::new(),
             widths: Widths::Present,
+            key: None,
         }
     }
 

@@ -6,7 +6,7 @@ use crate::progress::Progress;
 use crate::reading::{listed_stretch, shown_name, unreadable, Stretch, Unread};
 use crate::steady::State;
 use crate::table::{room_for_many, table_in, table_of, variables};
-use dequmlo::{Buffers, Deposit, Refusal, Root, Threads, Widths, Word};
+use dequmlo::{Buffers, Deposit, Key, Refusal, Root, Threads, Widths, Word};
 use std::ffi::OsStr;
 use std::mem;
 use std::os::unix::ffi::OsStrExt;
@@ -66,12 +66,13 @@ impl Stop {
 pub fn root_of(
     bytes: &[u8],
     threads: Threads,
+    key: Option<&Key>,
     domain: &[u8],
     widths: Widths,
     k: usize,
 ) -> Result<Root, Refusal> {
     let table = table_of(bytes).expect("no more bytes than a deposit has");
-    Deposit::commit_on(threads, domain, widths, k, &table).map(|deposit| deposit.root())
+    Deposit::commit_on(threads, key, domain, widths, k, &table).map(|deposit| deposit.root())
 }
 
 /// What a thread keeps from one part to the next, so that the system makes its pages once.
@@ -84,11 +85,17 @@ struct Kept {
 
 impl Kept {
     /// The root of the bytes that were read.
-    fn root(&mut self, domain: &[u8], widths: Widths, k: usize) -> Result<Root, Refusal> {
+    fn root(
+        &mut self,
+        key: Option<&Key>,
+        domain: &[u8],
+        widths: Widths,
+        k: usize,
+    ) -> Result<Root, Refusal> {
         table_in(&mut self.table, &self.bytes).expect("no more bytes than a deposit has");
         let buffers = mem::take(&mut self.buffers);
         let threads = Threads::of(1);
-        let deposit = Deposit::commit_in(buffers, threads, domain, widths, k, &self.table)?;
+        let deposit = Deposit::commit_in(buffers, threads, key, domain, widths, k, &self.table)?;
         let root = deposit.root();
         self.buffers = deposit.into_buffers();
         Ok(root)
@@ -99,6 +106,7 @@ impl Kept {
 #[derive(Clone, Copy)]
 pub struct Under<'a> {
     pub threads: Threads,
+    pub key: Option<&'a Key>,
     pub domain: &'a [u8],
     pub widths: Widths,
     pub k: usize,
@@ -167,7 +175,11 @@ fn committed(
     on_unread: &OnUnread,
 ) -> Result<Vec<Committed>, Stop> {
     let Under {
-        domain, widths, k, ..
+        key,
+        domain,
+        widths,
+        k,
+        ..
     } = under;
     let mut jobs: Vec<Job> = Vec::new();
     for (file, (_, state)) in files.iter().enumerate() {
@@ -191,7 +203,7 @@ fn committed(
                     if let Err(e) = read(&mut kept.bytes, &path, *state, part) {
                         return on_unread(&path, e).map(|why| (Err(why), 0));
                     }
-                    let root = kept.root(domain, widths, k).map_err(Stop::Refused)?;
+                    let root = kept.root(key, domain, widths, k).map_err(Stop::Refused)?;
                     Ok((Ok(root), kept.bytes.len()))
                 })
             });
@@ -282,6 +294,7 @@ mod tests {
     fn under() -> Under<'static> {
         Under {
             threads: Threads::of(2),
+            key: None,
             domain: b"d",
             widths: Widths::Present,
             k: 1,

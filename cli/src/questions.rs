@@ -17,9 +17,10 @@ pub const SEED_WARNING: &str = "the questions come from a seed text: good for tr
                                 that the checker draws after the root is known";
 
 /// The options that name a seal, a place of a project and what a checker asks: `seal open` and `seal check` take them alike.
-const ASKING: [&str; 11] = [
+const ASKING: [&str; 12] = [
     "--seal",
     "--older",
+    "--key-file",
     "--file",
     "--part",
     "--offset",

@@ -156,6 +156,15 @@ pub fn named(path: &Path, most: usize) -> Result<Vec<u8>, Failure> {
         .map_err(|e| unreadable(path, e))
 }
 
+/// A file that the command line names, which may be a link to one, opened.
+pub fn named_file(path: &Path) -> Result<File, Failure> {
+    fs::metadata(path)
+        .map_err(Unread::from)
+        .and_then(|found| regular(found.file_type()))
+        .and_then(|()| opened(path, 0))
+        .map_err(|e| unreadable(path, e))
+}
+
 /// The text of a file in a folder.
 pub fn text_inside(folder: &Path, name: &str, most: usize) -> Result<String, Failure> {
     let path = folder.join(name);

@@ -4,6 +4,7 @@
 use crate::format::{FORMAT, PROGRAM};
 use crate::found::{Answer, Extent, Found, Item, UNKEPT_TAIL};
 use crate::hex;
+use crate::key::told;
 use crate::opened::as_text;
 use crate::outcome::Verdict;
 use crate::picture::picture;
@@ -126,7 +127,7 @@ fn facts(subject: &Subject, found: &Found, extent: &Extent) -> String {
         .summary
         .clone()
         .unwrap_or_else(|| "the seal has none that is as it was written".into());
-    let rows = [
+    let mut rows = vec![
         ("Seal", subject.seal_name.clone()),
         ("What the seal says", summary),
         ("Root", subject.seal.root.to_string()),
@@ -150,6 +151,13 @@ fn facts(subject: &Subject, found: &Found, extent: &Extent) -> String {
         ),
         ("Widths", format!("the {} set", shape.widths)),
     ];
+    rows.extend(shape.key.map(|value| {
+        let said = format!(
+            "the seal is keyed: it was made and checked {}",
+            told(Some(value))
+        );
+        ("Key", said)
+    }));
     let rows: String = rows
         .iter()
         .map(|(name, value)| {

@@ -98,7 +98,7 @@ impl Request {
         if request.shape != seal.shape {
             let assumed = seal.assumed.as_ref();
             return Err(Failure(format!(
-                "the request in {shown} is about another seal: it names another n, k, base domain or set of widths{}",
+                "the request in {shown} is about another seal: it names another n, k, base domain, set of widths or key{}",
                 assumed.map_or(String::new(), |assumed| format!(". Note that {assumed}"))
             )));
         }

@@ -1,7 +1,7 @@
 //! A seal: a small folder with the parameters, the root, their check lines, and a summary for a person. The first two begin with the line of
 //! their format (format.rs).
 //!
-//!     parameters.txt   n, k, the base domain and the set of widths (shape.rs); without k and the base domain where others wrote it so
+//!     parameters.txt   n, k, the base domain, the set of widths and the check value of a key (shape.rs); without k and the base domain where others wrote it so
 //!     root.txt         64 hexadecimal digits
 //!     summary.txt      what this is, in sentences; no check reads it
 //!     check.txt        the digest of each of the three (check_lines.rs); seals of version 0.1.0 have none
@@ -9,13 +9,15 @@
 use crate::check_lines::{with_check_lines, CheckLines, CHECK};
 use crate::folder::{Kind, Named, SUMMARY};
 use crate::format::{all_known, signature, Body};
+use crate::key::{fitting, Given};
 use crate::lines::{self, most_bytes, one};
 use crate::manifest::{Manifest, MANIFEST};
+use crate::options::Options;
 use crate::outcome::Failure;
 use crate::part::Part;
 use crate::reading::{inside, shown_name, text_inside};
 use crate::shape::{Shape, PARAMETERS};
-use dequmlo::{Root, Sizes};
+use dequmlo::{Key, Root, Sizes};
 use std::ffi::OsStr;
 use std::path::Path;
 
@@ -41,6 +43,8 @@ pub struct Seal {
     pub notes: Vec<String>,
     /// Where it is that of a part of a project, which one.
     pub part: Option<Part>,
+    /// The key of its trees, where it is keyed and was read with it.
+    pub key: Option<Key>,
 }
 
 impl Seal {
@@ -63,16 +67,28 @@ impl Seal {
         })
     }
 
+    /// The same with the key that the options name. Fails where the seal is keyed and they name none or another, and where it is not and they name one.
+    pub fn with_key(self, folder: &Path, options: &Options) -> Result<Seal, Failure> {
+        let key = fitting(folder, self.shape.key, Given::by(options)?)?;
+        Ok(Seal { key, ..self })
+    }
+
+    /// The key of its trees; none where it is not keyed.
+    pub fn key(&self) -> Option<&Key> {
+        self.key.as_ref()
+    }
+
     /// The files of a seal, for a file of so many bytes.
     pub fn files(shape: &Shape, root: &Root, file: &str, bytes: usize) -> Vec<Named> {
         let Shape { n, k, widths, .. } = shape;
         let summary = format!(
             "{}\n\nIt stands for the file {file} of {bytes} bytes, as a table of {} words (n = {n}, k = {k}), under the base \
-             domain {} and the {widths} set of widths.\nRoot: {root}\n\nWhoever keeps this root can check that what a holder shows later is what was deposited:\n\
+             domain {} and the {widths} set of widths.\n{}Root: {root}\n\nWhoever keeps this root can check that what a holder shows later is what was deposited:\n\
              `seal open` makes what is shown, `seal check` checks it.\n\n{}",
             Kind::Seal.heading(),
             1usize << n,
             shape.shown_domain(),
+            shape.key_sentence(),
             signature()
         );
         with_check_lines(vec![
@@ -93,7 +109,7 @@ impl Seal {
     ) -> Vec<Named> {
         let summary = format!(
             "{}\n\nIt stands for the project {project}: {} files of {} bytes in all, in {} parts.\n\
-             {MANIFEST} lists them with the root of each part, and the root below is that of {MANIFEST}, as a table of {} words (n = {}, k = {}), under the base domain {} and the {} set of widths.\nRoot: {root}\n\n\
+             {MANIFEST} lists them with the root of each part, and the root below is that of {MANIFEST}, as a table of {} words (n = {}, k = {}), under the base domain {} and the {} set of widths.\n{}Root: {root}\n\n\
              Whoever keeps this root can check that what a holder shows later is what was deposited:\n`seal open` makes what is shown of a file, `seal check` \
              checks it, `seal verify` says what has changed.\n\n{}",
             Kind::Seal.heading(),
@@ -105,6 +121,7 @@ impl Seal {
             shape.k,
             shape.shown_domain(),
             shape.widths,
+            shape.key_sentence(),
             signature()
         );
         with_check_lines(vec![
@@ -150,6 +167,7 @@ fn parts(folder: &Path, older: bool) -> Result<Seal, Failure> {
         vouched: lines.is_some(),
         notes,
         part: None,
+        key: None,
     })
 }
 

@@ -1,16 +1,20 @@
-//! n, k, the base domain and the set of the groups' widths, and `parameters.txt`, which has them in four lines behind its format:
+//! n, k, the base domain, the set of the groups' widths and the check value of the key, and `parameters.txt`, which has them in four or five lines behind its
+//! format:
 //!
 //!     format 1
 //!     n 12
 //!     k 2
 //!     domain magnetar/pcs/balanced     (or domain-hex and hexadecimal digits)
 //!     widths present                   (or widths wide)
+//!     key 0123456789abcdef0123456789abcdef
 //!
-//! `seal commit` writes all four. Before version 0.6.0 there was no line with the widths: a text without it is of the present set. A seal that others
+//! `seal commit` writes all four, and the fifth under a key alone: without it there is no key. Programs before version 0.9.0 do not know it, and do not read
+//! a text that has it. Before version 0.6.0 there was no line with the widths: a text without it is of the present set. A seal that others
 //! wrote may have neither of the two lines between: it names neither k nor a base domain.
 
 use crate::format::{marked, Body, PROGRAM};
 use crate::hex;
+use crate::key::{told, CheckValue};
 use crate::outcome::Failure;
 use crate::reading::{shown_name, text_inside};
 use dequmlo::{Parameters, Sizes, Widths};
@@ -19,7 +23,7 @@ use std::path::Path;
 
 pub const PARAMETERS: &str = "parameters.txt";
 
-/// More than four lines with a domain of 200 bytes in hexadecimal digits can have.
+/// More than five lines with a domain of 200 bytes in hexadecimal digits can have.
 const MOST_BYTES: usize = 1024;
 
 #[derive(Clone, Debug, PartialEq, Eq)]
@@ -28,6 +32,8 @@ pub struct Shape {
     pub k: usize,
     pub domain: Vec<u8>,
     pub widths: Widths,
+    /// The check value of the key that its trees are made under, if they are made under one.
+    pub key: Option<CheckValue>,
 }
 
 /// What a folder's `parameters.txt` says.
@@ -60,14 +66,15 @@ impl Read {
         let named = whole.is_some();
         let (lines, shape) = whole.or_else(|| said.of_n_alone(unnamed?)).ok_or_else(|| {
             Failure(format!(
-                "{} does not have its lines n, k, domain and widths as `seal commit` writes them",
+                "{} does not have its lines n, k, domain, widths and perhaps key as `seal commit` writes them",
                 path.display()
             ))
         })?;
         let sizes = Sizes::of(shape.widths, shape.n, shape.k)
             .map_err(|refusal| Failure(format!("{}: {refusal}", path.display())))?;
         let widths = said.widths.map_or(String::new(), widths_line);
-        let written = body.written(&(lines + &widths));
+        let key = said.key.map_or(String::new(), key_line);
+        let written = body.written(&(lines + &widths + &key));
         Ok(Read {
             untidy: text != written,
             shape,
@@ -95,7 +102,8 @@ impl Shape {
     }
 
     fn text(&self) -> String {
-        format!("{}{}", self.without_widths(), widths_line(self.widths))
+        let key = self.key.map_or(String::new(), key_line);
+        format!("{}{}{key}", self.without_widths(), widths_line(self.widths))
     }
 
     /// The lines n, k and domain.
@@ -114,6 +122,12 @@ impl Shape {
         } else {
             format!("of the bytes {}", hex::write(&self.domain))
         }
+    }
+
+    /// A line for people about the key; nothing where there is none.
+    pub fn key_sentence(&self) -> String {
+        let line = |value| format!("Made {}.\n", told(Some(value)));
+        self.key.map_or(String::new(), line)
     }
 
     /// The positions of the codeword: those below this number.
@@ -142,14 +156,21 @@ impl Shape {
 struct Said<'a> {
     /// Those before the widths.
     lines: Vec<&'a str>,
-    /// The set that the last line names, where there is such a line.
+    /// The set that the line behind these names, where there is such a line.
     widths: Option<Widths>,
+    /// The check value in the last line, where there is such a line.
+    key: Option<CheckValue>,
 }
 
 impl<'a> Said<'a> {
     /// The name of a set of widths where there is none of this name.
     fn of(text: &'a str) -> Result<Said<'a>, &'a str> {
         let mut lines: Vec<&str> = text.trim_end().lines().map(str::trim_end).collect();
+        let value = lines.last().and_then(|last| last.strip_prefix("key "));
+        let key = value.and_then(CheckValue::of_text);
+        if key.is_some() {
+            lines.pop();
+        }
         let named = lines.last().and_then(|last| last.strip_prefix("widths "));
         let widths = named
             .map(|name| name.parse().map_err(|_| name))
@@ -157,7 +178,7 @@ impl<'a> Said<'a> {
         if widths.is_some() {
             lines.pop();
         }
-        Ok(Said { lines, widths })
+        Ok(Said { lines, widths, key })
     }
 
     /// The shape where the text names k and the base domain, and the lines before the widths as they are written.
@@ -175,6 +196,7 @@ impl<'a> Said<'a> {
             k: k.strip_prefix("k ")?.parse().ok()?,
             domain,
             widths: self.widths.unwrap_or_default(),
+            key: self.key,
         };
         self.as_written(shape.without_widths(), shape)
     }
@@ -187,6 +209,7 @@ impl<'a> Said<'a> {
             k,
             domain,
             widths: self.widths.unwrap_or_default(),
+            key: self.key,
         };
         self.as_written(format!("n {n}\n"), shape)
     }
@@ -203,6 +226,10 @@ fn widths_line(widths: Widths) -> String {
     format!("widths {widths}\n")
 }
 
+fn key_line(value: CheckValue) -> String {
+    format!("key {value}\n")
+}
+
 /// A domain that a line of text can show: at least one graphic character, no blank.
 fn plain(domain: &[u8]) -> bool {
     !domain.is_empty() && domain.iter().all(u8::is_ascii_graphic)
@@ -210,8 +237,8 @@ fn plain(domain: &[u8]) -> bool {
 
 #[cfg(test)]
 mod tests {
-    use super::{Said, Shape};
-    use dequmlo::{Parameters, Widths};
+    use super::{CheckValue, Said, Shape};
+    use dequmlo::{Key, Parameters, Widths};
 
     fn shape(domain: &[u8], widths: Widths) -> Shape {
         Shape {
@@ -219,6 +246,7 @@ mod tests {
             k: 2,
             domain: domain.to_vec(),
             widths,
+            key: None,
         }
     }
 
@@ -242,6 +270,40 @@ mod tests {
         }
         let text = shape(b"d", Widths::Wide).text();
         assert_eq!(text, "n 12\nk 2\ndomain d\nwidths wide\n");
+    }
+
+    /// The line of the key is the last, under either set and where no set is named; without it there is no key.
+    #[test]
+    fn a_key_is_said_in_one_line_more() {
+        let key = CheckValue::of(&Key::new([7; 32]));
+        for widths in Widths::ALL {
+            let without = shape(b"d", widths);
+            let shape = Shape {
+                key: Some(key),
+                ..without.clone()
+            };
+            let text = shape.text();
+            assert_eq!(text, format!("{}key {key}\n", without.text()));
+            assert_eq!(of_text(&text), Some(shape.clone()));
+            assert_ne!(shape, without);
+        }
+        let text = format!("n 12\nk 2\ndomain d\nkey {key}\n");
+        assert_eq!(of_text(&text).unwrap().key, Some(key));
+        for text in [
+            format!("n 12\nk 2\ndomain d\nkey {key}\nwidths wide\n"),
+            format!("n 12\nk 2\ndomain d\nwidths wide\nkey {key}\nkey {key}\n"),
+            format!("n 12\nk 2\ndomain d\nwidths wide\nkey {key}0\n"),
+            "n 12\nk 2\ndomain d\nwidths wide\nkey\n".into(),
+            format!("key {key}\nn 12\nk 2\ndomain d\nwidths wide\n"),
+            format!("n 12\nk 2\nkey {key}\n"),
+        ] {
+            assert_eq!(of_text(&text), None, "{text:?}");
+        }
+        // Of a seal that names neither k nor a base domain too.
+        let unnamed = format!("n 12\nkey {key}\n");
+        let said = Said::of(&unnamed).unwrap();
+        let (_, shape) = said.of_n_alone(Parameters::default()).unwrap();
+        assert_eq!((shape.n, shape.key), (12, Some(key)));
     }
 
     /// Before version 0.6.0 no set was named.

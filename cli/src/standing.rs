@@ -34,7 +34,7 @@ impl Standing {
         let Shape {
             k, domain, widths, ..
         } = &seal.shape;
-        let deposit = Deposit::commit_on(threads, domain, *widths, *k, &table)?;
+        let deposit = Deposit::commit_on(threads, seal.key(), domain, *widths, *k, &table)?;
         if deposit.root() != seal.root {
             return Err(another_file(&path).into());
         }
@@ -50,7 +50,7 @@ impl Standing {
     ) -> Result<Standing, Ended> {
         room_for(&seal.shape)?;
         progress.say(&format!("checking levels 0 to {} ..", begun.level()));
-        Ok(Standing::TakenUp(begun.take_up(threads)?))
+        Ok(Standing::TakenUp(begun.take_up(threads, seal.key())?))
     }
 
     /// Folded by these challenges, the first ones of the deposit, of which some may be done.

@@ -1,6 +1,7 @@
-//! What an opening is checked under: n, k, the base domain, the set of widths and level 0's root are the seal's; the further roots are those that the checker
+//! What an opening is checked under: the key, n, k, the base domain, the set of widths and level 0's root are the seal's; the further roots are those that the checker
 //! kept, or else the opening's.
 
+use crate::key::told;
 use crate::lines::{items, most_bytes};
 use crate::options::Options;
 use crate::outcome::Failure;
@@ -80,7 +81,13 @@ fn kept_roots(path: &Path, seal: &Seal) -> Result<Roots, Failure> {
 
 /// Fails where a file that must be the checker's own is one of the opening's.
 pub fn checker_s_own(options: &Options, opening: &Path) -> Result<(), Failure> {
-    for name in ["--asked", "--challenges", "--positions", "--roots"] {
+    for name in [
+        "--asked",
+        "--challenges",
+        "--positions",
+        "--roots",
+        "--key-file",
+    ] {
         if let Some(path) = options.path(name).filter(|path| lies_in(path, opening)) {
             return Err(Failure(format!(
                 "{} lies in the opening, so it is the holder's; {name} takes the checker's own",
@@ -94,6 +101,7 @@ pub fn checker_s_own(options: &Options, opening: &Path) -> Result<(), Failure> {
 pub fn statement(seal: &Seal, roots: &Roots, challenges: &[Word]) -> Result<Statement, Refusal> {
     let shape = &seal.shape;
     Statement::new(
+        seal.key(),
         &shape.domain,
         shape.widths,
         shape.n,
@@ -124,13 +132,18 @@ pub fn misfits(seal: &Seal, shown: &Shown, roots: &Roots, challenges: &[Word]) -
     notes
 }
 
-/// Where the opening names another n, k, base domain or set of widths than the seal, or none.
+/// Where the opening names another n, k, base domain, set of widths or key than the seal, or none.
 pub fn another_shape(seal: &Seal, shown: &Shown) -> Option<String> {
     match &shown.shape {
         Ok(shape) if *shape == seal.shape => None,
         Ok(shape) if another_set(shape, &seal.shape) => Some(format!(
             "the opening says that it was made under the {} set of widths, and the seal is of the {} one: it was made for another seal",
             shape.widths, seal.shape.widths
+        )),
+        Ok(shape) if another_key(shape, &seal.shape) => Some(format!(
+            "the opening says that it was made {}, and the seal was made {}: the opening was made for another seal",
+            told(shape.key),
+            told(seal.shape.key)
         )),
         Ok(_) if seal.assumed.is_some() => Some(
             "the opening names another n, k or base domain than the seal is read under".into(),
@@ -149,6 +162,17 @@ fn another_set(one: &Shape, other: &Shape) -> bool {
         && *one
             == Shape {
                 widths,
+                ..other.clone()
+            }
+}
+
+/// Whether two shapes differ in the key and in nothing else.
+fn another_key(one: &Shape, other: &Shape) -> bool {
+    let key = one.key;
+    one.key != other.key
+        && *one
+            == Shape {
+                key,
                 ..other.clone()
             }
 }

@@ -5,6 +5,7 @@ use std::fs::File;
 use std::io::{Error, ErrorKind};
 use std::os::raw::{c_int, c_uint};
 use std::os::unix::io::AsRawFd;
+use std::sync::atomic::{compiler_fence, Ordering};
 
 extern "C" {
     fn signal(number: c_int, handler: usize) -> usize;
@@ -39,6 +40,14 @@ pub fn stderr_is_a_terminal() -> bool {
 pub fn try_lock(file: &File) -> bool {
     let locked = unsafe { flock(file.as_raw_fd(), LOCK_EX | LOCK_NB) } == 0;
     locked || Error::last_os_error().raw_os_error() != Some(EWOULDBLOCK)
+}
+
+/// Zeros in place of these bytes, by writes that the compiler may not leave out though nothing reads them.
+pub fn overwrite(bytes: &mut [u8]) {
+    for byte in bytes {
+        unsafe { std::ptr::write_volatile(byte, 0) };
+    }
+    compiler_fence(Ordering::SeqCst);
 }
 
 /// Fills the bytes from the system's source of randomness, and waits until it has been started.

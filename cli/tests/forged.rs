@@ -95,7 +95,7 @@ impl Forger {
                 };
                 words[q] = folded(a, b, self.challenges[level - 1]);
             }
-            let tree = Tree::of_level(BASE, Widths::Present, N, K, level, &words).unwrap();
+            let tree = Tree::of_level(None, BASE, Widths::Present, N, K, level, &words).unwrap();
             levels.push((words, tree));
         }
         Invented { levels }

@@ -470,7 +470,7 @@ fn root_of(desk: &Desk, level: usize, bytes: &[u8]) -> String {
     let domain = desk.text("plan.txt.seal/parameters.txt");
     let domain = domain.lines().find_map(|line| line.strip_prefix("domain "));
     let base = domain.unwrap().as_bytes();
-    let tree = Tree::of_level(base, Widths::Present, N, K, level, &words).unwrap();
+    let tree = Tree::of_level(None, base, Widths::Present, N, K, level, &words).unwrap();
     tree.root().to_string()
 }
 
@@ -520,7 +520,7 @@ fn of_another_seal_or_by_other_challenges() {
             1,
             &[
                 of_another,
-                "it names another n, k, base domain or set of widths",
+                "it names another n, k, base domain, set of widths or key",
             ],
         );
     }

@@ -158,7 +158,7 @@ fn a_request_names_what_the_seal_does_not() {
         .says(0, &[THEN]);
     let parameters = "format 1\nn 6\nk 1\ndomain magnetar/pcs/default\nwidths present\n";
     assert_eq!(desk.text("plan.txt.asked/parameters.txt"), parameters);
-    let another = "the request in plan.txt.asked is about another seal: it names another n, k, base domain or set of widths. Note that the seal names neither k";
+    let another = "the request in plan.txt.asked is about another seal: it names another n, k, base domain, set of widths or key. Note that the seal names neither k";
     desk.run(&format!("open plan.txt {of}"))
         .says(2, &[another, "give --older"]);
     desk.run(&format!("open plan.txt {of} --older"))
@@ -229,8 +229,10 @@ fn half_named_is_damaged() {
     ] {
         desk.write(name, format!("format 1\n{text}").as_bytes());
         desk.vouch("plan.txt.seal");
-        desk.run(&format!("{CHECK_TWO} --older"))
-            .says(2, &["does not have its lines n, k, domain and widths"]);
+        desk.run(&format!("{CHECK_TWO} --older")).says(
+            2,
+            &["does not have its lines n, k, domain, widths and perhaps key"],
+        );
     }
     // The check line is that of the text as it stands.
     desk.write(name, b"format 1\nn 6\n");

@@ -129,7 +129,7 @@ fn two_rounds_under_the_wide_set() {
     desk.run(CHECK_ASKED)
         .says(0, &["verdict: accepted: 3 records"]);
     // A request for the other set is one about another seal.
-    let another = "is about another seal: it names another n, k, base domain or set of widths";
+    let another = "is about another seal: it names another n, k, base domain, set of widths or key";
     for set in ["present", "broad"] {
         renamed(&desk, "plan.txt.asked", set);
         let said = match set {
@@ -365,8 +365,10 @@ fn the_line_is_under_the_check_lines() {
         format!("widths wide\n{without}"),
     ] {
         desk.write(name, other.as_bytes());
-        desk.check()
-            .says(2, &["does not have its lines n, k, domain and widths"]);
+        desk.check().says(
+            2,
+            &["does not have its lines n, k, domain, widths and perhaps key"],
+        );
     }
     desk.write(name, sound.replace('\n', " \r\n").as_bytes());
     desk.check().says(

@@ -8,6 +8,7 @@ use std::collections::BTreeMap;
 use std::ffi::OsStr;
 use std::fs;
 use std::os::unix::ffi::OsStrExt;
+use std::os::unix::fs::PermissionsExt;
 
 /// The levels at which records are damaged: the first, one in the middle, and the last. A deposit of 64 words has six.
 const LEVELS: [usize; 3] = [0, 3, 5];
@@ -509,6 +510,127 @@ fn the_witness_on_tails_of_both_sets() {
     }
 }
 
+/// Under a key both accept what is sound, with its key alone, and name the same question where it is damaged.
+#[test]
+fn the_witness_on_a_keyed_seal() {
+    for widths in ["present", "wide"] {
+        let desk = Desk::new(&format!("witness-keyed-{widths}"));
+        desk.write("plan.txt", &desk::plan());
+        for (name, bytes) in [("key", [7; 32]), ("other", [8; 32])] {
+            desk.write(name, &bytes);
+            fs::set_permissions(desk.path(name), fs::Permissions::from_mode(0o600)).unwrap();
+        }
+        desk.run(&format!("commit plan.txt --widths {widths} --key-file key"))
+            .says(0, &[]);
+        desk.run("open plan.txt --seal plan.txt.seal --seed dice --at 7,0,127 --key-file key")
+            .says(0, &[]);
+        desk.keep("challenges.txt");
+        desk.keep("roots.txt");
+        let kept = "--roots roots.txt --key-file";
+        let said = both_by(&desk, 0, &[0, 7, 127], &format!("{kept} key"));
+        assert!(said.values().all(|answer| answer == "yes"), "{said:?}");
+        for (key, sentence) in [
+            (
+                "--roots roots.txt",
+                "the seal is keyed, under the key with the check value",
+            ),
+            (
+                "--roots roots.txt --key-file other",
+                "the key in other is not the seal's: its check value is",
+            ),
+            (
+                "--roots roots.txt --key-file plan.txt",
+                "plan.txt has no key",
+            ),
+            (
+                "--roots roots.txt --key-file nowhere",
+                "there is no file nowhere",
+            ),
+        ] {
+            assert!(both_by(&desk, 2, &[0, 7, 127], key).is_empty());
+            let words = "plan.txt.opening --seal plan.txt.seal --challenges challenges.txt --at 0";
+            witness(&desk, &format!("{words} {key}")).says(2, &[sentence]);
+        }
+        desk.damage("plan.txt.opening/query-7.record", 60);
+        desk.damage("plan.txt.opening/tail.record", 12);
+        let said = both_by(&desk, 1, &[0, 7, 127], &format!("{kept} key"));
+        assert_eq!(said["position 7"], "18 at level 0");
+        assert_eq!((&*said["position 0"], &*said["tail"]), ("yes", "30"));
+
+        // A seal without a key, by a key and by none; and what was made under the key for it.
+        desk.run(&format!("commit plan.txt --widths {widths} --force"))
+            .says(0, &[]);
+        assert!(both_by(&desk, 2, &[0, 127], "--key-file key").is_empty());
+        let words = "plan.txt.opening --seal plan.txt.seal --challenges challenges.txt --at 0";
+        witness(&desk, &format!("{words} --key-file key"))
+            .says(2, &["the seal is not keyed, and --key-file is given"]);
+        let said = both_by(&desk, 1, &[0, 127], "");
+        assert_eq!(
+            (&*said["position 0"], &*said["tail"]),
+            ("18 at level 0", "30")
+        );
+    }
+}
+
+/// The forms of a key's file that both read, and those that neither reads.
+#[test]
+fn the_witness_reads_the_same_files_of_keys() {
+    let desk = opened("witness-key-files", &[0]);
+    let digits = "0f".repeat(32);
+    desk.write("key", digits.as_bytes());
+    desk.run("commit plan.txt --force --key-file key")
+        .says(0, &[]);
+    let forms: [(Vec<u8>, bool); 12] = [
+        (vec![15; 32], true),
+        (format!("{digits}\n").into(), true),
+        (format!("{digits}\r\n").into(), true),
+        (digits.to_uppercase().into(), true),
+        (vec![15; 31], false),
+        (vec![15; 33], false),
+        (digits[..63].into(), false),
+        (format!("{digits}\r").into(), false),
+        (format!("{digits}\n\n").into(), false),
+        (format!("{digits} ").into(), false),
+        (format!("{}g", &digits[..63]).into(), false),
+        (Vec::new(), false),
+    ];
+    for (form, is_key) in forms {
+        desk.write("key", &form);
+        // The opening was made without a key: with the right one its records are refused, and without a key nothing is checked.
+        let status = if is_key { 1 } else { 2 };
+        let said = both_by(&desk, status, &[0], "--key-file key");
+        assert_eq!(said.is_empty(), !is_key, "{form:?}");
+    }
+}
+
+/// The line of the key is read to the letter by both, or the seal is not read.
+#[test]
+fn the_witness_on_the_line_of_a_key() {
+    let desk = opened("witness-key-line", &[0]);
+    desk.write("key", &[7; 32]);
+    desk.run("commit plan.txt --force --key-file key")
+        .says(0, &[]);
+    let name = "plan.txt.seal/parameters.txt";
+    let sound = desk.text(name);
+    let (front, value) = sound.split_once("key ").unwrap();
+    let value = value.trim_end();
+    for (line, status) in [
+        (format!("key {value}"), 1),
+        (format!("key {value} "), 1),
+        (format!("key {}", value.to_uppercase()), 2),
+        (format!("key  {value}"), 2),
+        (format!("key {}", &value[1..]), 2),
+        (format!("key {value}\nkey {value}"), 2),
+        (format!("keys {value}"), 2),
+        ("key".into(), 2),
+    ] {
+        desk.write(name, format!("{front}{}\n", line.trim_end()).as_bytes());
+        desk.vouch("plan.txt.seal");
+        desk.write(name, format!("{front}{line}\n").as_bytes());
+        both_by(&desk, status, &[0], "--key-file key");
+    }
+}
+
 #[test]
 fn the_witness_on_another_format_and_on_two_files_for_a_position() {
     let desk = opened("witness-folder", &[3, 7]);
@@ -662,6 +784,41 @@ fn the_witness_on_a_project_whose_seal_names_nothing() {
         .says(0, &["manifest: yes\n", "tail: yes\nyes\n"]);
     desk.run(&format!("check {words}"))
         .says(0, &["manifest: accepted", "verdict: accepted: 1 record"]);
+}
+
+/// A project under a key: the manifest and the part's records are under it, and both ask for it first.
+#[test]
+fn the_witness_on_a_keyed_project() {
+    let desk = Desk::new("witness-keyed-project");
+    fs::create_dir(desk.path("house")).unwrap();
+    desk.write("house/b", &desk::plan());
+    desk.write("key", &[7; 32]);
+    desk.write("other", &[8; 32]);
+    desk.run("commit house --key-file key").says(0, &[]);
+    desk.run("open house --seal house.seal --file b --offset 50 --seed dice --key-file key")
+        .says(0, &[]);
+    for name in ["challenges.txt", "roots.txt"] {
+        fs::copy(desk.path("house.opening").join(name), desk.path(name)).unwrap();
+    }
+    let words = "house.opening --seal house.seal --file b --offset 50 --challenges challenges.txt --roots roots.txt";
+    for (key, status) in [("--key-file key", 0), ("--key-file other", 2), ("", 2)] {
+        let words = format!("{words} {key}");
+        desk.run(&format!("check {words}")).says(status, &[]);
+        desk.python("check_project.py", words.split_whitespace())
+            .says(status, &[]);
+    }
+    // The manifest of the same project without a key.
+    desk.run("commit house --out plain").says(0, &[]);
+    fs::copy(
+        desk.path("plain/manifest.txt"),
+        desk.path("house.opening/manifest.txt"),
+    )
+    .unwrap();
+    let words = format!("{words} --key-file key");
+    desk.run(&format!("check {words}"))
+        .says(1, &["manifest: refused: "]);
+    desk.python("check_project.py", words.split_whitespace())
+        .says(1, &["manifest: no: "]);
 }
 
 /// Texts that a seal stands for and that are no manifests, or are.

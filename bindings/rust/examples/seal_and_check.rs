@@ -7,7 +7,7 @@ fn main() -> Result<(), Refusal> {
     let table: Vec<Word> = (0..1024u128).map(|i| Word(i * i)).collect();
     let Parameters { k, domain, .. } = Parameters::balanced();
     let widths = Widths::default();
-    let deposit = Deposit::commit(&domain, widths, k, &table)?;
+    let deposit = Deposit::commit(None, &domain, widths, k, &table)?;
     let root = deposit.root();
     println!("the office keeps the root {root}");
 
@@ -19,7 +19,7 @@ fn main() -> Result<(), Refusal> {
 
     // The checker trusts its own root alone.
     roots[0] = root;
-    let statement = Statement::new(&domain, widths, 10, k, &challenges, &roots)?;
+    let statement = Statement::new(None, &domain, widths, 10, k, &challenges, &roots)?;
     statement.check_query(position, &record)?;
     statement.check_tail(folded.claim(), &tail)?;
     println!("position {position}: accepted; tail: accepted");

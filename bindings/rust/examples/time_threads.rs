@@ -60,7 +60,7 @@ impl Way {
         } else {
             Buffers::default()
         };
-        let commit = || Deposit::commit_in(buffers, on, BASE, Widths::Present, k, table);
+        let commit = || Deposit::commit_in(buffers, on, None, BASE, Widths::Present, k, table);
         let deposit = timed(&mut self.commit, commit).expect("it can be committed");
         let fold = || deposit.fold_on(on, challenges);
         let folded = timed(&mut self.fold, fold).expect("it can be folded");

@@ -4,14 +4,14 @@ use dequmlo::{Deposit, Refusal, Statement, Widths, Word};
 
 fn main() -> Result<(), Refusal> {
     let table: Vec<Word> = (0..16u128).map(Word).collect();
-    let deposit = Deposit::commit(b"example", Widths::Present, 1, &table)?;
+    let deposit = Deposit::commit(None, b"example", Widths::Present, 1, &table)?;
     let challenges: Vec<Word> = (1..=4u128).map(Word).collect();
     let folded = deposit.fold(&challenges)?;
     let record = folded.query(9)?;
 
     let asked = |challenges: &[Word]| {
         let roots = folded.roots();
-        Statement::new(b"example", Widths::Present, 4, 1, challenges, &roots)
+        Statement::new(None, b"example", Widths::Present, 4, 1, challenges, &roots)
     };
     let own = asked(&challenges)?;
     let mut others = challenges;

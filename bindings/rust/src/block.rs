@@ -78,7 +78,7 @@ impl fmt::Display for Block {
 ///
 /// // The holder commits them and keeps the table; the office keeps the root.
 /// let (parameters, widths) = (Parameters::balanced(), Widths::Present);
-/// let deposit = Deposit::commit(&parameters.domain, widths, parameters.k, &table)?;
+/// let deposit = Deposit::commit(None, &parameters.domain, widths, parameters.k, &table)?;
 /// let root = deposit.root();
 ///
 /// // The checker draws challenges; the holder folds by them and opens position 5.
@@ -89,7 +89,7 @@ impl fmt::Display for Block {
 /// // The checker checks the record under its own root, and finds block 5 of the vault in it: b, since 5 is odd.
 /// let mut roots = folded.roots();
 /// roots[0] = root;
-/// let statement = Statement::new(&parameters.domain, widths, 3, parameters.k, &challenges, &roots)?;
+/// let statement = Statement::new(None, &parameters.domain, widths, 3, parameters.k, &challenges, &roots)?;
 /// statement.check_query(5, &record)?;
 /// let shown = &record.levels().unwrap()[0];
 /// assert_eq!(block::export(&[shown.b]), vault[80..96]);

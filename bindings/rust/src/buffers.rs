@@ -10,8 +10,8 @@ use std::fmt;
 /// use dequmlo::{Buffers, Deposit, Threads, Widths, Word};
 /// let mut buffers = Buffers::default();
 /// for table in [[Word(5), Word(9)], [Word(6), Word(7)]] {
-///     let deposit = Deposit::commit_in(buffers, Threads::of(1), b"example", Widths::Present, 1, &table)?;
-///     assert_eq!(deposit.root(), Deposit::commit(b"example", Widths::Present, 1, &table)?.root());
+///     let deposit = Deposit::commit_in(buffers, Threads::of(1), None, b"example", Widths::Present, 1, &table)?;
+///     assert_eq!(deposit.root(), Deposit::commit(None, b"example", Widths::Present, 1, &table)?.root());
 ///     buffers = deposit.into_buffers();
 /// }
 /// # Ok::<(), dequmlo::Refusal>(())

@@ -2,6 +2,7 @@
 
 use crate::buffers::Buffers;
 use crate::half_folded::HalfFolded;
+use crate::key::{self, Key};
 use crate::raw;
 use crate::record::{QueryRecord, TailRecord};
 use crate::refusal::Refusal;
@@ -15,8 +16,10 @@ use crate::word::{halves, words, Word};
 use std::fmt;
 
 /// A committed table: its gammas, its codeword (level 0) and level 0's tree. The buffers have room for all levels, which [`Deposit::fold`]
-/// fills; until then the room behind level 0 takes no memory in new buffers, since the system makes a page of zeros when it is first written.
+/// fills; until then the room behind level 0 takes no memory in new buffers, since the system makes a page of zeros when it is first written. It keeps a copy of
+/// the key that it was committed under, for the trees of its other levels.
 pub struct Deposit {
+    key: Option<Key>,
     base: Vec<u8>,
     sizes: Sizes,
     buffers: Buffers,
@@ -30,43 +33,46 @@ impl fmt::Debug for Deposit {
 }
 
 impl Deposit {
-    /// Commits a table of 2^n words, n from 1 to 20, under a base domain of at most 200 bytes, in groups of a set of widths. Refused with 5 where
-    /// the length is no power of two, with 4 where n or k is out of range, with 7 where the base domain is too long. Whoever checks needs the
-    /// same base domain, set of widths and k.
+    /// Commits a table of 2^n words, n from 1 to 20, under a key or none and a base domain of at most 200 bytes, in groups of a set of widths. Refused with
+    /// 5 where the length is no power of two, with 4 where n or k is out of range, with 7 where the base domain is too long. Whoever checks needs the
+    /// same key, base domain, set of widths and k.
     ///
     /// ```
     /// use dequmlo::{Deposit, Widths, Word};
-    /// let deposit = Deposit::commit(b"example", Widths::Present, 1, &[Word(5), Word(9)])?;
+    /// let deposit = Deposit::commit(None, b"example", Widths::Present, 1, &[Word(5), Word(9)])?;
     /// assert_eq!(deposit.codeword()[..2], [Word(5), Word(9)]);
-    /// assert_eq!(Deposit::commit(b"example", Widths::Present, 5, &[Word(5), Word(9)]).err().unwrap().number, 4);
+    /// assert_eq!(Deposit::commit(None, b"example", Widths::Present, 5, &[Word(5), Word(9)]).err().unwrap().number, 4);
     /// # Ok::<(), dequmlo::Refusal>(())
     /// ```
     pub fn commit(
+        key: Option<&Key>,
         base: &[u8],
         widths: Widths,
         k: usize,
         table: &[Word],
     ) -> Result<Deposit, Refusal> {
-        Deposit::commit_on(Threads::of(1), base, widths, k, table)
+        Deposit::commit_on(Threads::of(1), key, base, widths, k, table)
     }
 
     /// The same on this many threads, which give the same bytes: blocks of the codeword and halves of them, and the leaves and parents of its
     /// tree, are divided over them. It needs its buffers and at most 128 KiB of stack a thread.
     pub fn commit_on(
         threads: Threads,
+        key: Option<&Key>,
         base: &[u8],
         widths: Widths,
         k: usize,
         table: &[Word],
     ) -> Result<Deposit, Refusal> {
-        Deposit::commit_in(Buffers::default(), threads, base, widths, k, table)
+        Deposit::commit_in(Buffers::default(), threads, key, base, widths, k, table)
     }
 
-    /// The same in the buffers of an earlier deposit, of whatever widths, n and k, which it has left ([`Deposit::into_buffers`], [`Folded::into_buffers`]); nothing
+    /// The same in the buffers of an earlier deposit, of whatever key, widths, n and k, which it has left ([`Deposit::into_buffers`], [`Folded::into_buffers`]); nothing
     /// of that one shows in this one. Where it is refused, the buffers are gone.
     pub fn commit_in(
         buffers: Buffers,
         threads: Threads,
+        key: Option<&Key>,
         base: &[u8],
         widths: Widths,
         k: usize,
@@ -77,16 +83,18 @@ impl Deposit {
         let (gammas, codeword, tree) = buffers.committed_mut(&sizes);
         let table = halves(table);
         if threads.number() == 1 {
-            commit_whole(sizes, base, table, gammas, codeword, tree)?;
+            commit_whole(key, sizes, base, table, gammas, codeword, tree)?;
         } else {
             let on = Commitment {
                 threads,
+                key,
                 sizes,
                 base,
             };
             on.commit(table, gammas, codeword, tree)?;
         }
         Ok(Deposit {
+            key: key.cloned(),
             base: base.to_vec(),
             sizes,
             buffers,
@@ -123,7 +131,8 @@ impl Deposit {
         words(self.buffers.codeword(&self.sizes))
     }
 
-    /// Folds by one challenge for each variable and builds every level's tree. Refused with 5 where there are fewer or more challenges.
+    /// Folds by one challenge for each variable and builds every level's tree, under the deposit's key. Refused with 5 where there are fewer or more
+    /// challenges.
     pub fn fold(mut self, challenges: &[Word]) -> Result<Folded, Refusal> {
         let (sizes, base) = (self.sizes, &self.base);
         let (levels, trees) = self.buffers.folded_mut(&sizes);
@@ -132,6 +141,7 @@ impl Deposit {
         let mut roots = vec![0u8; sizes.roots_bytes];
         Refusal::unless_done(unsafe {
             raw::dequmlo_fold_levels(
+                key::raw(self.key.as_ref()),
                 sizes.widths.number(),
                 sizes.n,
                 sizes.k,
@@ -171,12 +181,13 @@ impl Deposit {
     /// The deposit with level 0 alone.
     fn begun(self) -> HalfFolded {
         let root = self.root();
-        HalfFolded::begun(self.base, self.sizes, self.buffers, root)
+        HalfFolded::begun(self.key, self.base, self.sizes, self.buffers, root)
     }
 }
 
 /// The gammas, the codeword and level 0's tree of a table's halves in a single call. The codeword's list, 0 to n - 1 whatever the table, is not kept.
 fn commit_whole(
+    key: Option<&Key>,
     sizes: Sizes,
     base: &[u8],
     table: &[u64],
@@ -187,6 +198,7 @@ fn commit_whole(
     let mut coordinates = vec![0usize; sizes.n];
     Refusal::unless_done(unsafe {
         raw::dequmlo_commit(
+            key::raw(key),
             sizes.widths.number(),
             sizes.n,
             sizes.k,
@@ -206,7 +218,7 @@ fn commit_whole(
     })
 }
 
-/// A deposit folded by a list of challenges: all levels and their trees, from which records are built.
+/// A deposit folded by a list of challenges: all levels and their trees, from which records are built. It has no key: building a record hashes nothing.
 pub struct Folded {
     sizes: Sizes,
     buffers: Buffers,

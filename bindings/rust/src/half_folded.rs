@@ -2,6 +2,7 @@
 
 use crate::buffers::Buffers;
 use crate::deposit::{described, Folded};
+use crate::key::Key;
 use crate::refusal::Refusal;
 use crate::root::Root;
 use crate::sizes::Sizes;
@@ -13,13 +14,14 @@ use std::io;
 
 /// A deposit folded by some of its challenges ([`crate::Deposit::fold_until`]): the levels so far and their trees. It is folded on to the end by
 /// [`HalfFolded::fold_on`]. To go on another day, [`HalfFolded::kept`] and the values of each level are kept, and taken up by [`HalfFolded::take_up`], which
-/// checks them: what comes of it is what one run gives, or it is refused.
+/// checks them: what comes of it is what one run gives, or it is refused. It keeps a copy of the deposit's key; what is stored does not have the key, so that
+/// taking up is told it.
 ///
 /// ```
 /// use dequmlo::{Deposit, HalfFolded, Threads, Widths, Word};
 ///
 /// let (one, table, challenges) = (Threads::of(1), [5, 9, 4, 2].map(Word), [7, 11].map(Word));
-/// let deposit = || Deposit::commit(b"example", Widths::Present, 1, &table);
+/// let deposit = || Deposit::commit(None, b"example", Widths::Present, 1, &table);
 /// let half = deposit()?.fold_until(one, &challenges[..1])?;
 /// assert_eq!((half.level(), half.coordinates()), (1, vec![1]));
 ///
@@ -27,11 +29,12 @@ use std::io;
 /// let kept = half.kept();
 /// let values: Vec<Vec<u8>> = (0..=1).map(|level| half.values(level).to_vec()).collect();
 /// let read = |level: usize, room: &mut [u8]| Ok(room.copy_from_slice(&values[level]));
-/// let half = HalfFolded::take_up(one, kept, read).unwrap();
+/// let half = HalfFolded::take_up(one, None, kept, read).unwrap();
 /// assert_eq!(half.fold_on(one, &challenges[1..])?.roots(), deposit()?.fold(&challenges)?.roots());
 /// # Ok::<(), dequmlo::Refusal>(())
 /// ```
 pub struct HalfFolded {
+    key: Option<Key>,
     base: Vec<u8>,
     sizes: Sizes,
     buffers: Buffers,
@@ -46,7 +49,7 @@ impl fmt::Debug for HalfFolded {
     }
 }
 
-/// What is kept of a deposit folded part way, beside the values of its levels.
+/// What is kept of a deposit folded part way, beside the values of its levels and its key, which the caller keeps elsewhere.
 #[derive(Clone, Debug, PartialEq, Eq)]
 pub struct Kept {
     /// The base domain.
@@ -132,8 +135,15 @@ impl Kept {
 
 impl HalfFolded {
     /// A deposit whose level 0 and its tree stand in the buffers.
-    pub(crate) fn begun(base: Vec<u8>, sizes: Sizes, buffers: Buffers, root: Root) -> HalfFolded {
+    pub(crate) fn begun(
+        key: Option<Key>,
+        base: Vec<u8>,
+        sizes: Sizes,
+        buffers: Buffers,
+        root: Root,
+    ) -> HalfFolded {
         HalfFolded {
+            key,
             base,
             sizes,
             buffers,
@@ -142,12 +152,13 @@ impl HalfFolded {
         }
     }
 
-    /// Takes up what was kept. `read` is given the number of each level, from 0 on, and room for its values, which it fills with what
+    /// Takes up what was kept, under the key that it was committed under, or none. `read` is given the number of each level, from 0 on, and room for its values, which it fills with what
     /// [`HalfFolded::values`] gave. Every tree is made anew from the values and its root compared with the one that was kept, and every level is compared with the
-    /// fold of the one before; the first that differs is named, and nothing is made good. Whose deposit it is says the root of level 0, which the caller
-    /// compares.
+    /// fold of the one before; the first that differs is named, and nothing is made good. Under another key than its own it is level 0's root that differs.
+    /// Whose deposit it is says the root of level 0, which the caller compares.
     pub fn take_up(
         threads: Threads,
+        key: Option<&Key>,
         kept: Kept,
         mut read: impl FnMut(usize, &mut [u8]) -> io::Result<()>,
     ) -> Result<HalfFolded, NotTakenUp> {
@@ -158,6 +169,7 @@ impl HalfFolded {
         let mut room = vec![0u64; 2 * sizes.half_words];
         let on = Commitment {
             threads,
+            key,
             sizes,
             base: &kept.base,
         };
@@ -172,6 +184,7 @@ impl HalfFolded {
             }
         }
         Ok(HalfFolded {
+            key: key.cloned(),
             base: kept.base,
             sizes,
             buffers,
@@ -214,7 +227,7 @@ impl HalfFolded {
         self.roots.clone()
     }
 
-    /// All that is to be kept beside the values of each level.
+    /// All that is to be kept beside the values of each level and the key.
     #[must_use]
     pub fn kept(&self) -> Kept {
         Kept {
@@ -240,6 +253,7 @@ impl HalfFolded {
         let from = self.level();
         let on = Commitment {
             threads,
+            key: self.key.as_ref(),
             sizes: self.sizes,
             base: &self.base,
         };

@@ -8,10 +8,10 @@
 //! ```
 //! use dequmlo::{Deposit, Parameters, Statement, Widths, Word};
 //!
-//! // The holder commits a table of 2^n words and keeps it; the office keeps the root, with k, the base domain and the set of widths.
+//! // The holder commits a table of 2^n words, under no key, and keeps it; the office keeps the root, with k, the base domain and the set of widths.
 //! let (parameters, widths) = (Parameters::balanced(), Widths::Present);
 //! let table: Vec<Word> = (0..8u128).map(Word).collect();
-//! let deposit = Deposit::commit(&parameters.domain, widths, parameters.k, &table)?;
+//! let deposit = Deposit::commit(None, &parameters.domain, widths, parameters.k, &table)?;
 //! let root = deposit.root();
 //!
 //! // The checker draws one challenge for each variable; the holder folds by them and shows a record.
@@ -22,7 +22,7 @@
 //! // The checker puts its own root in front of the roots that the holder states.
 //! let mut roots = folded.roots();
 //! roots[0] = root;
-//! let statement = Statement::new(&parameters.domain, widths, 3, parameters.k, &challenges, &roots)?;
+//! let statement = Statement::new(None, &parameters.domain, widths, 3, parameters.k, &challenges, &roots)?;
 //! statement.check_query(5, &record)?;
 //!
 //! // A damaged record is refused, with the number of the check that failed.
@@ -40,6 +40,7 @@ mod buffers;
 pub mod code;
 mod deposit;
 mod half_folded;
+mod key;
 mod parameters;
 mod raw;
 mod record;
@@ -56,6 +57,7 @@ pub use block::Block;
 pub use buffers::Buffers;
 pub use deposit::{Deposit, Folded};
 pub use half_folded::{HalfFolded, Kept, NotTakenUp};
+pub use key::{keyed_digest, Key};
 pub use parameters::Parameters;
 pub use record::{Collision, QueryRecord, ShownLevel, Statement, TailRecord};
 pub use refusal::{Explanation, Refusal, Retired, EXPLANATIONS, RETIRED};

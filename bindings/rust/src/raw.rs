@@ -25,6 +25,12 @@ pub struct Sizes {
 }
 
 #[repr(C)]
+pub struct Key {
+    pub keyed: u32,
+    pub bytes: [u8; 32],
+}
+
+#[repr(C)]
 pub struct Digested {
     pub number: u32,
     pub bytes: [u8; 32],
@@ -90,7 +96,20 @@ pub struct Parameters {
 extern "C" {
     pub fn dequmlo_sizes(widths: u32, n: usize, k: usize) -> Sizes;
     pub fn dequmlo_digest(input: *const u8, input_length: usize) -> Digested;
+    pub fn dequmlo_keyed_digest(
+        key: *const u8,
+        key_length: usize,
+        input: *const u8,
+        input_length: usize,
+    ) -> Digested;
+    pub fn dequmlo_derive_key(
+        context: *const u8,
+        context_length: usize,
+        material: *const u8,
+        material_length: usize,
+    ) -> Digested;
     pub fn dequmlo_commit(
+        key: Key,
         widths: u32,
         n: usize,
         k: usize,
@@ -121,6 +140,7 @@ extern "C" {
         out_length: usize,
     ) -> Folded;
     pub fn dequmlo_fold_levels(
+        key: Key,
         widths: u32,
         n: usize,
         k: usize,
@@ -151,6 +171,7 @@ extern "C" {
         out_length: usize,
     ) -> u32;
     pub fn dequmlo_level_tree(
+        key: Key,
         widths: u32,
         n: usize,
         k: usize,
@@ -163,6 +184,7 @@ extern "C" {
         tree_length: usize,
     ) -> u32;
     pub fn dequmlo_tree(
+        key: Key,
         domain: *const u8,
         domain_length: usize,
         count: usize,
@@ -192,6 +214,7 @@ extern "C" {
         out_length: usize,
     ) -> u32;
     pub fn dequmlo_level_leaves(
+        key: Key,
         widths: u32,
         n: usize,
         k: usize,
@@ -205,6 +228,7 @@ extern "C" {
         out_length: usize,
     ) -> u32;
     pub fn dequmlo_level_parents(
+        key: Key,
         n: usize,
         k: usize,
         level: usize,
@@ -250,6 +274,7 @@ extern "C" {
         out_length: usize,
     ) -> u32;
     pub fn dequmlo_tree_leaves(
+        key: Key,
         domain: *const u8,
         domain_length: usize,
         count: usize,
@@ -261,6 +286,7 @@ extern "C" {
         out_length: usize,
     ) -> u32;
     pub fn dequmlo_tree_parents(
+        key: Key,
         domain: *const u8,
         domain_length: usize,
         level: usize,
@@ -279,6 +305,7 @@ extern "C" {
         path_length: usize,
     ) -> u32;
     pub fn dequmlo_root_of_path(
+        key: Key,
         domain: *const u8,
         domain_length: usize,
         count: usize,
@@ -302,6 +329,7 @@ extern "C" {
         position: usize,
     ) -> u32;
     pub fn dequmlo_check_query(
+        key: Key,
         base: *const u8,
         base_length: usize,
         widths: u32,
@@ -327,6 +355,7 @@ extern "C" {
         k: usize,
     ) -> u32;
     pub fn dequmlo_check_tail(
+        key: Key,
         base: *const u8,
         base_length: usize,
         widths: u32,
@@ -339,6 +368,7 @@ extern "C" {
         record_length: usize,
     ) -> u32;
     pub fn dequmlo_compare(
+        key: Key,
         base: *const u8,
         base_length: usize,
         widths: u32,

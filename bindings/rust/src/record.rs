@@ -1,5 +1,6 @@
 //! Records, and the statement under which they are checked and compared.
 
+use crate::key::{self, Key};
 use crate::raw;
 use crate::refusal::Refusal;
 use crate::root::Root;
@@ -132,7 +133,7 @@ fn taken<'a>(rest: &mut &'a [u8], size: usize) -> Option<&'a [u8]> {
     Some(front)
 }
 
-/// Two messages that differ and have one BLAKE3 digest.
+/// Two messages that differ and have one BLAKE3 digest under the statement's key, or under none.
 #[derive(Clone, Debug, PartialEq, Eq)]
 pub struct Collision {
     /// The first record's message.
@@ -144,9 +145,11 @@ pub struct Collision {
 /// The bytes of a buffer for a message of a comparison; the longest has 818.
 const MESSAGE_BYTES: usize = 1024;
 
-/// What records are checked under: the base domain, the set of widths, n, k, one challenge for each variable, and the roots of levels 0 to n.
+/// What records are checked under: the key or none, the base domain, the set of widths, n, k, one challenge for each variable, and the roots of levels 0 to n. It
+/// keeps a copy of the key. Under another key than the deposit's, or under none, a query record is refused with 18 at level 0 and a tail record with 30.
 #[derive(Clone, Debug, PartialEq, Eq)]
 pub struct Statement {
+    key: Option<Key>,
     base: Vec<u8>,
     sizes: Sizes,
     challenges: Vec<u64>,
@@ -157,6 +160,7 @@ impl Statement {
     /// Refused with 4 where n is not from 1 to 20 or k is above 4, with 5 where there are not n challenges or n + 1 roots, with 7 where
     /// the base domain has more than 200 bytes.
     pub fn new(
+        key: Option<&Key>,
         base: &[u8],
         widths: Widths,
         n: usize,
@@ -172,6 +176,7 @@ impl Statement {
             return Err(Refusal::of(7));
         }
         Ok(Statement {
+            key: key.cloned(),
             base: base.to_vec(),
             sizes,
             challenges: halves(challenges).to_vec(),
@@ -189,6 +194,7 @@ impl Statement {
     pub fn check_query(&self, position: usize, record: &QueryRecord) -> Result<(), Refusal> {
         let answer = unsafe {
             raw::dequmlo_check_query(
+                key::raw(self.key.as_ref()),
                 self.base.as_ptr(),
                 self.base.len(),
                 self.sizes.widths.number(),
@@ -218,6 +224,7 @@ impl Statement {
         let root = &self.roots[self.roots.len() - 32..];
         Refusal::unless_done(unsafe {
             raw::dequmlo_check_tail(
+                key::raw(self.key.as_ref()),
                 self.base.as_ptr(),
                 self.base.len(),
                 self.sizes.widths.number(),
@@ -244,6 +251,7 @@ impl Statement {
         let [a, b] = &mut messages;
         let answer = unsafe {
             raw::dequmlo_compare(
+                key::raw(self.key.as_ref()),
                 self.base.as_ptr(),
                 self.base.len(),
                 self.sizes.widths.number(),

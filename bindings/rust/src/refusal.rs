@@ -158,7 +158,7 @@ pub const EXPLANATIONS: [Explanation; 33] = [
     ),
     explained(
         5,
-        "a list does not have the length that n, k, the set of widths or a count fixes, or is not whole words or blocks",
+        "a list does not have the length that n, k, the set of widths or a count fixes, or is not whole words or blocks, or a key does not have 32 bytes",
         "Ask for the challenges and the roots again: there is one challenge for each level, and one root more.",
     ),
     explained(6, "the variable to fold at is not below n", PROGRAM),
@@ -174,7 +174,7 @@ pub const EXPLANATIONS: [Explanation; 33] = [
     explained(12, "the path does not have log2(values / width) digests", PROGRAM),
     explained(
         13,
-        "the input is longer than 2^24 bytes, or the hasher that was passed in is not as it was handed out",
+        "the input, or a context or its key material, is longer than 2^24 bytes, or the hasher that was passed in is not as it was handed out",
         PROGRAM,
     ),
     explained(
@@ -189,7 +189,7 @@ pub const EXPLANATIONS: [Explanation; 33] = [
         18,
         "the group and the path of a do not lead to this level's root",
         "Ask for the record at this position again. At level 0 the root is the office's own: the words in the record are not those that were \
-         deposited. At another level ask for the roots again too.",
+         deposited, or the record was made under another key than it is checked under. At another level ask for the roots again too.",
     ),
     explained(19, "the group of a does not have a at its place", AGAIN),
     explained(21, "the group of a does not have b at its place", AGAIN),
@@ -212,7 +212,7 @@ pub const EXPLANATIONS: [Explanation; 33] = [
     explained(
         30,
         "a group and its path in the tail record do not lead to the last level's root",
-        "Ask for the tail record and for the roots again: the words in the tail record are not those under the last root.",
+        "Ask for the tail record and for the roots again: the words in the tail record are not those under the last root, or it was made under another key than it is checked under.",
     ),
     explained(
         31,

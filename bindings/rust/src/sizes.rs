@@ -118,6 +118,7 @@ impl Place {
 #[cfg(test)]
 mod tests {
     use super::{Sizes, Widths};
+    use crate::key;
     use crate::raw;
 
     /// The archive asks for lengths (5) before it asks for the position (11) or the base domain (7), so these answers say that every
@@ -173,6 +174,7 @@ mod tests {
         let base = [0u8; 201];
         let committed = unsafe {
             raw::dequmlo_commit(
+                key::raw(None),
                 widths.number(),
                 n,
                 k,
@@ -196,6 +198,7 @@ mod tests {
         let mut roots = vec![0u8; sizes.roots_bytes];
         let folded = unsafe {
             raw::dequmlo_fold_levels(
+                key::raw(None),
                 widths.number(),
                 n,
                 k,

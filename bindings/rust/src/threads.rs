@@ -1,7 +1,8 @@
 //! The work divided over threads. Each part is one call of a proved entry into a slice of its own; that consecutive parts are the whole, whatever
 //! the division, is a proved law (crates/theory_laws/proofs/Parts.antt, and Joined.antt of code_parts and tree_parts). Nothing is done here but
-//! dividing: lengths are those of the slices, and what a level has is made by the entries from the set of widths, n, k, its number and the base domain.
+//! dividing: lengths are those of the slices, and what a level has is made by the entries from the key, the set of widths, n, k, its number and the base domain.
 
+use crate::key::{self, Key};
 use crate::raw;
 use crate::refusal::Refusal;
 use crate::root::Root;
@@ -18,8 +19,8 @@ use std::thread;
 /// ```
 /// use dequmlo::{Deposit, Threads, Widths, Word};
 /// let table: Vec<Word> = (0..1024u128).map(Word).collect();
-/// let one = Deposit::commit(b"example", Widths::Present, 2, &table)?;
-/// let three = Deposit::commit_on(Threads::of(3), b"example", Widths::Present, 2, &table)?;
+/// let one = Deposit::commit(None, b"example", Widths::Present, 2, &table)?;
+/// let three = Deposit::commit_on(Threads::of(3), None, b"example", Widths::Present, 2, &table)?;
 /// assert_eq!(one.root(), three.root());
 /// # Ok::<(), dequmlo::Refusal>(())
 /// ```
@@ -98,6 +99,7 @@ fn in_parts<P>(
 /// What a commitment's entries are told of it.
 pub(crate) struct Commitment<'a> {
     pub threads: Threads,
+    pub key: Option<&'a Key>,
     pub sizes: Sizes,
     pub base: &'a [u8],
 }
@@ -204,6 +206,7 @@ impl Commitment<'_> {
         let Sizes { widths, n, k, .. } = self.sizes;
         unsafe {
             raw::dequmlo_level_leaves(
+                key::raw(self.key),
                 widths.number(),
                 n,
                 k,
@@ -227,6 +230,7 @@ impl Commitment<'_> {
             let (children, out) = (&*below[i - 1], &mut *above[0]);
             let number = unsafe {
                 raw::dequmlo_level_parents(
+                    key::raw(self.key),
                     n,
                     k,
                     level,

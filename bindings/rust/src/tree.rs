@@ -1,5 +1,6 @@
-//! The digest, trees over groups of words, and their paths.
+//! The digest, trees over groups of words under a key or none, and their paths.
 
+use crate::key::{self, Key};
 use crate::raw;
 use crate::refusal::Refusal;
 use crate::root::Root;
@@ -51,15 +52,15 @@ pub fn level_domain(base: &[u8], level: usize) -> Result<Vec<u8>, Refusal> {
     Ok(domain)
 }
 
-/// A tree over groups of words: leaves first, then each level of parents, the root last.
+/// A tree over groups of words: leaves first, then each level of parents, the root last. It keeps no key: a path is taken off it without one.
 ///
 /// ```
 /// use dequmlo::{tree, tree::Tree, Word};
 /// let values: Vec<Word> = (0..8u128).map(Word).collect();
-/// let tree = Tree::build(b"d", 2, &values)?;
+/// let tree = Tree::build(None, b"d", 2, &values)?;
 /// let path = tree.open(5)?;
 /// assert_eq!(path.len(), 2);
-/// assert_eq!(tree::root_of_path(b"d", 8, 2, 5, &values[4..6], &path)?, tree.root());
+/// assert_eq!(tree::root_of_path(None, b"d", 8, 2, 5, &values[4..6], &path)?, tree.root());
 /// assert_eq!(tree.open(8).unwrap_err().number, 11);
 /// # Ok::<(), dequmlo::Refusal>(())
 /// ```
@@ -71,13 +72,19 @@ pub struct Tree {
 }
 
 impl Tree {
-    /// The tree over the values in groups of this width, under a domain of at most 255 bytes.
-    pub fn build(domain: &[u8], width: usize, values: &[Word]) -> Result<Tree, Refusal> {
+    /// The tree over the values in groups of this width, under a key or none and a domain of at most 255 bytes.
+    pub fn build(
+        key: Option<&Key>,
+        domain: &[u8],
+        width: usize,
+        values: &[Word],
+    ) -> Result<Tree, Refusal> {
         let count = values.len();
         let values = halves(values);
         let mut digests = vec![0; bytes(count, width)];
         Refusal::unless_done(unsafe {
             raw::dequmlo_tree(
+                key::raw(key),
                 domain.as_ptr(),
                 domain.len(),
                 count,
@@ -99,6 +106,7 @@ impl Tree {
     /// have every level's tree from [`crate::Deposit::fold`]. Refused with 4 where there is no such n, k or level, with 5 where the level
     /// has another number of words, with 7 where the base domain has more than 200 bytes.
     pub fn of_level(
+        key: Option<&Key>,
         base: &[u8],
         widths: Widths,
         n: usize,
@@ -111,6 +119,7 @@ impl Tree {
         let mut digests = vec![0; bytes];
         Refusal::unless_done(unsafe {
             raw::dequmlo_level_tree(
+                key::raw(key),
                 widths.number(),
                 n,
                 k,
@@ -164,8 +173,9 @@ impl Tree {
     }
 }
 
-/// The root that the group of a place and a path lead to.
+/// The root that the group of a place and a path lead to, under a key or none.
 pub fn root_of_path(
+    key: Option<&Key>,
     domain: &[u8],
     count: usize,
     width: usize,
@@ -177,6 +187,7 @@ pub fn root_of_path(
     let path = path.concat();
     let answer = unsafe {
         raw::dequmlo_root_of_path(
+            key::raw(key),
             domain.as_ptr(),
             domain.len(),
             count,
@@ -198,13 +209,14 @@ pub fn root_of_path(
 /// ```
 /// use dequmlo::{tree, tree::Tree, Word};
 /// let values: Vec<Word> = (0..8u128).map(Word).collect();
-/// let digests = Tree::build(b"d", 2, &values)?.digests().to_vec();
-/// assert_eq!(tree::leaves(b"d", 2, &values, 1..3)?, digests[32..96]);
-/// assert_eq!(tree::parents(b"d", 0, &digests[64..128])?, digests[160..192]);
-/// assert_eq!(tree::leaves(b"d", 2, &values, 3..5).unwrap_err().number, 11);
+/// let digests = Tree::build(None, b"d", 2, &values)?.digests().to_vec();
+/// assert_eq!(tree::leaves(None, b"d", 2, &values, 1..3)?, digests[32..96]);
+/// assert_eq!(tree::parents(None, b"d", 0, &digests[64..128])?, digests[160..192]);
+/// assert_eq!(tree::leaves(None, b"d", 2, &values, 3..5).unwrap_err().number, 11);
 /// # Ok::<(), dequmlo::Refusal>(())
 /// ```
 pub fn leaves(
+    key: Option<&Key>,
     domain: &[u8],
     width: usize,
     values: &[Word],
@@ -215,6 +227,7 @@ pub fn leaves(
     let mut out = vec![0u8; 32 * groups.len()];
     Refusal::unless_done(unsafe {
         raw::dequmlo_tree_leaves(
+            key::raw(key),
             domain.as_ptr(),
             domain.len(),
             count,
@@ -231,10 +244,16 @@ pub fn leaves(
 
 /// The parents of digests of a level of a tree, two by two, 32 bytes each; the parents of the leaves are level 0. Refused with 5 where there is no even number
 /// of digests, with 7 where the domain has more than 255 bytes.
-pub fn parents(domain: &[u8], level: usize, children: &[u8]) -> Result<Vec<u8>, Refusal> {
+pub fn parents(
+    key: Option<&Key>,
+    domain: &[u8],
+    level: usize,
+    children: &[u8],
+) -> Result<Vec<u8>, Refusal> {
     let mut out = vec![0u8; children.len() / 2];
     Refusal::unless_done(unsafe {
         raw::dequmlo_tree_parents(
+            key::raw(key),
             domain.as_ptr(),
             domain.len(),
             level,

@@ -74,8 +74,8 @@ fn nothing_of_the_earlier_deposit_shows() {
         for ((seed, (n, k)), widths) in (1..).zip(SHAPES).zip(sets) {
             let said = format!("{widths} n {n} k {k} {threads:?}, deposit {seed}");
             let (table, challenges) = (words(1 << n, seed), words(n, 100 + seed));
-            let new = Deposit::commit(BASE, widths, k, &table).unwrap();
-            let kept = Deposit::commit_in(buffers, threads, BASE, widths, k, &table).unwrap();
+            let new = Deposit::commit(None, BASE, widths, k, &table).unwrap();
+            let kept = Deposit::commit_in(buffers, threads, None, BASE, widths, k, &table).unwrap();
             assert!(Committed::of(&kept) == Committed::of(&new), "{said}");
             let new = new.fold(&challenges).unwrap();
             let kept = kept.fold_on(threads, &challenges).unwrap();
@@ -87,7 +87,8 @@ fn nothing_of_the_earlier_deposit_shows() {
             // Another deposit, which is not folded, leaves its buffers too.
             let table = words(1 << n, 200 + seed);
             buffers = kept.into_buffers();
-            let other = Deposit::commit_in(buffers, threads, BASE, widths, k, &table).unwrap();
+            let other =
+                Deposit::commit_in(buffers, threads, None, BASE, widths, k, &table).unwrap();
             buffers = other.into_buffers();
         }
     }
@@ -100,14 +101,16 @@ fn larger_buffers_stay() {
     let sizes = Sizes::of(widths, 6, 2).unwrap();
     let words_there = format!("levels_words: {}", sizes.levels_words);
     for threads in [1, 2, 3].map(Threads::of) {
-        let large = Deposit::commit_on(threads, BASE, widths, 2, &words(64, 1)).unwrap();
+        let large = Deposit::commit_on(threads, None, BASE, widths, 2, &words(64, 1)).unwrap();
         let buffers = large.into_buffers();
         let there = format!("{buffers:?}");
         assert!(there.contains(&words_there), "{there}");
-        let small = Deposit::commit_in(buffers, threads, BASE, widths, 1, &words(4, 2)).unwrap();
+        let small =
+            Deposit::commit_in(buffers, threads, None, BASE, widths, 1, &words(4, 2)).unwrap();
         let buffers = small.into_buffers();
         assert_eq!(format!("{buffers:?}"), there);
-        let small = Deposit::commit_in(buffers, threads, BASE, widths, 1, &words(4, 3)).unwrap();
+        let small =
+            Deposit::commit_in(buffers, threads, None, BASE, widths, 1, &words(4, 3)).unwrap();
         let folded = small.fold_on(threads, &words(2, 4)).unwrap();
         assert_eq!(format!("{:?}", folded.into_buffers()), there);
     }
@@ -124,17 +127,19 @@ fn the_same_refusals() {
         (&long[..], 1, 4, 7),
     ] {
         for threads in [1, 2, 3].map(Threads::of) {
-            let earlier = Deposit::commit(BASE, Widths::Present, 2, &words(64, 1)).unwrap();
+            let earlier = Deposit::commit(None, BASE, Widths::Present, 2, &words(64, 1)).unwrap();
             let buffers = earlier.into_buffers();
-            let refused = Deposit::commit_in(buffers, threads, base, widths, k, &words(count, 2));
+            let refused =
+                Deposit::commit_in(buffers, threads, None, base, widths, k, &words(count, 2));
             assert_eq!(refused.err().unwrap().number, number, "k {k} count {count}");
         }
     }
     for threads in [1, 2, 3].map(Threads::of) {
-        let buffers = Deposit::commit(BASE, widths, 2, &words(64, 1))
+        let buffers = Deposit::commit(None, BASE, widths, 2, &words(64, 1))
             .unwrap()
             .into_buffers();
-        let deposit = Deposit::commit_in(buffers, threads, BASE, widths, 1, &words(8, 2)).unwrap();
+        let deposit =
+            Deposit::commit_in(buffers, threads, None, BASE, widths, 1, &words(8, 2)).unwrap();
         assert_eq!(
             deposit.fold_on(threads, &words(4, 3)).err().unwrap().number,
             5

@@ -10,7 +10,7 @@ fn words(count: usize) -> Vec<Word> {
 }
 
 fn deposit(n: usize, k: usize) -> Deposit {
-    Deposit::commit(b"dequmlo/in-use", Widths::Present, k, &words(1 << n)).unwrap()
+    Deposit::commit(None, b"dequmlo/in-use", Widths::Present, k, &words(1 << n)).unwrap()
 }
 
 fn committed(n: usize, k: usize) -> InUse {

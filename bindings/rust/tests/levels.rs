@@ -23,17 +23,17 @@ fn one_at_a_time_they_are_the_same() {
         .flat_map(|widths| [(1, 0), (1, 4), (3, 1), (6, 2), (11, 4)].map(|shape| (widths, shape)))
     {
         let challenges = words(n);
-        let deposit = Deposit::commit(BASE, widths, k, &words(1 << n)).unwrap();
+        let deposit = Deposit::commit(None, BASE, widths, k, &words(1 << n)).unwrap();
         let mut codeword = InUse::committed(n, k, deposit.codeword());
         let mut roots = vec![deposit.root()];
         for (l, r) in challenges.iter().enumerate() {
             codeword.fold(0, *r).unwrap();
             assert_eq!(codeword.coordinates, (l + 1..n).collect::<Vec<_>>());
             let level = &codeword.words;
-            let tree = Tree::of_level(BASE, widths, n, k, l + 1, level).unwrap();
+            let tree = Tree::of_level(None, BASE, widths, n, k, l + 1, level).unwrap();
             let domain = level_domain(BASE, l + 1).unwrap();
             let width = fold_tree_width(widths, level.len());
-            assert_eq!(tree, Tree::build(&domain, width, level).unwrap());
+            assert_eq!(tree, Tree::build(None, &domain, width, level).unwrap());
             roots.push(tree.root());
         }
         let level = codeword.words;
@@ -66,7 +66,7 @@ fn what_is_no_level_is_refused() {
     assert_eq!(number(level_domain(&[b'd'; 201], 0)), Some(7));
     let tree = |base: &[u8], n, k, l, count| {
         let answers =
-            Widths::ALL.map(|set| number(Tree::of_level(base, set, n, k, l, &words(count))));
+            Widths::ALL.map(|set| number(Tree::of_level(None, base, set, n, k, l, &words(count))));
         assert_eq!(answers[0], answers[1], "n {n} k {k} level {l}");
         answers[0]
     };
@@ -78,7 +78,7 @@ fn what_is_no_level_is_refused() {
     assert_eq!(tree(BASE, 3, 1, 2, 2), Some(5));
     assert_eq!(tree(&[b'd'; 201], 3, 1, 3, 2), Some(7));
     for count in [0, 2, 4] {
-        let deposit = Deposit::commit(BASE, Widths::Wide, 1, &words(8)).unwrap();
+        let deposit = Deposit::commit(None, BASE, Widths::Wide, 1, &words(8)).unwrap();
         assert_eq!(number(deposit.fold(&words(count))), Some(5), "{count}");
     }
 }
@@ -100,7 +100,7 @@ impl Stored {
     }
 
     fn take_up(&self, threads: Threads) -> Result<HalfFolded, NotTakenUp> {
-        HalfFolded::take_up(threads, self.lists.clone(), |level, room| {
+        HalfFolded::take_up(threads, None, self.lists.clone(), |level, room| {
             let values = self.values.get(level).ok_or(io::ErrorKind::NotFound)?;
             room.copy_from_slice(values);
             Ok(())
@@ -114,7 +114,7 @@ impl Stored {
             .map(|bytes| Word(u128::from_le_bytes(bytes.try_into().unwrap())))
             .collect();
         let Kept { n, k, widths, .. } = self.lists;
-        let tree = Tree::of_level(&self.lists.base, widths, n, k, level, &words).unwrap();
+        let tree = Tree::of_level(None, &self.lists.base, widths, n, k, level, &words).unwrap();
         self.lists.roots[level] = tree.root();
     }
 }
@@ -137,7 +137,7 @@ fn interrupted_at_any_level_they_are_the_same() {
         .flat_map(|widths| shapes.map(|shape| (widths, shape)))
     {
         let (table, challenges) = (words(1 << n), words(n));
-        let commit = || Deposit::commit(BASE, widths, k, &table).unwrap();
+        let commit = || Deposit::commit(None, BASE, widths, k, &table).unwrap();
         let whole = commit().fold(&challenges).unwrap();
         for threads in [1, 2].map(Threads::of) {
             let mut chain = commit().fold_until(threads, &[]).unwrap();
@@ -166,7 +166,7 @@ fn interrupted_at_any_level_they_are_the_same() {
 
 /// A deposit of 32 words folded by three of its five challenges, stored. No challenge is 1, by which a pair folds to its second word alone.
 fn stored() -> Stored {
-    let deposit = Deposit::commit(BASE, Widths::Present, 1, &words(32)).unwrap();
+    let deposit = Deposit::commit(None, BASE, Widths::Present, 1, &words(32)).unwrap();
     Stored::of(&deposit.fold_until(Threads::of(1), &words(4)[1..]).unwrap())
 }
 
@@ -271,7 +271,7 @@ fn a_fold_goes_on_by_the_challenges_that_are_left() {
         }
         let half = stored().take_up(threads).unwrap();
         assert_eq!(number(half.fold_further(threads, &words(3))), Some(5));
-        let deposit = Deposit::commit(BASE, Widths::Wide, 1, &words(8)).unwrap();
+        let deposit = Deposit::commit(None, BASE, Widths::Wide, 1, &words(8)).unwrap();
         assert_eq!(number(deposit.fold_until(threads, &words(4))), Some(5));
     }
 }

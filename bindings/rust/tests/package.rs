@@ -207,7 +207,8 @@ fn what_is_answered_must_be_used() {
 #[test]
 fn what_is_public_can_be_printed() {
     let table: Vec<dequmlo::Word> = (0..4u128).map(dequmlo::Word).collect();
-    let deposit = dequmlo::Deposit::commit(b"d", dequmlo::Widths::Present, 1, &table).unwrap();
+    let deposit =
+        dequmlo::Deposit::commit(None, b"d", dequmlo::Widths::Present, 1, &table).unwrap();
     let shown = format!("{deposit:?}");
     assert!(
         shown.starts_with("Deposit { widths: Present, n: 2, k: 1, root: ") && shown.len() < 120,

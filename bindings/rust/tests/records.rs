@@ -26,8 +26,8 @@ struct Sealed {
 
 fn sealed(widths: Widths, n: usize, k: usize) -> Result<Sealed, Refusal> {
     let challenges = words(n, 7);
-    let folded = Deposit::commit(BASE, widths, k, &words(1 << n, 3))?.fold(&challenges)?;
-    let statement = Statement::new(BASE, widths, n, k, &challenges, &folded.roots())?;
+    let folded = Deposit::commit(None, BASE, widths, k, &words(1 << n, 3))?.fold(&challenges)?;
+    let statement = Statement::new(None, BASE, widths, n, k, &challenges, &folded.roots())?;
     Ok(Sealed {
         challenges,
         folded,
@@ -127,7 +127,7 @@ fn the_deposit_of_the_specification() {
     ] {
         let (_, section) = page.split_once(heading).unwrap();
         let (section, _) = section.split_once("\n#").unwrap();
-        let deposit = Deposit::commit(b"magnetar/pcs/balanced", widths, 2, &table).unwrap();
+        let deposit = Deposit::commit(None, b"magnetar/pcs/balanced", widths, 2, &table).unwrap();
         let folded = deposit.fold(&challenges).unwrap();
         let said = |what: String| assert!(section.contains(&what), "{widths}: no {what}");
         let roots = folded.roots().into_iter().enumerate();
@@ -171,14 +171,14 @@ fn broken_by_what_belongs_elsewhere(widths: Widths, n: usize, k: usize) {
     for l in 0..n {
         let mut other = s.challenges.clone();
         other[l].0 ^= 1;
-        let statement = Statement::new(BASE, widths, n, k, &other, &roots).unwrap();
+        let statement = Statement::new(None, BASE, widths, n, k, &other, &roots).unwrap();
         assert_eq!(
             statement.check_query(5, &record),
             refused(26, Some(l as u32))
         );
         let mut other = roots.clone();
         other[l + 1] = Root([0; 32]);
-        let statement = Statement::new(BASE, widths, n, k, &s.challenges, &other).unwrap();
+        let statement = Statement::new(None, BASE, widths, n, k, &s.challenges, &other).unwrap();
         assert_eq!(
             statement.check_query(5, &record),
             refused(24, Some(l as u32))
@@ -216,7 +216,15 @@ fn shown_under(widths: Widths, n: usize, k: usize, position: usize) {
         );
         assert!(shown.c_group.contains(&shown.c));
         let domain = level_domain(BASE, l).unwrap();
-        let root = root_of_path(&domain, count, width, place, &shown.a_group, &shown.a_path);
+        let root = root_of_path(
+            None,
+            &domain,
+            count,
+            width,
+            place,
+            &shown.a_group,
+            &shown.a_path,
+        );
         assert_eq!(root.unwrap(), s.folded.roots()[l]);
         if let Some(next) = levels.get(l + 1) {
             assert_eq!(
@@ -264,7 +272,7 @@ fn comparing_equal_or_refused_records() {
 fn what_is_refused_before_a_record_is_read() {
     let roots = vec![Root([0; 32]); 4];
     let new = |n, k, base: &[u8], challenges: usize, roots: &[Root]| {
-        Statement::new(base, Widths::Wide, n, k, &words(challenges, 1), roots)
+        Statement::new(None, base, Widths::Wide, n, k, &words(challenges, 1), roots)
             .err()
             .map(|r| r.number)
     };
@@ -277,19 +285,19 @@ fn what_is_refused_before_a_record_is_read() {
     assert_eq!(new(3, 1, &[b'd'; 200], 3, &roots), None);
     assert_eq!(new(3, 1, &[b'd'; 201], 3, &roots), Some(7));
     assert_eq!(
-        Deposit::commit(&[b'd'; 201], Widths::Present, 1, &words(8, 1))
+        Deposit::commit(None, &[b'd'; 201], Widths::Present, 1, &words(8, 1))
             .err()
             .map(|r| r.number),
         Some(7)
     );
     assert_eq!(
-        Deposit::commit(BASE, Widths::Present, 1, &words(7, 1))
+        Deposit::commit(None, BASE, Widths::Present, 1, &words(7, 1))
             .err()
             .map(|r| r.number),
         Some(5)
     );
     assert_eq!(
-        Deposit::commit(BASE, Widths::Present, 1, &words(1, 1))
+        Deposit::commit(None, BASE, Widths::Present, 1, &words(1, 1))
             .err()
             .map(|r| r.number),
         Some(4)

@@ -17,11 +17,11 @@ fn the_same_bytes() {
     let wide = [(1, 4), (5, 2), (13, 1)].map(|shape| (Widths::Wide, shape));
     for (widths, (n, k)) in present.into_iter().chain(wide) {
         let (table, challenges) = (words(1 << n), words(n));
-        let one = Deposit::commit(BASE, widths, k, &table).unwrap();
+        let one = Deposit::commit(None, BASE, widths, k, &table).unwrap();
         let (root, gammas, codeword) = (one.root(), one.gammas(), one.codeword());
         let one = one.fold(&challenges).unwrap();
         for threads in [1, 2, 3, 64].map(Threads::of) {
-            let deposit = Deposit::commit_on(threads, BASE, widths, k, &table).unwrap();
+            let deposit = Deposit::commit_on(threads, None, BASE, widths, k, &table).unwrap();
             assert_eq!(deposit.root(), root, "{widths} n {n} k {k} {threads:?}");
             assert_eq!(deposit.gammas(), gammas, "{widths} n {n} k {k} {threads:?}");
             assert!(
@@ -60,16 +60,16 @@ fn the_same_bytes() {
 fn the_same_refusals() {
     let (long, widths) = ([b'd'; 201], Widths::Wide);
     for (base, k, count) in [(BASE, 5, 4), (BASE, 1, 3), (BASE, 1, 1), (&long[..], 1, 4)] {
-        let one = Deposit::commit(base, widths, k, &words(count))
+        let one = Deposit::commit(None, base, widths, k, &words(count))
             .err()
             .unwrap();
         for threads in [2, 3, 64].map(Threads::of) {
-            let more = Deposit::commit_on(threads, base, widths, k, &words(count)).err();
+            let more = Deposit::commit_on(threads, None, base, widths, k, &words(count)).err();
             assert_eq!(more.unwrap().number, one.number, "k {k} count {count}");
         }
     }
     for challenges in [0, 2, 4] {
-        let deposit = Deposit::commit(BASE, widths, 1, &words(8)).unwrap();
+        let deposit = Deposit::commit(None, BASE, widths, 1, &words(8)).unwrap();
         let refusal = deposit.fold_on(Threads::of(2), &words(challenges)).err();
         assert_eq!(refusal.unwrap().number, 5, "{challenges} challenges");
     }

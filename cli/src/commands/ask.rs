@@ -4,6 +4,7 @@ use crate::clock;
 use crate::drawing::{challenges, positions, worth};
 use crate::folder::Kind;
 use crate::json::Json;
+use crate::key;
 use crate::options::Options;
 use crate::outcome::{Failure, Outcome, Verdict};
 use crate::part::asked_seal;
@@ -15,9 +16,19 @@ use crate::writing::{beside, Target};
 use dequmlo::{Root, Word};
 use std::path::{Path, PathBuf};
 
-pub const TAKEN: [&str; 11] = [
-    "--seal", "--older", "--file", "--part", "--asked", "--answer", "--count", "--by", "--out",
-    "--force", "--json",
+pub const TAKEN: [&str; 12] = [
+    "--seal",
+    "--older",
+    "--key-file",
+    "--file",
+    "--part",
+    "--asked",
+    "--answer",
+    "--count",
+    "--by",
+    "--out",
+    "--force",
+    "--json",
 ];
 
 pub fn run(options: &Options) -> Result<Outcome, Failure> {
@@ -66,12 +77,13 @@ fn first(options: &Options, folder: &Path) -> Result<Outcome, Failure> {
         out.display()
     );
     let next = "no position is told before the holder has answered with its roots; then `seal ask` with --asked and --answer draws the positions";
-    Ok(Outcome::new(Verdict::Done, sentence)
+    let outcome = Outcome::new(Verdict::Done, sentence)
         .say()
         .lines([next.into()])
         .found("request", Json::text(out.display()))
         .found("positions", Json::List(Vec::new()))
-        .notes(notes))
+        .notes(notes);
+    Ok(key::found(outcome, request.shape.key))
 }
 
 /// The positions, for a request that was answered.
@@ -130,7 +142,8 @@ fn second(options: &Options, asked: &Path, answer: &Path) -> Result<Outcome, Fai
     };
     notes.extend(target.write(&request.files())?);
     notes.extend(seal.notes);
-    Ok(told(&answered, &request, &out).notes(notes))
+    let outcome = told(&answered, &request, &out).notes(notes);
+    Ok(key::found(outcome, request.shape.key))
 }
 
 /// The roots and the claim of an answer to this request; why it is none where it is not one. The tail that goes with the roots is checked by the library.

@@ -19,7 +19,7 @@ use crate::writing::{make, may_be_made};
 use dequmlo::{QueryRecord, Refusal, Statement, Word};
 use std::path::PathBuf;
 
-pub const TAKEN: [&str; 16] = asking_and([
+pub const TAKEN: [&str; 17] = asking_and([
     "--roots",
     "--claim",
     "--own-questions",

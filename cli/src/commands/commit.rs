@@ -3,10 +3,11 @@
 use crate::commands::commit_folder;
 use crate::folder::Kind;
 use crate::json::Json;
+use crate::key::{self, CheckValue, Given};
 use crate::options::Options;
 use crate::outcome::{Failure, Outcome, Verdict};
 use crate::progress::Progress;
-use crate::reading::shown_path;
+use crate::reading::{lies_in, shown_path};
 use crate::seal::Seal;
 use crate::shape::Shape;
 use crate::table::{read_table, room_for};
@@ -14,11 +15,12 @@ use crate::writing::{beside, Target};
 use dequmlo::{Deposit, Parameters, Root, Widths};
 use std::path::Path;
 
-pub const TAKEN: [&str; 8] = [
+pub const TAKEN: [&str; 9] = [
     "--profile",
     "--k",
     "--domain",
     "--widths",
+    "--key-file",
     "--out",
     "--force",
     "--threads",
@@ -31,13 +33,15 @@ pub fn run(options: &Options) -> Result<Outcome, Failure> {
     let threads = options.threads()?;
     if file.is_dir() {
         let ((k, domain), widths) = (parameters(options)?, widths(options)?);
-        return commit_folder::run(options, threads, domain, widths, k);
+        return commit_folder::run(options, threads, named_key(options)?, domain, widths, k);
     }
     let folder = options
         .path("--out")
         .unwrap_or_else(|| beside(file, ".seal"));
     let (target, mut notes) = Target::new(&folder, Kind::Seal, options.has("--force"))?;
     let ((k, domain), widths) = (parameters(options)?, widths(options)?);
+    let given = named_key(options)?;
+    let key = given.as_ref().map(|given| &given.key);
     let table = match read_table(file)? {
         Ok(table) => table,
         Err(sentence) => return Ok(Outcome::declined(sentence)),
@@ -47,11 +51,12 @@ pub fn run(options: &Options) -> Result<Outcome, Failure> {
         k,
         domain,
         widths,
+        key: key.map(CheckValue::of),
     };
     room_for(&shape)?;
     let progress = Progress::start();
     progress.say(&format!("committing {} words ..", table.words.len()));
-    let root = match Deposit::commit_on(threads, &shape.domain, widths, k, &table.words) {
+    let root = match Deposit::commit_on(threads, key, &shape.domain, widths, k, &table.words) {
         Ok(deposit) => deposit.root(),
         Err(refusal) => return Ok(Outcome::refused(&refusal)),
     };
@@ -68,7 +73,7 @@ fn told(shape: &Shape, root: &Root, file: &Path, bytes: usize, folder: &Path) ->
         file.display(),
         1usize << n
     );
-    Outcome::new(Verdict::Done, sentence)
+    let outcome = Outcome::new(Verdict::Done, sentence)
         .say()
         .lines([
             format!("root {root}"),
@@ -77,12 +82,34 @@ fn told(shape: &Shape, root: &Root, file: &Path, bytes: usize, folder: &Path) ->
                 folder.display()
             ),
         ])
+        .lines(shape.key.map(told_key))
         .found("seal", Json::text(folder.display()))
         .found("root", Json::text(root))
         .found("n", Json::number(*n))
         .found("k", Json::number(*k))
         .found("widths", Json::text(widths))
-        .found("bytes", Json::number(bytes))
+        .found("bytes", Json::number(bytes));
+    key::found(outcome, shape.key)
+}
+
+/// The key that the seal is made under, if one is named. Fails where its file lies in what is sealed, or is it: an opening would show it.
+fn named_key(options: &Options) -> Result<Option<Given>, Failure> {
+    let sealed = &options.operands[0];
+    match Given::by(options)? {
+        Some(given) if lies_in(given.path(), sealed) => Err(Failure(format!(
+            "the key in {} lies in what is to be sealed, so that an opening would show it; keep it elsewhere",
+            shown_path(given.path())
+        ))),
+        given => Ok(given),
+    }
+}
+
+/// What is said of a seal under a key.
+pub fn told_key(value: CheckValue) -> String {
+    format!(
+        "made {}: who opens, checks or verifies it needs that key, which nobody can make again where it is lost",
+        key::told(Some(value))
+    )
 }
 
 /// The set of widths that is named, if one is.

@@ -1,7 +1,9 @@
 //! `seal commit FOLDER`: one root for a project of many files: that of its manifest.
 
+use crate::commands::commit::told_key;
 use crate::folder::Kind;
 use crate::json::Json;
+use crate::key::{self, CheckValue, Given};
 use crate::manifest::{Manifest, MANIFEST};
 use crate::options::Options;
 use crate::outcome::{Failure, Outcome, Verdict};
@@ -19,11 +21,13 @@ use std::path::{Path, PathBuf};
 pub fn run(
     options: &Options,
     threads: Threads,
+    given: Option<Given>,
     domain: Vec<u8>,
     widths: Widths,
     k: usize,
 ) -> Result<Outcome, Failure> {
     let project = &options.operands[0];
+    let key = given.as_ref().map(|given| &given.key);
     let folder = match options.path("--out") {
         Some(folder) => folder,
         None => beside(&named(project)?, ".seal"),
@@ -42,6 +46,7 @@ pub fn run(
     }
     let under = Under {
         threads,
+        key,
         domain: &domain,
         widths,
         k,
@@ -58,7 +63,7 @@ pub fn run(
             text.len()
         )));
     }
-    let root = match root_of(text.as_bytes(), threads, &domain, widths, k) {
+    let root = match root_of(text.as_bytes(), threads, key, &domain, widths, k) {
         Ok(root) => root,
         Err(refusal) => return Ok(Outcome::refused(&refusal)),
     };
@@ -67,10 +72,11 @@ pub fn run(
         k,
         domain,
         widths,
+        key: key.map(CheckValue::of),
     };
     let files = Seal::project_files(&shape, &root, &shown_path(project), &manifest);
     notes.extend(target.write(&files)?);
-    Ok(told(&manifest, widths, &root, project, target.folder()).notes(notes))
+    Ok(told(&manifest, &shape, &root, project, target.folder()).notes(notes))
 }
 
 /// A folder's path with its own name at the end, as `.` has none.
@@ -122,20 +128,15 @@ fn not_a_project(project: &Path, found: &Walked) -> Option<String> {
     ))
 }
 
-fn told(
-    manifest: &Manifest,
-    widths: Widths,
-    root: &Root,
-    project: &Path,
-    folder: &Path,
-) -> Outcome {
+fn told(manifest: &Manifest, shape: &Shape, root: &Root, project: &Path, folder: &Path) -> Outcome {
+    let widths = shape.widths;
     let (files, bytes, parts) = (manifest.0.len(), manifest.bytes(), manifest.parts());
     let noun = if files == 1 { "file" } else { "files" };
     let sentence = format!(
         "sealed the project {}: {files} {noun}, {bytes} bytes in {parts} parts, {widths} widths",
         project.display()
     );
-    Outcome::new(Verdict::Done, sentence)
+    let outcome = Outcome::new(Verdict::Done, sentence)
         .say()
         .lines([
             format!("root {root}"),
@@ -144,10 +145,12 @@ fn told(
                 folder.display()
             ),
         ])
+        .lines(shape.key.map(told_key))
         .found("seal", Json::text(folder.display()))
         .found("root", Json::text(root))
         .found("widths", Json::text(widths))
         .found("files", Json::number(files))
         .found("bytes", Json::number(bytes))
-        .found("parts", Json::number(parts))
+        .found("parts", Json::number(parts));
+    key::found(outcome, shape.key)
 }

@@ -5,6 +5,7 @@ use crate::check_lines::with_check_lines;
 use crate::folder::{Kind, Named, SUMMARY};
 use crate::format::signature;
 use crate::json::Json;
+use crate::key;
 use crate::options::Options;
 use crate::outcome::{lines_of, Failure, Outcome, Verdict};
 use crate::part::asked_seal;
@@ -17,9 +18,10 @@ use crate::writing::{beside, Target};
 use dequmlo::{Collision, QueryRecord, Refusal, Statement, Widths};
 use std::path::{Path, PathBuf};
 
-pub const TAKEN: [&str; 11] = [
+pub const TAKEN: [&str; 12] = [
     "--seal",
     "--older",
+    "--key-file",
     "--file",
     "--part",
     "--opening",
@@ -88,7 +90,7 @@ pub fn run(options: &Options) -> Result<Outcome, Failure> {
             _ => Outcome::refused(&refusal),
         },
     };
-    Ok(outcome.notes(seal.notes))
+    Ok(key::found(outcome.notes(seal.notes), seal.shape.key))
 }
 
 /// Fails where the opening, or a folder that a record lies in, names another set of widths than the seal: two records are compared under one set. A

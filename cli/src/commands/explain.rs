@@ -1,5 +1,5 @@
-//! `seal explain`: what a number means, and what to ask the holder for, or that it is retired; which seals `--older` is for; and what the sets of widths
-//! are.
+//! `seal explain`: what a number means, and what to ask the holder for, or that it is retired; which seals `--older` is for; what the sets of widths
+//! are; and what a key gives.
 
 use crate::json::Json;
 use crate::options::Options;
@@ -30,6 +30,20 @@ const WIDTHS: [&str; 4] = [
      than 16 words the two sets are the same. Two records are compared under one set.",
 ];
 
+/// What a key gives, what it does not, and what is said of keys that do not fit.
+const KEYS: [&str; 5] = [
+    "A seal may be made under a key of 32 bytes: `seal key new FILE` makes one, and `seal commit --key-file FILE` seals under it. Nobody without the key can make the root \
+     of a file, so that the seal alone does not tell whether a guess at the file is right; and nobody without it can check an opening against the root.",
+    "The key does not hide what an opening shows: its records have the words themselves, for everybody who has the opening; and its claim and its tail are \
+     made from all of the file without the key, so that whoever has an opening can try a guess at the whole file. Nor does a key say who made something: everybody who has \
+     it can do all of it.",
+    "Whoever opens, checks or verifies gives the key by --key-file. Where it is lost, the seal can no longer be checked, and nobody can make it again: keep a copy \
+     in a safe place, apart from what is sealed.",
+    "A seal says under which key it was made by a check value in parameters.txt, which is derived from the key and does not lead back to it. So a key that is \
+     missing, another key, and a key for a seal that has none are told in a sentence, with status 2, before a record is read; that speaks against nobody.",
+    "A key's file has 32 bytes, or 64 hexadecimal digits and perhaps a line end. One that others may read is named on standard error: `chmod 600 FILE` mends that.",
+];
+
 pub fn run(options: &Options) -> Result<Outcome, Failure> {
     if options.operands.is_empty() {
         options.expect(0, "", &["--json"])?;
@@ -40,6 +54,7 @@ pub fn run(options: &Options) -> Result<Outcome, Failure> {
     match &*text {
         "older" => return Ok(older()),
         "widths" => return Ok(widths()),
+        "keys" => return Ok(keys()),
         _ => (),
     }
     let number = text.parse().ok();
@@ -52,7 +67,7 @@ pub fn run(options: &Options) -> Result<Outcome, Failure> {
         return Ok(found(outcome, &[], &[r]));
     }
     Err(Failure(format!(
-        "`{text}` is no refusal's number; they are 1 to 33 and 36; `seal explain older` says which seals --older is for, and `seal explain widths` what the sets of widths are"
+        "`{text}` is no refusal's number; they are 1 to 33 and 36; `seal explain older` says which seals --older is for, `seal explain widths` what the sets of widths are, and `seal explain keys` what a key gives"
     )))
 }
 
@@ -72,6 +87,15 @@ fn widths() -> Outcome {
         .found("widths", texts(WIDTHS))
 }
 
+fn keys() -> Outcome {
+    let sentence =
+        "Under a key nobody else makes or checks a root; what an opening shows is not hidden.";
+    Outcome::new(Verdict::Done, sentence)
+        .say()
+        .lines(KEYS.map(String::from))
+        .found("keys", texts(KEYS))
+}
+
 /// Every number: first those that a holder can cause, then those that only a program can, then those that are retired.
 fn all() -> Outcome {
     let (programs, holders): (Vec<_>, Vec<_>) =
@@ -88,6 +112,7 @@ fn all() -> Outcome {
         .lines([
             "`seal explain older` says which seals --older is for.".to_string(),
             "`seal explain widths` says what the sets of widths are.".to_string(),
+            "`seal explain keys` says what a key gives and what it does not.".to_string(),
         ]);
     found(outcome, &[holders, programs].concat(), &gone)
 }

@@ -7,6 +7,7 @@ pub mod commit_folder;
 pub mod compare;
 pub mod demo;
 pub mod explain;
+pub mod key;
 pub mod open;
 pub mod show;
 pub mod tail;

@@ -3,6 +3,7 @@
 use crate::begun::{self, Begun};
 use crate::folder::Kind;
 use crate::json::Json;
+use crate::key;
 use crate::opening::Opening;
 use crate::options::Options;
 use crate::outcome::{texts, Ended, Failure, Outcome, Verdict};
@@ -18,7 +19,7 @@ use crate::writing::{beside, settled, Target};
 use dequmlo::{Folded, HalfFolded, Refusal, Root, Threads, Word};
 use std::path::Path;
 
-pub const TAKEN: [&str; 17] = asking_and([
+pub const TAKEN: [&str; 18] = asking_and([
     "--until",
     "--resume",
     "--out",
@@ -241,13 +242,14 @@ fn told(opening: &Opening, folder: &Path, is_answer: bool) -> Outcome {
     } else {
         format!("opened {count} {noun} into {shown}")
     };
-    Outcome::new(Verdict::Done, sentence)
+    let outcome = Outcome::new(Verdict::Done, sentence)
         .say()
         .found("opening", Json::text(folder.display()))
         .found("widths", Json::text(opening.shape.widths))
         .found("positions", Json::List(positions.collect()))
         .found("roots", texts(&opening.roots))
-        .found("claim", Json::text(opening.claim))
+        .found("claim", Json::text(opening.claim));
+    key::found(outcome, opening.shape.key)
 }
 
 fn told_begun(half: &HalfFolded, seal: &Seal, folder: &Path) -> Outcome {
@@ -257,11 +259,12 @@ fn told_begun(half: &HalfFolded, seal: &Seal, folder: &Path) -> Outcome {
         seal.shape.n
     );
     let coordinates = half.coordinates().into_iter().map(Json::number);
-    Outcome::new(Verdict::Done, sentence)
+    let outcome = Outcome::new(Verdict::Done, sentence)
         .say()
         .found("begun", Json::text(shown))
         .found("widths", Json::text(seal.shape.widths))
         .found("reached", Json::number(level))
         .found("coordinates", Json::List(coordinates.collect()))
-        .found("roots", texts(half.roots()))
+        .found("roots", texts(half.roots()));
+    key::found(outcome, seal.shape.key)
 }

@@ -4,6 +4,7 @@ use crate::folder::SUMMARY;
 use crate::format::all_known;
 use crate::hex;
 use crate::json::Json;
+use crate::key;
 use crate::manifest::MANIFEST;
 use crate::opened::{as_digits, as_text, Opened};
 use crate::opening::{record_name, record_position};
@@ -62,13 +63,22 @@ pub fn run(options: &Options) -> Result<Outcome, Failure> {
     let in_a_part = folder.join(MANIFEST).exists().then(|| {
         "this is an opening of a project: the offsets are counted from the start of the file, or of the part of it that the summary names".into()
     });
-    Ok(Outcome::new(Verdict::Done, sentence)
+    let shape = &parameters.shape;
+    let made = shape.key.map(|value| {
+        format!(
+            "the opening says that it was made {}",
+            key::told(Some(value))
+        )
+    });
+    let outcome = Outcome::new(Verdict::Done, sentence)
         .lines(first_line(folder))
         .say()
+        .lines(made)
         .lines(lines)
         .notes(in_a_part)
-        .found("widths", Json::text(parameters.shape.widths))
-        .found("places", Json::List(places.collect())))
+        .found("widths", Json::text(shape.widths))
+        .found("places", Json::List(places.collect()));
+    Ok(key::found(outcome, shape.key))
 }
 
 /// The positions that the opening has records for, rising.

@@ -1,6 +1,7 @@
 //! `seal tail`: the tail record alone, and the last level that it shows.
 
 use crate::json::Json;
+use crate::key;
 use crate::options::Options;
 use crate::outcome::{texts, Failure, Outcome, Verdict};
 use crate::part::asked_seal;
@@ -8,8 +9,15 @@ use crate::shown::{changed_note, Own, Shown, Use};
 use crate::statement::{checker_s_own, statement, Brought};
 use dequmlo::Word;
 
-pub const TAKEN: [&str; 7] = [
-    "--seal", "--older", "--file", "--part", "--roots", "--claim", "--json",
+pub const TAKEN: [&str; 8] = [
+    "--seal",
+    "--older",
+    "--key-file",
+    "--file",
+    "--part",
+    "--roots",
+    "--claim",
+    "--json",
 ];
 
 pub fn run(options: &Options) -> Result<Outcome, Failure> {
@@ -59,7 +67,7 @@ pub fn run(options: &Options) -> Result<Outcome, Failure> {
         }
         Err(refusal) => Outcome::refused(&refusal),
     };
-    Ok(outcome.notes(notes))
+    Ok(key::found(outcome.notes(notes), seal.shape.key))
 }
 
 /// A tail shows something of the deposit only under a root that the checker had before.

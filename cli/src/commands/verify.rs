@@ -4,6 +4,7 @@
 use crate::commands::verify_folder;
 use crate::folder::SUMMARY;
 use crate::json::Json;
+use crate::key;
 use crate::old_words::shown_words;
 use crate::options::Options;
 use crate::outcome::{Failure, Outcome, Verdict};
@@ -15,19 +16,28 @@ use dequmlo::{Deposit, Threads, Word};
 use std::collections::BTreeMap;
 use std::path::Path;
 
-pub const TAKEN: [&str; 5] = ["--seal", "--older", "--opening", "--threads", "--json"];
+pub const TAKEN: [&str; 6] = [
+    "--seal",
+    "--older",
+    "--key-file",
+    "--opening",
+    "--threads",
+    "--json",
+];
 
 pub fn run(options: &Options) -> Result<Outcome, Failure> {
     options.expect(1, "one FILE or FOLDER", &TAKEN)?;
     let file = &options.operands[0];
     let folder = options.needed_path("--seal", SEAL_FOLDER)?;
     let threads = options.threads()?;
-    let seal = Seal::read(&folder, options.has("--older"))?;
+    let seal = Seal::read(&folder, options.has("--older"))?.with_key(&folder, options)?;
     if file.is_dir() {
         if options.given("--opening") {
             return Err(Failure("--opening goes with a file; of a project, the seal's own manifest says what changed".into()));
         }
-        return verify_folder::run(file, threads, &folder, seal);
+        let value = seal.shape.key;
+        return verify_folder::run(file, threads, &folder, seal)
+            .map(|outcome| key::found(outcome, value));
     }
     // A file that is too large for any seal is not the one that was sealed.
     let table = read_table(file)?.ok();
@@ -44,7 +54,7 @@ pub fn run(options: &Options) -> Result<Outcome, Failure> {
             .and_then(|table| another_length(&seal, table));
         differs(options, file, &seal, table.as_ref())?.notes(length)
     };
-    Ok(outcome.notes(seal.notes))
+    Ok(key::found(outcome.notes(seal.notes), seal.shape.key))
 }
 
 /// Whether a table has the seal's root.
@@ -58,7 +68,7 @@ fn has_root(seal: &Seal, threads: Threads, table: &Table) -> Result<bool, Failur
     let Shape {
         k, domain, widths, ..
     } = &seal.shape;
-    let deposit = Deposit::commit_on(threads, domain, *widths, *k, &table.words)
+    let deposit = Deposit::commit_on(threads, seal.key(), domain, *widths, *k, &table.words)
         .map_err(|refusal| Failure(format!("the seal's parameters are no deposit's: {refusal}")))?;
     Ok(deposit.root() == seal.root)
 }

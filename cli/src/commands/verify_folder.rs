@@ -24,6 +24,7 @@ pub fn run(
     } = &seal.shape;
     let under = Under {
         threads,
+        key: seal.key(),
         domain,
         widths: *widths,
         k: *k,
@@ -42,7 +43,7 @@ pub fn run(
     };
     if let Some(manifest) = whole(&now) {
         let text = manifest.text();
-        let root = || root_of(text.as_bytes(), threads, domain, *widths, *k);
+        let root = || root_of(text.as_bytes(), threads, seal.key(), domain, *widths, *k);
         if text.len() <= MOST_BYTES && root() == Ok(seal.root) {
             return Ok(is_the_same(project, &manifest).notes(seal.notes));
         }

@@ -11,7 +11,7 @@ use Rattle.theory_laws.proofs.Table.{length-tab}
 use Rattle.theory_field.specs.Words.{words}
 use Rattle.theory_field.proofs.Words.{words-append, drop-words, length-words-even}
 use Rattle.theory_multilinear.proofs.Codeword.{length-encode}
-use Rattle.theory_record.specs.declared.WidthSet.{WidthSet}
+use Rattle.theory_record.specs.declared.Trees.{Trees}
 use Rattle.theory_record.specs.Widths.{Widths, widthsOf, levelLength, treeLength, total}
 use Rattle.theory_record.specs.Trees.{treeFor}
 use Rattle.theory_record.specs.Tail.{checkTail}
@@ -57,29 +57,30 @@ deposit-of base table challenges r long =
     }
 
 -- the claim of it
-pub claim-of : (set : WidthSet) {n k gammas levels coordinates trees : ℕ} (base table challenges : List ℕ)
-    → CommitRoom (widthsOf set) n k (length base) (length table) gammas levels coordinates trees → length challenges ≡ 2 * n → Claim set n k base table challenges
-claim-of set {n} {k} base table challenges r long = claim set n k base table challenges (deposit-of base table challenges r long)
+pub claim-of : (how : Trees) {n k gammas levels coordinates trees : ℕ} (base table challenges : List ℕ)
+    → CommitRoom (widthsOf (how .set)) n k (length base) (length table) gammas levels coordinates trees → length challenges ≡ 2 * n
+    → Claim how n k base table challenges
+claim-of how {n} {k} base table challenges r long = claim how n k base table challenges (deposit-of base table challenges r long)
 
 codeword-long : (n k : ℕ) (base table : List ℕ) → length (committedCodeword base n k table) ≡ levelLength n k 0
 unfolding committedCodeword
 codeword-long n k base table = length-encode n k _ table ∙ sym (first-length n k)
 
-module _ (set : WidthSet) {n k gammas levels coordinates trees : ℕ} (base table : List ℕ)
-    (r : CommitRoom (widthsOf set) n k (length base) (length table) gammas levels coordinates trees) where
-  abbrev C : Claim set n k base table (tab (2 * n) (λ v. 0))
-  C = claim-of set base table (tab (2 * n) (λ v. 0)) r (length-tab (2 * n) (λ v. 0))
+module _ (how : Trees) {n k gammas levels coordinates trees : ℕ} (base table : List ℕ)
+    (r : CommitRoom (widthsOf (how .set)) n k (length base) (length table) gammas levels coordinates trees) where
+  abbrev C : Claim how n k base table (tab (2 * n) (λ v. 0))
+  C = claim-of how base table (tab (2 * n) (λ v. 0)) r (length-tab (2 * n) (λ v. 0))
 
   -- committing is not refused
-  pub commit-allowed : (size bytes : ℕ) → size ≡ 2 * levelLength n k 0 → bytes ≡ 32 * treeLength (widthsOf set) n k 0
-      → commitNumber (widthsOf set) n k (length base) (length table) gammas size coordinates bytes ≡ 0
+  pub commit-allowed : (size bytes : ℕ) → size ≡ 2 * levelLength n k 0 → bytes ≡ 32 * treeLength (widthsOf (how .set)) n k 0
+      → commitNumber (widthsOf (how .set)) n k (length base) (length table) gammas size coordinates bytes ≡ 0
   commit-allowed size bytes es eb =
       let s : size ≡ 2 * length (committedCodeword base n k (words table)) = es ∙ ap (λ (x : ℕ). 2 * x) (sym (codeword-long n k base (words table))) in
       rw (r .gammas-long, s, r .list-long ∙ sym (length-tab n (λ i. i)), eb) (C .commit-done)
 
   -- and leaves level 0's tree
-  pub tree-left : {tree : List ℕ} → tree ≡ committedTree (scheme set base n k) (words table)
-      → tree ≡ flat (treeFor (scheme set base n k) 0 (committedCodeword base n k (words table)))
+  pub tree-left : {tree : List ℕ} → tree ≡ committedTree (scheme how base n k) (words table)
+      → tree ≡ flat (treeFor (scheme how base n k) 0 (committedCodeword base n k (words table)))
   tree-left e = e ∙ C .commit-leaves
 
 -- the next levels start behind level 0
@@ -126,10 +127,10 @@ unfolding afterFolds
 after-none c calls = refl
 
 -- the tree that committing left is that of level 0
-pub first-tree : (set : WidthSet) (n k : ℕ) (base trees : List ℕ) {c values : List ℕ}
-    → take (32 * treeLength (widthsOf set) n k 0) trees ≡ flat (treeFor (scheme set base n k) 0 c) → values ≡ c
-    → take (32 * treeLength (widthsOf set) n k 0) trees ≡ flat (treeFor (scheme set base n k) 0 values)
-first-tree set n k base trees e f = e ∙ ap (λ (x : List ℕ). flat (treeFor (scheme set base n k) 0 x)) (sym f)
+pub first-tree : (how : Trees) (n k : ℕ) (base trees : List ℕ) {c values : List ℕ}
+    → take (32 * treeLength (widthsOf (how .set)) n k 0) trees ≡ flat (treeFor (scheme how base n k) 0 c) → values ≡ c
+    → take (32 * treeLength (widthsOf (how .set)) n k 0) trees ≡ flat (treeFor (scheme how base n k) 0 values)
+first-tree how n k base trees e f = e ∙ ap (λ (x : List ℕ). flat (treeFor (scheme how base n k) 0 x)) (sym f)
 
 -- ---- the last level, its tree and its root, from a place to the end
 

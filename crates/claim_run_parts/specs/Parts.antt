@@ -6,7 +6,7 @@ use lib.ListN.{length, drop}
 use Rattle.theory_field.specs.Words.{words}
 use Rattle.theory_blake3.specs.Digest.{hash}
 use Rattle.theory_code.specs.Gammas.{gammas}
-use Rattle.theory_record.specs.declared.WidthSet.{WidthSet}
+use Rattle.theory_record.specs.declared.Trees.{Trees}
 use Rattle.theory_record.specs.Widths.{Widths, levelLength, treeLength}
 use Rattle.theory_record.specs.Trees.{treesLent, rootsLent}
 use Rattle.theory_record.specs.Build.{levelValues}
@@ -17,12 +17,12 @@ use Rattle.claim_fold_calls.specs.Left.{Left}
 
 -- what committing, the calls and the trees leave, lent the halves `old` for the levels and `oldKept` for the challenges
 
-module _ (set : WidthSet) (n k : ℕ) (base table calls challenges : List ℕ) where
+module _ (how : Trees) (n k : ℕ) (base table calls challenges : List ℕ) where
   pub record Deposited (old oldKept gammas′ levels coordinates kept trees roots : List ℕ) (done : ℕ) : Type 0 where
     pub gammas-are : words gammas′ ≡ gammas hash base n k
     pub left : Left n k (committedInUse base n k (words table)) (words old) (words oldKept) (lentCalls calls (words challenges)) done levels coordinates kept
-    pub trees-are : trees ≡ treesLent (scheme set base n k) (levelValues n k (words levels))
-    pub roots-are : roots ≡ rootsLent (scheme set base n k) (levelValues n k (words levels))
+    pub trees-are : trees ≡ treesLent (scheme how base n k) (levelValues n k (words levels))
+    pub roots-are : roots ≡ rootsLent (scheme how base n k) (levelValues n k (words levels))
 
 -- the last level, its tree and its root: they stand at the end
 abbrev pub lastLevel : ℕ → ℕ → List ℕ → List ℕ

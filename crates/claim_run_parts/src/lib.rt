@@ -1,5 +1,5 @@
 // The parts of a whole run (SPECIFICATION 10.1): its questions, committing with the calls and the trees, each record built and checked, two records
-// compared, all under one set of widths. These are helpers for the whole run: most require that what they are lent has its length.
+// compared, all under one set of widths and one mode. These are helpers for the whole run: most require that what they are lent has its length.
 pub mod questions;
 
 use claim_fold_calls::fold_calls;
@@ -15,7 +15,7 @@ use record_query_check::Checked;
 use record_query_check::check_query;
 use record_tail_build::build_tail;
 use record_tail_check::check_tail;
-use theory_record::WidthSet;
+use theory_record::Trees;
 use tree_place::Place;
 ghost use mathlib.Core.Path.{_≡_};
 ghost use lib.ListN.{length};
@@ -34,7 +34,7 @@ ghost use Rattle.claim_run_parts.specs.helpers.Room.{CommitLent, CommitL
 
 // A table committed: its gammas, level 0 at the front of the levels, its list, and level 0's tree at the front of the trees.
 fn commit_first(
-    set: WidthSet,
+    how: Trees,
     n: usize,
     k: usize,
     base: &[u8],
@@ -44,13 +44,14 @@ fn commit_first(
     coordinates: &mut [usize],
     trees: &mut [u8],
 )
-    requires { ⌜ CommitLent set n k base table gammas levels coordinates trees ⌝ }
-    ensures { λ _. ⌜ CommitLeft set n k base table gammas levels coordinates trees ⌝ }
+    requires { ⌜ CommitLent how n k base table gammas levels coordinates trees ⌝ }
+    ensures { λ _. ⌜ CommitLeft how n k base table gammas levels coordinates trees ⌝ }
 {
+    let set = how.set;
     let size = 2 * level_length(n, k, 0);
     let bytes = tree_bytes(set, n, k, 0);
     commit(
-        set,
+        how,
         n,
         k,
         base,
@@ -66,7 +67,7 @@ fn commit_first(
 // is left stands at the front of `coordinates`, zeros behind it, and the challenges of the done ones are kept; `half` is room for a fold and is left
 // with zeros.
 pub fn deposit(
-    set: WidthSet,
+    how: Trees,
     n: usize,
     k: usize,
     base: &[u8],
@@ -81,19 +82,19 @@ pub fn deposit(
     trees: &mut [u8],
     roots: &mut [u8],
 ) -> usize
-    requires { ⌜ DepositLent set n k base table calls challenges gammas levels coordinates half kept trees roots ⌝ }
-    ensures { λ done. ⌜ DepositLeft set n k base table calls challenges gammas levels coordinates kept trees roots done ⌝ }
+    requires { ⌜ DepositLent how n k base table calls challenges gammas levels coordinates half kept trees roots ⌝ }
+    ensures { λ done. ⌜ DepositLeft how n k base table calls challenges gammas levels coordinates kept trees roots done ⌝ }
     ensures { λ _. ⌜ now (half .exit) ≡ tab (length (now (half .entry))) (λ v. 0) ⌝ }
 {
-    commit_first(set, n, k, base, table, gammas, levels, coordinates, trees);
+    commit_first(how, n, k, base, table, gammas, levels, coordinates, trees);
     let done = fold_calls(n, k, calls, challenges, levels, coordinates, half, kept);
-    level_trees(set, n, k, base, levels, trees, roots);
+    level_trees(how, n, k, base, levels, trees, roots);
     done
 }
 
 // The query record at a position, built and checked.
 pub fn query_record(
-    set: WidthSet,
+    how: Trees,
     n: usize,
     k: usize,
     base: &[u8],
@@ -104,17 +105,18 @@ pub fn query_record(
     roots: &[u8],
     out: &mut [u8],
 ) -> Checked
-    ensures { λ _. ⌜ now (out .exit) ≡ buildQuery (widthsOf set) n k (now (levels .entry)) (now (trees .entry)) position (now (out .entry)) ⌝ }
-    ensures { λ r. ⌜ answer r ≡ checkQuery (schemeOf set base n k) position (now (kept .entry)) (now (roots .entry)) (now (out .exit)) ⌝ }
+    ensures { λ _. ⌜ now (out .exit) ≡ buildQuery (widthsOf (how .set)) n k (now (levels .entry)) (now (trees .entry)) position (now (out .entry)) ⌝ }
+    ensures { λ r. ⌜ answer r ≡ checkQuery (schemeOf how base n k) position (now (kept .entry)) (now (roots .entry)) (now (out .exit)) ⌝ }
 {
+    let set = how.set;
     let place = Place::at(position);
     build_query(out, levels, trees, set, n, k, place);
-    check_query(base, set, n, k, place, kept, roots, out)
+    check_query(base, how, n, k, place, kept, roots, out)
 }
 
 // The tail record, built from the last level and its tree, and checked under the last root.
 pub fn tail_record(
-    set: WidthSet,
+    how: Trees,
     n: usize,
     k: usize,
     base: &[u8],
@@ -124,20 +126,21 @@ pub fn tail_record(
     roots: &[u8],
     out: &mut [u8],
 ) -> u32
-    requires { ⌜ LastRoom (widthsOf set) n k (length (now levels)) (length (now trees)) (length (now roots)) ⌝ }
-    ensures { λ _. ⌜ now (out .exit) ≡ tailLent set n k levels trees out ⌝ }
-    ensures { λ r. ⌜ r ≡ checkTail (schemeOf set base n k) (lastRoot (now (roots .entry))) (word claim) (now (out .exit)) ⌝ }
+    requires { ⌜ LastRoom (widthsOf (how .set)) n k (length (now levels)) (length (now trees)) (length (now roots)) ⌝ }
+    ensures { λ _. ⌜ now (out .exit) ≡ tailLent how n k levels trees out ⌝ }
+    ensures { λ r. ⌜ r ≡ checkTail (schemeOf how base n k) (lastRoot (now (roots .entry))) (word claim) (now (out .exit)) ⌝ }
 {
+    let set = how.set;
     let from = levels.len() - 2 * level_length(n, k, n);
     let at = trees.len() - tree_bytes(set, n, k, n);
     let last = roots.len() - 32;
     build_tail(out, &levels[from..], &trees[at..], set, n, k);
-    check_tail(base, set, n, k, &roots[last..], claim, out)
+    check_tail(base, how, n, k, &roots[last..], claim, out)
 }
 
 // Two records for a position compared, into two message buffers.
 pub fn two_records(
-    set: WidthSet,
+    how: Trees,
     n: usize,
     k: usize,
     base: &[u8],
@@ -149,10 +152,10 @@ pub fn two_records(
     one: &mut [u8],
     two: &mut [u8],
 ) -> Compared
-    ensures { λ r. ⌜ comparison r ≡ comparedLent base set n k position kept roots first second one two ⌝ }
-    ensures { λ _. ⌜ now (one .exit) ≡ firstLeft base set n k position kept roots first second one two ⌝ }
-    ensures { λ _. ⌜ now (two .exit) ≡ secondLeft base set n k position kept roots first second one two ⌝ }
+    ensures { λ r. ⌜ comparison r ≡ comparedLent base how n k position kept roots first second one two ⌝ }
+    ensures { λ _. ⌜ now (one .exit) ≡ firstLeft base how n k position kept roots first second one two ⌝ }
+    ensures { λ _. ⌜ now (two .exit) ≡ secondLeft base how n k position kept roots first second one two ⌝ }
 {
     let place = Place::at(position);
-    compare(base, set, n, k, place, kept, roots, first, second, one, two)
+    compare(base, how, n, k, place, kept, roots, first, second, one, two)
 }

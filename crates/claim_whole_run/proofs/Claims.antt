@@ -14,7 +14,7 @@ use Rattle.theory_field.proofs.Words.{length-words-even}
 use Rattle.theory_multilinear.specs.Folds.{Fold, Folds, atFirst}
 use Rattle.theory_multilinear.specs.Codeword.{allCoordinates}
 use Rattle.theory_code.specs.Questions.{foldNumber}
-use Rattle.theory_blake3.proofs.HashMode.{length-hash}
+use Rattle.theory_blake3.proofs.Modes.{length-under}
 use Rattle.theory_record.specs.Widths.{Widths, widthsOf, levelLength, treeLength}
 use Rattle.theory_record.specs.Trees.{treeFor, rootFor, levelsLent, treesLent, rootsLent}
 use Rattle.theory_record.specs.Query.{Answer, rootAt, checkQuery}
@@ -64,19 +64,19 @@ challenges-first [] = refl
 challenges-first (x ∷ r) = ap (λ (rs : List ℕ). x ∷ rs) (challenges-first r)
 
 module _ (G : Given) (old new : Buffers) (h done : ℕ)
-    (room : Room (widthsOf (G .set)) (G .n) (G .k) (length (G .base)) (length (G .table)) (length (G .calls)) (length (G .challenges))
+    (room : Room (widthsOf (G .how .set)) (G .n) (G .k) (length (G .base)) (length (G .table)) (length (G .calls)) (length (G .challenges))
     (length (old .gammas)) (length (new .levels)) (length (new .coordinates)) h (length (new .kept)) (length (new .trees)) (length (new .roots)))
     (old-list : length (old .coordinates) ≡ G .n)
-    (d : Deposited (G .set) (G .n) (G .k) (G .base) (G .table) (G .calls) (G .challenges) (old .levels) (old .kept) (new .gammas) (new .levels)
+    (d : Deposited (G .how) (G .n) (G .k) (G .base) (G .table) (G .calls) (G .challenges) (old .levels) (old .kept) (new .gammas) (new .levels)
     (new .coordinates) (new .kept) (new .trees) (new .roots) done) where
-  open Given G using (set, n, k, position, base, table)
+  open Given G using (how, n, k, position, base, table)
   open Buffers new using (levels, coordinates, kept, trees, roots)
 
   abbrev s : Widths
-  s = widthsOf set
+  s = widthsOf (how .set)
 
   abbrev S : Scheme
-  S = scheme set base n k
+  S = scheme how base n k
 
   abbrev c : Codeword
   c = whole.codeword G
@@ -88,8 +88,8 @@ module _ (G : Given) (old new : Buffers) (h done : ℕ)
   values l = levelValues n k (words levels) l
 
   -- the claim, with what is kept for its challenges
-  pub theorem : Claim set n k base table kept
-  theorem = claim-of set base table kept (room .commit) (room .kept-long)
+  pub theorem : Claim how n k base table kept
+  theorem = claim-of how base table kept (room .commit) (room .kept-long)
 
   words-long : length (words levels) ≡ levelsLength n k
   words-long = length-words-even levels (levelsLength n k) (room .commit .levels-long)
@@ -112,7 +112,7 @@ module _ (G : Given) (old new : Buffers) (h done : ℕ)
   abbrev left : Codeword
   left = leftBy c xs
 
-  part-way : P.PartWay set n k base table kept xs
+  part-way : P.PartWay how n k base table kept xs
   part-way = theorem .part-way xs
 
   -- the coordinates that are left and the folds that were done are n
@@ -154,7 +154,8 @@ module _ (G : Given) (old new : Buffers) (h done : ℕ)
   root-at l g =
       ap (part 32 (32 * l)) (d .roots-are)
       ∙ ap (λ (i : ℕ). part 32 i (rootsLent S values)) (sym (total-same 32 l))
-      ∙ part-endToEnd (suc n) l (λ i. rootFor S i (values i)) (λ i. 32) (λ i f. length-rootFor S length-hash i (values i) (powers set)) (omega arith)
+      ∙ part-endToEnd (suc n) l (λ i. rootFor S i (values i)) (λ i. 32)
+      (λ i f. length-rootFor S (length-under (how .mode)) i (values i) (powers (how .set))) (omega arith)
 
   pub root-last : (l : ℕ) → l ≤ n → getD (treeFor S l (values l)) (treeLength s n k l - 1) [] ≡ rootAt roots l
   root-last l g = theorem .root-last l g (values l) ∙ sym (root-at l g)
@@ -176,7 +177,7 @@ module _ (G : Given) (old new : Buffers) (h done : ℕ)
     abbrev level : ℕ → List ℕ
     level l = afterFolds c xs l .values
 
-    after : After set n k base table kept xs
+    after : After how n k base table kept xs
     after = theorem .after-calls xs all-first
 
     first-long : length (doneFolds c xs) ≡ n
@@ -198,11 +199,11 @@ module _ (G : Given) (old new : Buffers) (h done : ℕ)
     roots-are : roots ≡ rootsLent S level
     roots-are = d .roots-are ∙ endToEnd-ext (suc n) _ _ (λ l g. ap (rootFor S l) (each l (omega arith)))
 
-    lent : Lent set n k base table kept xs levels trees roots
+    lent : Lent how n k base table kept xs levels trees roots
     lent = record { levels-long = room .commit .levels-long; levels-are = words-are; trees-are = trees-are; roots-are = roots-are }
 
-    last-lent : LastLent set n k base table kept xs (lastLevel n k levels) (lastTree s n k trees) (lastRoot roots)
-    last-lent = L.last-lent set n k base table kept (deposit-of base table kept (room .commit) (room .kept-long)) xs all-first levels trees roots lent
+    last-lent : LastLent how n k base table kept xs (lastLevel n k levels) (lastTree s n k trees) (lastRoot roots)
+    last-lent = L.last-lent how n k base table kept (deposit-of base table kept (room .commit) (room .kept-long)) xs all-first levels trees roots lent
 
   -- ---- with the records and their checks
 
@@ -246,7 +247,7 @@ module _ (G : Given) (old new : Buffers) (h done : ℕ)
       number-same : (m : ℕ) → compared S position kept roots (G .first) (G .second) (old .one) (old .two) .number ≡ m → found .number ≡ m
       number-same m e = ap (λ (x : Comparison). x .number) found-is ∙ e
 
-      settled : Outcome set n k base table kept position kept roots (G .first) (G .second) (old .one) (old .two) → whole.Settled G old new found
+      settled : Outcome how n k base table kept position kept roots (G .first) (G .second) (old .one) (old .two) → whole.Settled G old new found
       settled =
           ⊎-elim (λ x. inl (number-same 33 (x .0), x .1))
           (λ x. inr (

@@ -17,7 +17,7 @@ use Rattle.theory_blake3.specs.Digest.{hash}
 use Rattle.theory_code.specs.Gammas.{gammas}
 use Rattle.theory_code.specs.Questions.{shiftNumber, foldNumber}
 use Rattle.theory_merkle.specs.Numbers.{buildNumber}
-use Rattle.theory_record.specs.declared.WidthSet.{WidthSet}
+use Rattle.theory_record.specs.declared.Trees.{Trees}
 use Rattle.theory_record.specs.Widths.{widthsOf, levelLength, levelWidth, treeLength}
 use Rattle.theory_record.specs.Domain.{levelDomain}
 use Rattle.theory_record.specs.Trees.{treeFor}
@@ -40,9 +40,9 @@ use Rattle.claim_whole_run.specs.declared.Answers.{Answers}
 
 -- ---- what is lent
 
--- the set of widths, the numbers, and what is lent for reading: base domain, table, fold calls and their challenges, two records to compare
+-- how the trees are made, the numbers, and what is lent for reading: base domain, table, fold calls and their challenges, two records to compare
 pub record Given : Type 0 where
-  pub set : WidthSet
+  pub how : Trees
   pub n : ℕ
   pub k : ℕ
   pub position : ℕ
@@ -69,10 +69,10 @@ pub record Buffers : Type 0 where
   pub two : List ℕ
 
 -- these, of the slices that a contract names
-abbrev pub given : WidthSet → ℕ → ℕ → ℕ → ℕ → Slice → Slice → Slice → Slice → Slice → Slice → Given
-given set n k position claim base table calls challenges first second =
+abbrev pub given : Trees → ℕ → ℕ → ℕ → ℕ → Slice → Slice → Slice → Slice → Slice → Slice → Given
+given how n k position claim base table calls challenges first second =
     record {
-      set = set;
+      how = how;
       n = n;
       k = k;
       position = position;
@@ -119,18 +119,18 @@ buffers gammas levels coordinates half kept trees roots query tail one two =
 -- the number that a run answers
 abbrev pub numberFor : Given → Buffers → ℕ
 numberFor G B =
-    runNumber (widthsOf (G .set)) (G .n) (G .k) (G .position) (length (G .base)) (length (G .table)) (length (G .calls)) (length (G .challenges))
+    runNumber (widthsOf (G .how .set)) (G .n) (G .k) (G .position) (length (G .base)) (length (G .table)) (length (G .calls)) (length (G .challenges))
     (length (B .gammas)) (length (B .levels)) (length (B .coordinates)) (length (B .half)) (length (B .kept)) (length (B .trees)) (length (B .roots))
     (length (B .query)) (length (B .tail)) (length (B .one)) (length (B .two))
 
 -- ---- what a run leaves
 
 module _ (G : Given) where
-  open Given G using (set, n, k, position, claim, base, table, calls, challenges, first, second)
+  open Given G using (how, n, k, position, claim, base, table, calls, challenges, first, second)
 
   -- what the deposit fixes, the codeword and its list as `commit` leaves them, and the calls on it
   abbrev pub S : Scheme
-  S = scheme set base n k
+  S = scheme how base n k
 
   abbrev pub codeword : Codeword
   codeword = committedInUse base n k (words table)
@@ -194,7 +194,7 @@ module _ (G : Given) where
       pub record Differ : Type 0 where
         pub unequal : first ≡ second → ⊥
         pub differ : message ≡ message′ → ⊥
-        pub one-digest : hash message ≡ hash message′
+        pub one-digest : S .digest message ≡ S .digest message′
         pub lengths : (length message ≡ found .first) × (length message′ ≡ found .second)
         pub fit : (found .first ≤ messageBuffer) × (found .second ≤ messageBuffer)
         pub nearest : NearestRoot S position first second message message′
@@ -237,7 +237,7 @@ module _ (G : Given) where
 
     -- the run: what is left, what the records are and what their checks answer, what comparing answers and leaves, and the claim of all that
     pub record Ran (r : Answers) : Type 0 where
-      pub deposited : Deposited set n k base table calls challenges (old .levels) (old .kept) (new .gammas) levels coordinates kept trees roots (r .done)
+      pub deposited : Deposited how n k base table calls challenges (old .levels) (old .kept) (new .gammas) levels coordinates kept trees roots (r .done)
       pub half-cleared : new .half ≡ tab (length (old .half)) (λ v. 0)
       pub query-is : new .query ≡ buildQuery (S .widths) n k levels trees position (old .query)
       pub tail-is : new .tail ≡ buildTail (S .widths) n k (lastLevel n k levels) (lastTree (S .widths) n k trees) (old .tail)

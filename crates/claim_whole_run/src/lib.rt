@@ -8,7 +8,7 @@ use claim_run_parts::two_records;
 use compare_records::Compared;
 use field_gf128::Word;
 use record_query_check::Checked;
-use theory_record::WidthSet;
+use theory_record::Trees;
 ghost use Rattle.field_gf128.specs.Word.{word};
 ghost use Rattle.claim_run_parts.specs.helpers.Room.{DepositLent, RecordLent};
 ghost use Rattle.claim_whole_run.specs.Whole.{given, buffers, RunLeft};
@@ -26,7 +26,7 @@ pub struct Answers {
 
 // The run, once its questions are answered.
 fn made(
-    set: WidthSet,
+    how: Trees,
     n: usize,
     k: usize,
     position: usize,
@@ -49,13 +49,13 @@ fn made(
     one: &mut [u8],
     two: &mut [u8],
 ) -> Answers
-    requires { ⌜ DepositLent set n k base table calls challenges gammas levels coordinates half kept trees roots
-        × RecordLent set n k position query tail one two ⌝ }
-    ensures { λ r. ⌜ RunDone (given set n k position (word claim) base table calls challenges first second)
+    requires { ⌜ DepositLent how n k base table calls challenges gammas levels coordinates half kept trees roots
+        × RecordLent how n k position query tail one two ⌝ }
+    ensures { λ r. ⌜ RunDone (given how n k position (word claim) base table calls challenges first second)
         (buffers gammas levels coordinates half kept trees roots query tail one two) r ⌝ }
 {
     let done = deposit(
-        set,
+        how,
         n,
         k,
         base,
@@ -70,10 +70,10 @@ fn made(
         trees,
         roots,
     );
-    let checked = query_record(set, n, k, base, position, levels, trees, kept, roots, query);
-    let number = tail_record(set, n, k, base, claim, levels, trees, roots, tail);
+    let checked = query_record(how, n, k, base, position, levels, trees, kept, roots, query);
+    let number = tail_record(how, n, k, base, claim, levels, trees, roots, tail);
     let compared = two_records(
-        set,
+        how,
         n,
         k,
         base,
@@ -94,13 +94,13 @@ fn made(
     }
 }
 
-// The whole run under one set of widths: a table committed, the calls of a lent list on its codeword with its list of coordinates, the levels'
+// The whole run under one set of widths and one mode: a table committed, the calls of a lent list on its codeword with its list of coordinates, the levels'
 // trees and roots, the query record at a position and the tail record, built and checked, the tail's for a claim, and two lent records for that
 // position compared under the kept challenges and the roots. What any calls leave is settled, the codeword block by block. Where the done calls are
 // n folds at variable 0 by r, the query record is accepted, and the tail record exactly for the claim P(r). It refuses with 4, 5, 7 and 11, and then
 // changes no lent byte.
 pub fn run(
-    set: WidthSet,
+    how: Trees,
     n: usize,
     k: usize,
     position: usize,
@@ -123,9 +123,10 @@ pub fn run(
     one: &mut [u8],
     two: &mut [u8],
 ) -> Answers
-    ensures { λ r. ⌜ RunLeft (given set n k position (word claim) base table calls challenges first second)
+    ensures { λ r. ⌜ RunLeft (given how n k position (word claim) base table calls challenges first second)
         (buffers gammas levels coordinates half kept trees roots query tail one two) r ⌝ }
 {
+    let set = how.set;
     let number = run_number(
         set,
         n,
@@ -164,7 +165,7 @@ pub fn run(
         };
     }
     made(
-        set,
+        how,
         n,
         k,
         position,

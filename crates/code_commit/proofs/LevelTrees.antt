@@ -6,12 +6,12 @@ use native.Mathlib.Omega.{arith}
 use lib.ListN.{length, take}
 use Rattle.theory_laws.specs.Lists.{flat}
 use Rattle.theory_laws.specs.Questions.{onDone}
-use Rattle.theory_blake3.specs.Digest.{hash}
+use Rattle.theory_blake3.specs.Modes.{under}
 use Rattle.theory_merkle.specs.Tree.{treeOf}
 use Rattle.theory_merkle.specs.Numbers.{buildNumber}
 use Rattle.bytes_numbers.specs.helpers.Put.{Put}
 use Rattle.tree_digest.proofs.Messages.{message-length, prefix-is}
-use Rattle.theory_record.specs.declared.WidthSet.{WidthSet}
+use Rattle.theory_record.specs.declared.Trees.{Trees}
 use Rattle.theory_record.specs.Widths.{widthsOf, levelLength, levelWidth}
 use Rattle.theory_record.specs.Domain.{levelDomain, domainRoom}
 use Rattle.theory_record.specs.Trees.{treeFor}
@@ -34,14 +34,14 @@ module _ (base : List ℕ) (l : ℕ) (short : length base ≤ 200) (low : l < 10
   pub domain-is : take size o1 ≡ levelDomain base l
   domain-is = prefix-is o (length (levelDomain base l)) (levelDomain base l) o1 size p (omega (arith, levelDomain-fits base l short low))
 
-pub level-built : (set : WidthSet) {n k l : ℕ} (base values : List ℕ) {domain : List ℕ} {halves room count width : ℕ} (tree : List ℕ) {t : List ℕ}
-    → LevelTree (widthsOf set) n k l (length base) halves room
-    → domain ≡ levelDomain base l → count ≡ levelLength n k l → width ≡ levelWidth (widthsOf set) n k l
-    → t ≡ onDone (buildNumber (length domain) count width halves room) (flat (treeOf hash domain count width values)) tree
-    → t ≡ flat (treeFor (scheme set base n k) l values)
+pub level-built : (how : Trees) {n k l : ℕ} (base values : List ℕ) {domain : List ℕ} {halves room count width : ℕ} (tree : List ℕ) {t : List ℕ}
+    → LevelTree (widthsOf (how .set)) n k l (length base) halves room
+    → domain ≡ levelDomain base l → count ≡ levelLength n k l → width ≡ levelWidth (widthsOf (how .set)) n k l
+    → t ≡ onDone (buildNumber (length domain) count width halves room) (flat (treeOf (under (how .mode)) domain count width values)) tree
+    → t ≡ flat (treeFor (scheme how base n k) l values)
 unfolding treeFor
-level-built set {n} {k} {l} base values {halves = halves} {room = room} tree y ed ec ew e =
+level-built how {n} {k} {l} base values {halves = halves} {room = room} tree y ed ec ew e =
     let d : length (levelDomain base l) ≤ 255 = omega (arith, levelDomain-fits base l (y .base-le) (omega (arith, y .small, y .level-le))) in
-    let w : widthsOf set .width ≤ 512 = omega (arith, narrow set) in
-    let z = build-allowed (widthsOf set) (powers set) n k l (length (levelDomain base l)) halves room w (y .small) d (y .values-are) (y .tree-is) in
+    let w : widthsOf (how .set) .width ≤ 512 = omega (arith, narrow (how .set)) in
+    let z = build-allowed (widthsOf (how .set)) (powers (how .set)) n k l (length (levelDomain base l)) halves room w (y .small) d (y .values-are) (y .tree-is) in
     rw (ed, ec, ew, z) at e

@@ -13,7 +13,7 @@ use Rattle.theory_code.specs.Questions.{encodeNumber}
 use Rattle.code_codeword.proofs.Lengths.{encode-accepts}
 use Rattle.theory_code.specs.Gammas.{gammas}
 use Rattle.theory_code.specs.Questions.{deriveNumber}
-use Rattle.theory_record.specs.declared.WidthSet.{WidthSet}
+use Rattle.theory_record.specs.declared.Trees.{Trees}
 use Rattle.theory_record.specs.Widths.{Widths, levelLength, treeLength}
 use Rattle.theory_record.specs.Trees.{treeFor}
 use Rattle.theory_record.specs.Query.{sizeQuestions}
@@ -77,9 +77,9 @@ module _ (base table : List ℕ) (n k : ℕ) {g c : List ℕ} (eg : g ≡ gammas
   unfolding committedCodeword
   codeword-made = ec ∙ ap (λ (x : List ℕ). encode n k x table) eg
 
-  pub tree-made : (set : WidthSet) (t : List ℕ) → t ≡ flat (treeFor (scheme set base n k) 0 c) → t ≡ committedTree (scheme set base n k) table
+  pub tree-made : (how : Trees) (t : List ℕ) → t ≡ flat (treeFor (scheme how base n k) 0 c) → t ≡ committedTree (scheme how base n k) table
   unfolding committedTree
-  tree-made set t e = e ∙ ap (λ (x : List ℕ). flat (treeFor (scheme set base n k) 0 x)) codeword-made
+  tree-made how t e = e ∙ ap (λ (x : List ℕ). flat (treeFor (scheme how base n k) 0 x)) codeword-made
 
 -- ---- the tree of a level
 

@@ -3,6 +3,7 @@ use crate::trees::build_level;
 use crate::trees::tree_bytes;
 use code_level::level_length;
 use code_level::size_number;
+use theory_record::Trees;
 use theory_record::WidthSet;
 ghost use mathlib.Core.Path.{_≡_};
 ghost use Rattle.theory_laws.specs.Lists.{flat};
@@ -45,10 +46,10 @@ fn number(
     0
 }
 
-// The tree over level l's values, at the level's width by a set of widths, under level domain l, into a buffer of its size. It refuses n that
-// is not from 1 to 20, k past 4 or l past n with 4, lengths that are not theirs with 5, and a base domain of more than 200 bytes with 7.
+// The tree over level l's values, by a set of widths and a mode, under level domain l, into a buffer of its size. It refuses n that is not from
+// 1 to 20, k past 4 or l past n with 4, lengths that are not theirs with 5, and a base domain of more than 200 bytes with 7.
 pub fn level_tree(
-    set: WidthSet,
+    how: Trees,
     n: usize,
     k: usize,
     l: usize,
@@ -56,13 +57,14 @@ pub fn level_tree(
     values: &[u64],
     tree: &mut [u8],
 ) -> u32
-    ensures { λ r. ⌜ r ≡ levelTreeLent set n k l base values tree ⌝ }
-    ensures { λ r. ⌜ now (tree .exit) ≡ onDone r (flat (treeFor (schemeOf set base n k) l (words (now (values .entry))))) (now (tree .entry)) ⌝ }
+    ensures { λ r. ⌜ r ≡ levelTreeLent how n k l base values tree ⌝ }
+    ensures { λ r. ⌜ now (tree .exit) ≡ onDone r (flat (treeFor (schemeOf how base n k) l (words (now (values .entry))))) (now (tree .entry)) ⌝ }
 {
+    let set = how.set;
     let refusal = number(set, n, k, l, base.len(), values.len(), tree.len());
     if refusal != 0 {
         return refusal;
     }
-    build_level(set, n, k, l, base, values, tree);
+    build_level(how, n, k, l, base, values, tree);
     0
 }

@@ -5,6 +5,7 @@ pub mod trees;
 
 use code_codeword::coordinates::all_coordinates;
 use code_codeword::sizes::holds;
+use theory_record::Trees;
 use theory_record::WidthSet;
 use trees::build_level;
 use trees::tree_bytes;
@@ -60,10 +61,10 @@ fn number(
     0
 }
 
-// The gammas of a base domain, the codeword of a table of 2^n words, its list, 0 to n - 1, and level 0's tree by a set of widths. It refuses n past 20
-// or k past 4 with 4, lengths that are not theirs with 5, and a base domain of more than 200 bytes with 7.
+// The gammas of a base domain, the codeword of a table of 2^n words, its list, 0 to n - 1, and level 0's tree by a set of widths and a mode. It
+// refuses n past 20 or k past 4 with 4, lengths that are not theirs with 5, and a base domain of more than 200 bytes with 7.
 pub fn commit(
-    set: WidthSet,
+    how: Trees,
     n: usize,
     k: usize,
     base: &[u8],
@@ -73,12 +74,13 @@ pub fn commit(
     coordinates: &mut [usize],
     tree: &mut [u8],
 ) -> u32
-    ensures { λ r. ⌜ r ≡ commitLent set n k base table gammas codeword coordinates tree ⌝ }
+    ensures { λ r. ⌜ r ≡ commitLent how n k base table gammas codeword coordinates tree ⌝ }
     ensures { λ r. ⌜ words (now (gammas .exit)) ≡ onDone r (G.gammas hash (now (base .entry)) n k) (words (now (gammas .entry))) ⌝ }
     ensures { λ r. ⌜ words (now (codeword .exit)) ≡ onDone r (codewordLent n k base table) (words (now (codeword .entry))) ⌝ }
     ensures { λ r. ⌜ now (coordinates .exit) ≡ onDone r (allCoordinates n) (now (coordinates .entry)) ⌝ }
-    ensures { λ r. ⌜ now (tree .exit) ≡ onDone r (committedTree (schemeOf set base n k) (words (now (table .entry)))) (now (tree .entry)) ⌝ }
+    ensures { λ r. ⌜ now (tree .exit) ≡ onDone r (committedTree (schemeOf how base n k) (words (now (table .entry)))) (now (tree .entry)) ⌝ }
 {
+    let set = how.set;
     let refusal = number(
         set,
         n,
@@ -96,6 +98,6 @@ pub fn commit(
     code_gamma::derive(n, k, base, gammas);
     code_codeword::encode(n, k, table, gammas, codeword);
     all_coordinates(coordinates);
-    build_level(set, n, k, 0, base, codeword, tree);
+    build_level(how, n, k, 0, base, codeword, tree);
     0
 }

@@ -4,6 +4,7 @@ use code_level::level_domain;
 use code_level::level_groups;
 use code_level::level_length;
 use code_level::level_width;
+use theory_record::Trees;
 use theory_record::WidthSet;
 ghost use mathlib.Core.Path.{_≡_};
 ghost use Prim.Native.Nat.{_+_, _*_, _≤_};
@@ -25,7 +26,7 @@ pub fn tree_bytes(set: WidthSet, n: usize, k: usize, l: usize) -> usize
 
 // Level l's tree over its values, at the level's width under level domain l, into a buffer of its size.
 pub fn build_level(
-    set: WidthSet,
+    how: Trees,
     n: usize,
     k: usize,
     l: usize,
@@ -33,12 +34,14 @@ pub fn build_level(
     values: &[u64],
     tree: &mut [u8],
 )
-    requires { ⌜ LevelTree (widthsOf set) n k l (length (now base)) (length (now values)) (length (now tree)) ⌝ }
-    ensures { λ _. ⌜ now (tree .exit) ≡ flat (treeFor (schemeOf set base n k) l (words (now (values .entry)))) ⌝ }
+    requires { ⌜ LevelTree (widthsOf (how .set)) n k l (length (now base)) (length (now values)) (length (now tree)) ⌝ }
+    ensures { λ _. ⌜ now (tree .exit) ≡ flat (treeFor (schemeOf how base n k) l (words (now (values .entry)))) ⌝ }
 {
+    let set = how.set;
+    let mode = how.mode;
     let mut domain = [0u8; DOMAIN];
     let size = level_domain(&mut domain, base, l);
     let count = level_length(n, k, l);
     let width = level_width(set, n, k, l);
-    tree_build::build(&domain[..size], count, width, values, tree);
+    tree_build::build(mode, &domain[..size], count, width, values, tree);
 }

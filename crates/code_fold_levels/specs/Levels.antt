@@ -9,7 +9,7 @@ use Rattle.theory_laws.specs.Questions.{Question, _asks_, firstNo}
 use Rattle.theory_field.specs.Words.{words}
 use Rattle.theory_multilinear.specs.Levels.{level}
 use Rattle.theory_record.specs.Lent.{Slice}
-use Rattle.theory_record.specs.declared.WidthSet.{WidthSet}
+use Rattle.theory_record.specs.declared.Trees.{Trees}
 use Rattle.theory_record.specs.Widths.{Widths, widthsOf, levelLength}
 use Rattle.theory_record.specs.Query.{sizeQuestions}
 use Rattle.theory_record.specs.Build.{levelsLength, treeStart, levelValues}
@@ -35,11 +35,11 @@ foldedLevel n k challenges levels l = level (levelValues n k (words levels) 0) (
 
 -- ---- of the slices that a function is lent, at its entry
 
-module _ (set : WidthSet) (n k : ℕ) (base challenges levels half trees roots : Slice) where
+module _ (how : Trees) (n k : ℕ) (base challenges levels half trees roots : Slice) where
   -- the number that `fold_levels` answers
   abbrev pub foldLevelsLent : ℕ
   foldLevelsLent =
-      foldLevelsNumber (widthsOf set) n k (length (now (base .entry))) (length (now (challenges .entry))) (length (now (levels .entry)))
+      foldLevelsNumber (widthsOf (how .set)) n k (length (now (base .entry))) (length (now (challenges .entry))) (length (now (levels .entry)))
       (length (now (half .entry))) (length (now (trees .entry))) (length (now (roots .entry)))
 
 abbrev pub foldedLent : ℕ → ℕ → Slice → Slice → ℕ → List ℕ

@@ -10,6 +10,7 @@ use code_levels::lay;
 use field_gf128::Word;
 use field_words::clear;
 use field_words::get;
+use theory_record::Trees;
 use theory_record::WidthSet;
 ghost use mathlib.Core.Path.{_≡_};
 ghost use Prim.Native.Nat.{suc, _*_, _<_};
@@ -110,11 +111,11 @@ fn fold_all(n: usize, k: usize, challenges: &[u64], levels: &mut [u64], half: &m
     clear(half);
 }
 
-// All levels of the codeword that stands as level 0 at the front of `levels`, by n challenges, their trees by a set of widths and their roots.
-// `half`, room for half of the codeword, is left with zeros. It refuses n that is not from 1 to 20 or k past 4 with 4, lengths that are not theirs with 5, and
-// a base domain of more than 200 bytes with 7. What it leaves is what the claim builds its records from (proofs/Claim).
+// All levels of the codeword that stands as level 0 at the front of `levels`, by n challenges, their trees by a set of widths and a mode, and
+// their roots. `half`, room for half of the codeword, is left with zeros. It refuses n that is not from 1 to 20 or k past 4 with 4, lengths that are
+// not theirs with 5, and a base domain of more than 200 bytes with 7. What it leaves is what the claim builds its records from (proofs/Claim).
 pub fn fold_levels(
-    set: WidthSet,
+    how: Trees,
     n: usize,
     k: usize,
     base: &[u8],
@@ -124,12 +125,13 @@ pub fn fold_levels(
     trees: &mut [u8],
     roots: &mut [u8],
 ) -> u32
-    ensures { λ r. ⌜ r ≡ foldLevelsLent set n k base challenges levels half trees roots ⌝ }
+    ensures { λ r. ⌜ r ≡ foldLevelsLent how n k base challenges levels half trees roots ⌝ }
     ensures { λ r. ⌜ words (now (levels .exit)) ≡ onDone r (levelsLent n (foldedLent n k challenges levels)) (words (now (levels .entry))) ⌝ }
     ensures { λ r. ⌜ now (half .exit) ≡ onDone r (tab (length (now (half .entry))) (λ v. 0)) (now (half .entry)) ⌝ }
-    ensures { λ r. ⌜ now (trees .exit) ≡ onDone r (treesLent (schemeOf set base n k) (foldedLent n k challenges levels)) (now (trees .entry)) ⌝ }
-    ensures { λ r. ⌜ now (roots .exit) ≡ onDone r (rootsLent (schemeOf set base n k) (foldedLent n k challenges levels)) (now (roots .entry)) ⌝ }
+    ensures { λ r. ⌜ now (trees .exit) ≡ onDone r (treesLent (schemeOf how base n k) (foldedLent n k challenges levels)) (now (trees .entry)) ⌝ }
+    ensures { λ r. ⌜ now (roots .exit) ≡ onDone r (rootsLent (schemeOf how base n k) (foldedLent n k challenges levels)) (now (roots .entry)) ⌝ }
 {
+    let set = how.set;
     let refusal = number(
         set,
         n,
@@ -145,6 +147,6 @@ pub fn fold_levels(
         return refusal;
     }
     fold_all(n, k, challenges, levels, half);
-    all_trees(set, n, k, base, levels, trees, roots);
+    all_trees(how, n, k, base, levels, trees, roots);
     0
 }

@@ -9,14 +9,14 @@ use borrow.Author.Tests.{leb-true, ltb-true, eqb-true, le-leb, lt-ltb, eq-eqb}
 use Rattle.theory_laws.specs.Lists.{part, flat}
 use Rattle.theory_laws.specs.Questions.{_asks_, onDone}
 use Rattle.theory_laws.proofs.Questions.{all-yes, yes-all}
-use Rattle.theory_blake3.specs.Digest.{hash}
+use Rattle.theory_blake3.specs.Modes.{under}
 use Rattle.theory_merkle.specs.Tree.{treeOf}
 use Rattle.theory_merkle.specs.Questions.{buildQuestions}
 use Rattle.theory_merkle.specs.Numbers.{buildNumber}
 use Rattle.theory_merkle.specs.PartQuestions.{leavesQuestions, parentsQuestions, leavesNumber, parentsNumber}
 use Rattle.theory_code.specs.Questions.{sized, lent}
 use Rattle.theory_code.specs.PartQuestions.{foldPartNumber}
-use Rattle.theory_record.specs.declared.WidthSet.{WidthSet}
+use Rattle.theory_record.specs.declared.Trees.{Trees}
 use Rattle.theory_record.specs.Widths.{Widths, widthsOf, levelLength, levelWidth, levelGroups, treeLength}
 use Rattle.theory_record.specs.Domain.{levelDomain}
 use Rattle.theory_record.specs.Query.{sizeQuestions}
@@ -128,17 +128,17 @@ leaves-allowed s p n k l domain first values out w small d v whole within =
     yes-all (leavesQuestions domain count width first values out)
     (y .0, (y .1 .0, (y .1 .1 .0, (y .1 .1 .1 .0, (le-leb _ _ within, (y .1 .1 .1 .1 .0, (eq-eqb _ _ whole, tt)))))))
 
-pub leaves-built : (set : WidthSet) {n k l first : ℕ} (base values : List ℕ) {domain : List ℕ} {halves count width : ℕ} (out : List ℕ) {t : List ℕ}
-    → LeavesFit (widthsOf set) n k l (length base) first halves (length out)
-    → domain ≡ levelDomain base l → count ≡ levelLength n k l → width ≡ levelWidth (widthsOf set) n k l
+pub leaves-built : (how : Trees) {n k l first : ℕ} (base values : List ℕ) {domain : List ℕ} {halves count width : ℕ} (out : List ℕ) {t : List ℕ}
+    → LeavesFit (widthsOf (how .set)) n k l (length base) first halves (length out)
+    → domain ≡ levelDomain base l → count ≡ levelLength n k l → width ≡ levelWidth (widthsOf (how .set)) n k l
     → t ≡ onDone (leavesNumber (length domain) count width first halves (length out))
-    (part (length out) (32 * first) (flat (treeOf hash domain count width values))) out
-    → t ≡ part (length out) (32 * first) (flat (treeFor (scheme set base n k) l values))
+    (part (length out) (32 * first) (flat (treeOf (under (how .mode)) domain count width values))) out
+    → t ≡ part (length out) (32 * first) (flat (treeFor (scheme how base n k) l values))
 unfolding treeFor
-leaves-built set {n} {k} {l} {first} base values {halves = halves} out y ed ec ew e =
+leaves-built how {n} {k} {l} {first} base values {halves = halves} out y ed ec ew e =
     let d : length (levelDomain base l) ≤ 255 = omega (arith, levelDomain-fits base l (y .base-le) (omega (arith, y .small, y .level-le))) in
-    let w : widthsOf set .width ≤ 512 = omega (arith, narrow set) in
-    let z = leaves-allowed (widthsOf set) (powers set) n k l _ first halves (length out) w (y .small) d (y .values-are) (y .whole) (y .within) in
+    let w : widthsOf (how .set) .width ≤ 512 = omega (arith, narrow (how .set)) in
+    let z = leaves-allowed (widthsOf (how .set)) (powers (how .set)) n k l _ first halves (length out) w (y .small) d (y .values-are) (y .whole) (y .within) in
     rw (ed, ec, ew, z) at e
 
 -- ---- the parents in a level's tree
@@ -161,11 +161,11 @@ unfolding parentsNumber
 parents-allowed domain children out d pairs half =
     yes-all (parentsQuestions domain children out) (eq-eqb _ _ pairs, (eq-eqb _ _ half, (le-leb _ _ d, tt)))
 
-pub parents-built : {l : ℕ} (height : ℕ) (base children : List ℕ) {domain : List ℕ} (out : List ℕ) {t : List ℕ}
+pub parents-built : (H : List ℕ → List ℕ) {l : ℕ} (height : ℕ) (base children : List ℕ) {domain : List ℕ} (out : List ℕ) {t : List ℕ}
     → ParentsFit l (length base) (length children) (length out) → domain ≡ levelDomain base l
-    → t ≡ onDone (parentsNumber (length domain) (length children) (length out)) (parentsOf domain height children) out
-    → t ≡ parentsOf (levelDomain base l) height children
-parents-built {l} height base children out y ed e =
+    → t ≡ onDone (parentsNumber (length domain) (length children) (length out)) (parentsOf H domain height children) out
+    → t ≡ parentsOf H (levelDomain base l) height children
+parents-built H {l} height base children out y ed e =
     let d : length (levelDomain base l) ≤ 255 = omega (arith, levelDomain-fits base l (y .base-le) (omega (arith, y .level-le))) in
     let z = parents-allowed (length (levelDomain base l)) (length children) (length out) d (y .pairs) (y .out-is) in
     rw (ed, z) at e

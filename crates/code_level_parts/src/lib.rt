@@ -8,6 +8,8 @@ use code_level::level_length;
 use code_level::level_width;
 use code_level::size_number;
 use field_gf128::Word;
+use theory_blake3::Mode;
+use theory_record::Trees;
 use theory_record::WidthSet;
 use tree_place::ends_within;
 ghost use mathlib.Core.Path.{_≡_};
@@ -21,6 +23,7 @@ ghost use Rattle.theory_record.specs.Widths.{widthsOf, levelLength, levelGroups
 ghost use Rattle.theory_record.specs.Domain.{levelDomain};
 ghost use Rattle.code_parts.specs.Parts.{partOfFold, foldPartInto};
 ghost use Rattle.tree_parts.specs.Parts.{parentsOf};
+ghost use Rattle.theory_blake3.specs.Modes.{under};
 ghost use Rattle.code_level_parts.specs.Numbers.{nextPartNumber, levelLeavesNumber, levelParentsNumber};
 ghost use Rattle.code_level_parts.specs.Parts.{levelLeavesOf, levelLeavesLent};
 ghost use Rattle.code_level_parts.specs.helpers.Fits.{NextFits, LeavesFit, ParentsFit};
@@ -136,7 +139,7 @@ fn leaves_number(
 
 // The leaves, once the questions are answered.
 fn put_leaves(
-    set: WidthSet,
+    how: Trees,
     n: usize,
     k: usize,
     l: usize,
@@ -145,21 +148,23 @@ fn put_leaves(
     values: &[u64],
     out: &mut [u8],
 )
-    requires { ⌜ LeavesFit (widthsOf set) n k l (length (now base)) first (length (now values)) (length (now out)) ⌝ }
-    ensures { λ _. ⌜ now (out .exit) ≡ levelLeavesOf set n k l base first values out ⌝ }
+    requires { ⌜ LeavesFit (widthsOf (how .set)) n k l (length (now base)) first (length (now values)) (length (now out)) ⌝ }
+    ensures { λ _. ⌜ now (out .exit) ≡ levelLeavesOf how n k l base first values out ⌝ }
 {
+    let set = how.set;
+    let mode = how.mode;
     let mut domain = [0u8; DOMAIN];
     let size = level_domain(&mut domain, base, l);
     let count = level_length(n, k, l);
     let width = level_width(set, n, k, l);
-    tree_parts::leaves(&domain[..size], count, width, first, values, out);
+    tree_parts::leaves(mode, &domain[..size], count, width, first, values, out);
 }
 
-// Leaves of level l's tree by a set of widths, from group `first` on, as many as the buffer has room for. Lent is the whole level. It refuses n
+// Leaves of level l's tree by a set of widths and a mode, from group `first` on, as many as the buffer has room for. Lent is the whole level. It refuses n
 // that is not from 1 to 20, k past 4 or l past n with 4, lengths that are not theirs with 5, a base domain of more than 200 bytes with 7, and
 // groups that are not all the level's with 11.
 pub fn level_leaves(
-    set: WidthSet,
+    how: Trees,
     n: usize,
     k: usize,
     l: usize,
@@ -168,14 +173,15 @@ pub fn level_leaves(
     values: &[u64],
     out: &mut [u8],
 ) -> u32
-    ensures { λ r. ⌜ r ≡ levelLeavesLent set n k l base first values out ⌝ }
-    ensures { λ r. ⌜ now (out .exit) ≡ onDone r (levelLeavesOf set n k l base first values out) (now (out .entry)) ⌝ }
+    ensures { λ r. ⌜ r ≡ levelLeavesLent how n k l base first values out ⌝ }
+    ensures { λ r. ⌜ now (out .exit) ≡ onDone r (levelLeavesOf how n k l base first values out) (now (out .entry)) ⌝ }
 {
+    let set = how.set;
     let refusal = leaves_number(set, n, k, l, base.len(), first, values.len(), out.len());
     if refusal != 0 {
         return refusal;
     }
-    put_leaves(set, n, k, l, base, first, values, out);
+    put_leaves(how, n, k, l, base, first, values, out);
     0
 }
 
@@ -203,19 +209,20 @@ fn parents_number(n: usize, k: usize, l: usize, base: usize, children: usize, ou
 }
 
 // The parents, once the questions are answered.
-fn put_parents(l: usize, base: &[u8], height: usize, children: &[u8], out: &mut [u8])
+fn put_parents(mode: Mode, l: usize, base: &[u8], height: usize, children: &[u8], out: &mut [u8])
     requires { ⌜ ParentsFit l (length (now base)) (length (now children)) (length (now out)) ⌝ }
-    ensures { λ _. ⌜ now (out .exit) ≡ parentsOf (levelDomain (now (base .entry)) l) height (now (children .entry)) ⌝ }
+    ensures { λ _. ⌜ now (out .exit) ≡ parentsOf (under mode) (levelDomain (now (base .entry)) l) height (now (children .entry)) ⌝ }
 {
     let mut domain = [0u8; DOMAIN];
     let size = level_domain(&mut domain, base, l);
-    tree_parts::parents(&domain[..size], height, children, out);
+    tree_parts::parents(mode, &domain[..size], height, children, out);
 }
 
 // The parents of digests of level l's tree, two by two; those of its leaves are at height 0. It refuses n that is not from 1 to 20, k past 4 or
 // l past n with 4, lengths that are not those of two digests for each that there is room for with 5, and a base domain of more than 200
 // bytes with 7.
 pub fn level_parents(
+    mode: Mode,
     n: usize,
     k: usize,
     l: usize,
@@ -225,12 +232,13 @@ pub fn level_parents(
     out: &mut [u8],
 ) -> u32
     ensures { λ r. ⌜ r ≡ levelParentsNumber n k l (length (now (base .entry))) (length (now (children .entry))) (length (now (out .entry))) ⌝ }
-    ensures { λ r. ⌜ now (out .exit) ≡ onDone r (parentsOf (levelDomain (now (base .entry)) l) height (now (children .entry))) (now (out .entry)) ⌝ }
+    ensures { λ r. ⌜ now (out .exit)
+        ≡ onDone r (parentsOf (under mode) (levelDomain (now (base .entry)) l) height (now (children .entry))) (now (out .entry)) ⌝ }
 {
     let refusal = parents_number(n, k, l, base.len(), children.len(), out.len());
     if refusal != 0 {
         return refusal;
     }
-    put_parents(l, base, height, children, out);
+    put_parents(mode, l, base, height, children, out);
     0
 }

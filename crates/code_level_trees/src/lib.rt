@@ -1,11 +1,11 @@
-// The trees of all levels by a set of widths and their roots, each end to end, level 0 first. These are helpers for the crates above: each
+// The trees of all levels by a set of widths and a mode, and their roots, each end to end, level 0 first. These are helpers for the crates above: each
 // requires that what it is lent has its length.
 use bytes_numbers::load;
 use bytes_numbers::put;
 use code_commit::trees::build_level;
 use code_commit::trees::tree_bytes;
 use code_level::level_length;
-use theory_record::WidthSet;
+use theory_record::Trees;
 ghost use mathlib.Core.Path.{_≡_};
 ghost use Prim.Native.Nat.{_+_, _-_, _*_, _≤_};
 ghost use lib.ListN.{length};
@@ -21,7 +21,7 @@ ghost use Rattle.theory_record.specs.Lent.{schemeOf};
 
 // Level l's tree, built in its place among the trees; the level starts at the half `from`, its tree at the byte `at`.
 fn put_tree(
-    set: WidthSet,
+    how: Trees,
     n: usize,
     k: usize,
     l: usize,
@@ -31,12 +31,13 @@ fn put_tree(
     trees: &mut [u8],
     at: usize,
 )
-    requires { ⌜ TreeRoom (widthsOf set) n k l (length (now base)) (length (now levels)) (length (now trees)) from at ⌝ }
-    ensures { λ _. ⌜ now (trees .exit) ≡ treeMade (schemeOf set base n k) l (now (levels .entry)) at (now (trees .entry)) ⌝ }
+    requires { ⌜ TreeRoom (widthsOf (how .set)) n k l (length (now base)) (length (now levels)) (length (now trees)) from at ⌝ }
+    ensures { λ _. ⌜ now (trees .exit) ≡ treeMade (schemeOf how base n k) l (now (levels .entry)) at (now (trees .entry)) ⌝ }
 {
+    let set = how.set;
     let end = from + 2 * level_length(n, k, l);
     let to = at + tree_bytes(set, n, k, l);
-    build_level(set, n, k, l, base, &levels[from..end], &mut trees[at..to]);
+    build_level(how, n, k, l, base, &levels[from..end], &mut trees[at..to]);
 }
 
 // The last digest of a tree that ends at a byte, put among the roots from a place on: the place after it.
@@ -50,7 +51,7 @@ fn put_root(roots: &mut [u8], place: usize, trees: &[u8], end: usize) -> usize
 
 // The trees of levels 1 to n behind that of level 0, which is there, and the roots of all.
 pub fn level_trees(
-    set: WidthSet,
+    how: Trees,
     n: usize,
     k: usize,
     base: &[u8],
@@ -58,16 +59,17 @@ pub fn level_trees(
     trees: &mut [u8],
     roots: &mut [u8],
 )
-    requires { ⌜ FirstMade (scheme set (now base) n k) (now levels) (now trees) (now roots) ⌝ }
-    ensures { λ _. ⌜ now (trees .exit) ≡ treesLent (schemeOf set base n k) (levelValues n k (words (now (levels .entry)))) ⌝ }
-    ensures { λ _. ⌜ now (roots .exit) ≡ rootsLent (schemeOf set base n k) (levelValues n k (words (now (levels .entry)))) ⌝ }
+    requires { ⌜ FirstMade (scheme how (now base) n k) (now levels) (now trees) (now roots) ⌝ }
+    ensures { λ _. ⌜ now (trees .exit) ≡ treesLent (schemeOf how base n k) (levelValues n k (words (now (levels .entry)))) ⌝ }
+    ensures { λ _. ⌜ now (roots .exit) ≡ rootsLent (schemeOf how base n k) (levelValues n k (words (now (levels .entry)))) ⌝ }
 {
+    let set = how.set;
     let mut from = 2 * level_length(n, k, 0);
     let mut at = tree_bytes(set, n, k, 0);
     let mut place = put_root(roots, 0, trees, at);
     let mut l: usize = 1;
     while l <= n {
-        put_tree(set, n, k, l, base, levels, from, trees, at);
+        put_tree(how, n, k, l, base, levels, from, trees, at);
         from += 2 * level_length(n, k, l);
         at += tree_bytes(set, n, k, l);
         place = put_root(roots, place, trees, at);
@@ -77,7 +79,7 @@ pub fn level_trees(
 
 // The trees of all levels, and their roots.
 pub fn all_trees(
-    set: WidthSet,
+    how: Trees,
     n: usize,
     k: usize,
     base: &[u8],
@@ -85,10 +87,11 @@ pub fn all_trees(
     trees: &mut [u8],
     roots: &mut [u8],
 )
-    requires { ⌜ (Room (widthsOf set) n k (length (now base)) (length (now levels)) (length (now trees))) × (length (now roots) ≡ 32 * (n + 1)) ⌝ }
-    ensures { λ _. ⌜ now (trees .exit) ≡ treesLent (schemeOf set base n k) (levelValues n k (words (now (levels .entry)))) ⌝ }
-    ensures { λ _. ⌜ now (roots .exit) ≡ rootsLent (schemeOf set base n k) (levelValues n k (words (now (levels .entry)))) ⌝ }
+    requires { ⌜ (Room (widthsOf (how .set)) n k (length (now base)) (length (now levels)) (length (now trees)))
+        × (length (now roots) ≡ 32 * (n + 1)) ⌝ }
+    ensures { λ _. ⌜ now (trees .exit) ≡ treesLent (schemeOf how base n k) (levelValues n k (words (now (levels .entry)))) ⌝ }
+    ensures { λ _. ⌜ now (roots .exit) ≡ rootsLent (schemeOf how base n k) (levelValues n k (words (now (levels .entry)))) ⌝ }
 {
-    put_tree(set, n, k, 0, base, levels, 0, trees, 0);
-    level_trees(set, n, k, base, levels, trees, roots);
+    put_tree(how, n, k, 0, base, levels, 0, trees, 0);
+    level_trees(how, n, k, base, levels, trees, roots);
 }

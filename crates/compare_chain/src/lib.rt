@@ -3,6 +3,7 @@
 use bytes_numbers::put;
 use bytes_reader::digest_at;
 use record_opening::group_values;
+use theory_blake3::Mode;
 use tree_digest::digest;
 use tree_message::leaf_prefix;
 use tree_message::leaf_rest;
@@ -17,9 +18,11 @@ ghost use Prim.Native.Nat.{_+_, _*_, _≤_};
 ghost use lib.ListN.{length};
 ghost use Rattle.tree_place.specs.Place.{index, number};
 ghost use Rattle.compare_chain.specs.helpers.Nodes.{LeafNoted, LeafRoom, NodeNoted, NodesRoom, nodesInto, chainInto, ChainRoom};
+ghost use Rattle.theory_blake3.specs.Modes.{under};
 
 // The leaf message of the group whose values stand from a byte of a record on; its digest.
 fn put_leaf(
+    mode: Mode,
     out: &mut [u8],
     domain: &[u8],
     count: usize,
@@ -29,16 +32,18 @@ fn put_leaf(
     from: usize,
 ) -> [u8; 32]
     requires { ⌜ LeafRoom (length (now domain)) width (length (now s)) from (length (now out)) ⌝ }
-    ensures { λ r. ⌜ LeafNoted (now (out .entry)) (now (domain .entry)) count width (number group) (now (s .entry)) from (now (out .exit)) r ⌝ }
+    ensures { λ r. ⌜ LeafNoted (under mode) (now (out .entry)) (now (domain .entry)) count width (number group) (now (s .entry)) from
+        (now (out .exit)) r ⌝ }
 {
     let values = group_values(s, from, width);
     let prefix = leaf_prefix(out, domain, count, width);
     let n = leaf_rest(out, prefix, width, group, &values[..2 * width]);
-    digest(&out[..n])
+    digest(mode, &out[..n])
 }
 
 // The node message of a digest, by its number on its level, and its sibling; its digest.
 fn put_node(
+    mode: Mode,
     out: &mut [u8],
     at: usize,
     domain: &[u8],
@@ -48,7 +53,7 @@ fn put_node(
     sibling: [u8; 32],
 ) -> [u8; 32]
     requires { ⌜ (length (now domain) ≤ 255) × (at + (136 + length (now domain)) ≤ length (now out)) ⌝ }
-    ensures { λ r. ⌜ NodeNoted (now (out .entry)) at (now (domain .entry)) level (number g) d sibling (now (out .exit)) r ⌝ }
+    ensures { λ r. ⌜ NodeNoted (under mode) (now (out .entry)) at (now (domain .entry)) level (number g) d sibling (now (out .exit)) r ⌝ }
 {
     let c = children(g, d, sibling);
     let l = c.left;
@@ -57,11 +62,12 @@ fn put_node(
     let prefix = node_prefix(&mut message, domain, level);
     let n = node_rest(&mut message, prefix, l, r);
     put(out, at, &message[..n]);
-    digest(&message[..n])
+    digest(mode, &message[..n])
 }
 
 // The node messages on the way of a leaf digest, by its group, along the digests that stand from a byte of a record on.
 fn put_nodes(
+    mode: Mode,
     out: &mut [u8],
     from: usize,
     domain: &[u8],
@@ -72,7 +78,8 @@ fn put_nodes(
     depth: usize,
 )
     requires { ⌜ NodesRoom (length (now domain)) (length (now s)) path depth from (length (now out)) ⌝ }
-    ensures { λ _. ⌜ now (out .exit) ≡ nodesInto (now (out .entry)) from (now (domain .entry)) (number group) leaf (now (s .entry)) path depth ⌝ }
+    ensures { λ _. ⌜ now (out .exit)
+        ≡ nodesInto (under mode) (now (out .entry)) from (now (domain .entry)) (number group) leaf (now (s .entry)) path depth ⌝ }
 {
     let mut at = from;
     let mut d = leaf;
@@ -80,7 +87,7 @@ fn put_nodes(
     let mut l: usize = 0;
     while l < depth {
         let e = digest_at(s, path + 32 * l);
-        let p = put_node(out, at, domain, l, g, d, e);
+        let p = put_node(mode, out, at, domain, l, g, d, e);
         d = p;
         at += 136 + domain.len();
         g = g.parent();
@@ -90,6 +97,7 @@ fn put_nodes(
 
 // The messages from the group of a place, whose values stand from one byte of a record on, along the digests from another.
 pub fn put_chain(
+    mode: Mode,
     out: &mut [u8],
     domain: &[u8],
     count: usize,
@@ -101,11 +109,13 @@ pub fn put_chain(
     depth: usize,
 )
     requires { ⌜ ChainRoom (length (now domain)) width (length (now s)) from path depth (length (now out)) ⌝ }
-    ensures { λ _. ⌜ now (out .exit) ≡ chainInto (now (out .entry)) (now (domain .entry)) count width (index place) (now (s .entry)) from path depth ⌝ }
+    ensures { λ _. ⌜ now (out .exit)
+        ≡ chainInto (under mode) (now (out .entry)) (now (domain .entry)) count width (index place) (now (s .entry)) from path depth ⌝ }
 {
     let g = group_of(place, width);
-    let d = put_leaf(out, domain, count, width, g, s, from);
+    let d = put_leaf(mode, out, domain, count, width, g, s, from);
     put_nodes(
+        mode,
         out,
         97 + domain.len() + 16 * width,
         domain,

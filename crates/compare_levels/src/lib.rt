@@ -4,7 +4,7 @@ use compare_opening::pick_opening;
 use record_query_check::pair_of;
 use record_reader::Level;
 use record_reader::level_at;
-use theory_record::WidthSet;
+use theory_record::Trees;
 use tree_place::Place;
 ghost use Rattle.theory_compare.specs.Compare.{recordsFound};
 ghost use Rattle.compare_pick.specs.helpers.Chains.{PickedIn};
@@ -15,7 +15,7 @@ ghost use Rattle.theory_record.specs.Scheme.{scheme};
 // Of level l of two records, as it was read of each: path c, which is of the next level, or else path a. The pair folds to place q there.
 fn pick_path(
     base: &[u8],
-    set: WidthSet,
+    how: Trees,
     n: usize,
     k: usize,
     l: usize,
@@ -28,13 +28,13 @@ fn pick_path(
     first: &mut [u8],
     second: &mut [u8],
 ) -> usize
-    requires { ⌜ LevelsSized (scheme set (now base) n k) l (index q) (now s) x (now t) y (now first) (now second) ⌝ }
-    ensures { λ r. ⌜ PickedIn (pathFound (scheme set (now (base .entry)) n k) l (index q) next (now (s .entry)) x (now (t .entry)) y) first second r ⌝ }
+    requires { ⌜ LevelsSized (scheme how (now base) n k) l (index q) (now s) x (now t) y (now first) (now second) ⌝ }
+    ensures { λ r. ⌜ PickedIn (pathFound (scheme how (now (base .entry)) n k) l (index q) next (now (s .entry)) x (now (t .entry)) y) first second r ⌝ }
 {
     if next {
         return pick_opening(
             base,
-            set,
+            how,
             n,
             k,
             l + 1,
@@ -51,7 +51,7 @@ fn pick_path(
     }
     pick_opening(
         base,
-        set,
+        how,
         n,
         k,
         l,
@@ -70,7 +70,7 @@ fn pick_path(
 // Path a before path c.
 fn pick_level(
     base: &[u8],
-    set: WidthSet,
+    how: Trees,
     n: usize,
     k: usize,
     l: usize,
@@ -82,20 +82,20 @@ fn pick_level(
     first: &mut [u8],
     second: &mut [u8],
 ) -> usize
-    requires { ⌜ LevelsSized (scheme set (now base) n k) l (index q) (now s) x (now t) y (now first) (now second) ⌝ }
-    ensures { λ r. ⌜ PickedIn (placesFound (scheme set (now (base .entry)) n k) l (index q) (now (s .entry)) x (now (t .entry)) y) first second r ⌝ }
+    requires { ⌜ LevelsSized (scheme how (now base) n k) l (index q) (now s) x (now t) y (now first) (now second) ⌝ }
+    ensures { λ r. ⌜ PickedIn (placesFound (scheme how (now (base .entry)) n k) l (index q) (now (s .entry)) x (now (t .entry)) y) first second r ⌝ }
 {
-    let m = pick_path(base, set, n, k, l, q, false, s, x, t, y, first, second);
+    let m = pick_path(base, how, n, k, l, q, false, s, x, t, y, first, second);
     if m != 0 {
         return m;
     }
-    pick_path(base, set, n, k, l, q, true, s, x, t, y, first, second)
+    pick_path(base, how, n, k, l, q, true, s, x, t, y, first, second)
 }
 
 // Level by level, the lowest first.
 pub fn pick_levels(
     base: &[u8],
-    set: WidthSet,
+    how: Trees,
     n: usize,
     k: usize,
     position: Place,
@@ -104,8 +104,8 @@ pub fn pick_levels(
     first: &mut [u8],
     second: &mut [u8],
 ) -> usize
-    requires { ⌜ Comparable (scheme set (now base) n k) (index position) (now s) (now t) (now first) (now second) ⌝ }
-    ensures { λ r. ⌜ PickedIn (recordsFound (scheme set (now (base .entry)) n k) (index position) (now (s .entry)) (now (t .entry))) first second r ⌝ }
+    requires { ⌜ Comparable (scheme how (now base) n k) (index position) (now s) (now t) (now first) (now second) ⌝ }
+    ensures { λ r. ⌜ PickedIn (recordsFound (scheme how (now (base .entry)) n k) (index position) (now (s .entry)) (now (t .entry))) first second r ⌝ }
 {
     let mut l: usize = 0;
     let mut i: usize = 4;
@@ -114,7 +114,7 @@ pub fn pick_levels(
         let x = level_at(s, i);
         let y = level_at(t, j);
         let q = pair_of(position, l);
-        let m = pick_level(base, set, n, k, l, q, s, x, t, y, first, second);
+        let m = pick_level(base, how, n, k, l, q, s, x, t, y, first, second);
         if m != 0 {
             return m;
         }

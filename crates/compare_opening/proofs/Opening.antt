@@ -8,11 +8,12 @@ use lib.ListN.{length, take, drop}
 use lib.Seq.{drop-drop}
 use Rattle.theory_laws.specs.Lists.{runs, flat, stored}
 use Rattle.theory_laws.proofs.Lists.{AllLong, length-stored}
-use Rattle.theory_blake3.specs.Digest.{hash}
+use Rattle.theory_blake3.specs.Modes.{under}
+use Rattle.theory_blake3.proofs.Modes.{length-under}
 use Rattle.theory_merkle.specs.Binding.{messagesOf, lastDiffering, collision}
 use Rattle.bytes_numbers.specs.helpers.Put.{Put}
 use Rattle.tree_digest.proofs.Messages.{prefix-is}
-use Rattle.theory_record.specs.declared.WidthSet.{WidthSet}
+use Rattle.theory_record.specs.declared.Trees.{Trees}
 use Rattle.theory_record.specs.Widths.{widthsOf, widest}
 use Rattle.theory_record.specs.Domain.{domainRoom}
 use Rattle.theory_record.specs.Format.{runItems}
@@ -48,25 +49,25 @@ pub record ChainPut (S : Scheme) (l place : ℕ) (s : List ℕ) (group path : �
   pub chain-is : a ≡ stored o 0 (chainAt S l place s group path)
   pub buffer-long : length o ≡ chainBuffer
 
-module _ (set : WidthSet) {base : List ℕ} {n k l : ℕ} {s : List ℕ} {group path : ℕ} (z : Sized (scheme set base n k) l s group path) where
+module _ (how : Trees) {base : List ℕ} {n k l : ℕ} {s : List ℕ} {group path : ℕ} (z : Sized (scheme how base n k) l s group path) where
   abbrev S : Scheme
-  S = scheme set base n k
+  S = scheme how base n k
 
-  pub room : Room (scheme set base n k) l s group path
-  room = sized-room set z
+  pub room : Room (scheme how base n k) l s group path
+  room = sized-room how z
 
   pub chain-room : 97 + length (domainAt S l) + 16 * widthAt S l + (136 + length (domainAt S l)) * depthAt S l ≤ chainBuffer
   chain-room =
-      let h = depth-le (widthsOf set) n k l (level-shape (widthsOf set) n k l (powers set)) in
+      let h = depth-le (widthsOf (how .set)) n k l (level-shape (widthsOf (how .set)) n k l (powers (how .set))) in
       let r = z .readable in
       room-for _ _ _ (room .domain-short) (room .width-le) (omega arith)
 
-  pub chain-fits : (d w depth len : ℕ) → Measured (scheme set base n k) l d w depth → len ≡ chainBuffer → 97 + d + 16 * w + (136 + d) * depth ≤ len
+  pub chain-fits : (d w depth len : ℕ) → Measured (scheme how base n k) l d w depth → len ≡ chainBuffer → 97 + d + 16 * w + (136 + d) * depth ≤ len
   chain-fits d w depth len m e = rw (m .domain-is, m .width-is, m .depth-is, e) chain-room
 
   -- the chain that code writes
   pub chain-written : (place count width depth : ℕ) (domain o r : List ℕ)
-      → r ≡ stored o 0 (flat (messagesOf hash domain count width place (valuesFrom s (group + 4) width) (runs 32 depth (drop (path + 4) s))))
+      → r ≡ stored o 0 (flat (messagesOf (under (how .mode)) domain count width place (valuesFrom s (group + 4) width) (runs 32 depth (drop (path + 4) s))))
       → domain ≡ domainAt S l → count ≡ lengthAt S l → width ≡ widthAt S l → depth ≡ depthAt S l → r ≡ stored o 0 (chainAt S l place s group path)
   unfolding levelMessages valuesFrom valuesAt digestsAt runItems
   chain-written place count width depth domain o r e ed ec ew eh =
@@ -77,23 +78,24 @@ module _ (set : WidthSet) {base : List ℕ} {n k l : ℕ} {s : List ℕ} {group 
   digests-long = items-long 32 (drop path s) (z .readable .path-fits)
 
   -- and reads
-  pub level-read : {place : ℕ} {o a : List ℕ} → ChainPut (scheme set base n k) l place s group path o a
+  pub level-read : {place : ℕ} {o a : List ℕ} → ChainPut (scheme how base n k) l place s group path o a
       → chainOf (97 + length (domainAt S l) + 16 * widthAt S l) (136 + length (domainAt S l)) (depthAt S l) a
       ≡ levelMessages S l place (valuesAt s group) (digestsAt s path)
   unfolding levelMessages
   level-read {place} {o} {a} p =
       ap (chainOf (97 + length (domainAt S l) + 16 * widthAt S l) (136 + length (domainAt S l)) (depthAt S l)) (p .chain-is)
-      ∙ (messages-read (domainAt S l) (lengthAt S l) (widthAt S l) place (valuesAt s group) (digestsAt s path) (depthAt S l) o
+      ∙ (messages-read (under (how .mode)) (length-under (how .mode)) (domainAt S l) (lengthAt S l) (widthAt S l) place (valuesAt s group)
+      (digestsAt s path) (depthAt S l) o
       (length-values s group ∙ z .width-is) (length-digests s path ∙ z .depth-is) digests-long (omega (arith, chain-room, p .buffer-long)))
 
 -- two chains, as their last messages are looked for
-module _ (set : WidthSet) {base : List ℕ} {n k l place : ℕ} {s : List ℕ} {sgroup spath : ℕ} {t : List ℕ} {tgroup tpath : ℕ} {first second : List ℕ}
-    (z : BothSized (scheme set base n k) l s sgroup spath t tgroup tpath first second) {d width depth : ℕ} (m : Measured (scheme set base n k) l d width depth)
-    {o a o′ b : List ℕ} (p : ChainPut (scheme set base n k) l place s sgroup spath o a) (q : ChainPut (scheme set base n k) l place t tgroup tpath o′ b) where
+module _ (how : Trees) {base : List ℕ} {n k l place : ℕ} {s : List ℕ} {sgroup spath : ℕ} {t : List ℕ} {tgroup tpath : ℕ} {first second : List ℕ}
+    (z : BothSized (scheme how base n k) l s sgroup spath t tgroup tpath first second) {d width depth : ℕ} (m : Measured (scheme how base n k) l d width depth)
+    {o a o′ b : List ℕ} (p : ChainPut (scheme how base n k) l place s sgroup spath o a) (q : ChainPut (scheme how base n k) l place t tgroup tpath o′ b) where
   pub chains-there : Chains (97 + d + 16 * width) (136 + d) depth a b first second
   chains-there =
-      let h = room set (z .first-sized) in
-      let fits : 97 + d + 16 * width + (136 + d) * depth ≤ chainBuffer = chain-fits set (z .first-sized) d width depth chainBuffer m refl in
+      let h = room how (z .first-sized) in
+      let fits : 97 + d + 16 * width + (136 + d) * depth ≤ chainBuffer = chain-fits how (z .first-sized) d width depth chainBuffer m refl in
       let na : length a ≡ chainBuffer = ap length (p .chain-is) ∙ length-stored o 0 _ ∙ p .buffer-long in
       let nb : length b ≡ chainBuffer = ap length (q .chain-is) ∙ length-stored o′ 0 _ ∙ q .buffer-long in
       record {
@@ -109,7 +111,7 @@ module _ (set : WidthSet) {base : List ℕ} {n k l place : ℕ} {s : List ℕ} {
 
   pub picked-opening : {old old′ new new′ : List ℕ} {r : ℕ}
       → Picked (lastDiffering (chainOf (97 + d + 16 * width) (136 + d) depth a) (chainOf (97 + d + 16 * width) (136 + d) depth b)) old old′ new new′ r
-      → Picked (foundAt (scheme set base n k) l place s sgroup spath t tgroup tpath) old old′ new new′ r
+      → Picked (foundAt (scheme how base n k) l place s sgroup spath t tgroup tpath) old old′ new new′ r
   unfolding openingFound collision levelMessages
   picked-opening w =
-      rw (← (level-read set (z .first-sized) p), ← (level-read set (z .second-sized) q), ← (m .domain-is), ← (m .width-is), ← (m .depth-is)) w
+      rw (← (level-read how (z .first-sized) p), ← (level-read how (z .second-sized) q), ← (m .domain-is), ← (m .width-is), ← (m .depth-is)) w

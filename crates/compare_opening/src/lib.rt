@@ -8,7 +8,7 @@ use code_level::level_length;
 use code_level::level_width;
 use compare_chain::put_chain;
 use compare_pick::pick_last;
-use theory_record::WidthSet;
+use theory_record::Trees;
 use tree_place::Place;
 ghost use mathlib.Core.Path.{_≡_};
 ghost use lib.ListN.{length};
@@ -28,7 +28,7 @@ const CHAIN: usize = 97 + DOMAIN + 16 * WIDEST + 24 * (136 + DOMAIN);
 fn level_chain(
     out: &mut [u8],
     base: &[u8],
-    set: WidthSet,
+    how: Trees,
     n: usize,
     k: usize,
     l: usize,
@@ -37,16 +37,19 @@ fn level_chain(
     group_at: usize,
     path_at: usize,
 ) -> usize
-    requires { ⌜ (Sized (scheme set (now base) n k) l (now s) «group_at» «path_at») × (length (now out) ≡ chainBuffer) ⌝ }
+    requires { ⌜ (Sized (scheme how (now base) n k) l (now s) «group_at» «path_at») × (length (now out) ≡ chainBuffer) ⌝ }
     ensures { λ r. ⌜ r ≡ length (levelDomain (now (base .entry)) l) ⌝ }
-    ensures { λ _. ⌜ now (out .exit) ≡ stored (now (out .entry)) 0 (chainLent base set n k l (index place) s «group_at» «path_at») ⌝ }
+    ensures { λ _. ⌜ now (out .exit) ≡ stored (now (out .entry)) 0 (chainLent base how n k l (index place) s «group_at» «path_at») ⌝ }
 {
+    let set = how.set;
+    let mode = how.mode;
     let mut domain = [0u8; DOMAIN];
     let d = level_domain(&mut domain, base, l);
     let count = level_length(n, k, l);
     let width = level_width(set, n, k, l);
     let depth = level_depth(set, n, k, l);
     put_chain(
+        mode,
         out,
         &domain[..d],
         count,
@@ -63,7 +66,7 @@ fn level_chain(
 // The messages in which two groups and paths for a place of level l differ.
 pub fn pick_opening(
     base: &[u8],
-    set: WidthSet,
+    how: Trees,
     n: usize,
     k: usize,
     l: usize,
@@ -77,14 +80,15 @@ pub fn pick_opening(
     first: &mut [u8],
     second: &mut [u8],
 ) -> usize
-    requires { ⌜ BothSized (scheme set (now base) n k) l (now s) «s_group_at» «s_path_at» (now t) «t_group_at» «t_path_at»
+    requires { ⌜ BothSized (scheme how (now base) n k) l (now s) «s_group_at» «s_path_at» (now t) «t_group_at» «t_path_at»
         (now first) (now second) ⌝ }
-    ensures { λ r. ⌜ PickedIn (foundLent base set n k l (index place) s «s_group_at» «s_path_at» t «t_group_at» «t_path_at») first second r ⌝ }
+    ensures { λ r. ⌜ PickedIn (foundLent base how n k l (index place) s «s_group_at» «s_path_at» t «t_group_at» «t_path_at») first second r ⌝ }
 {
+    let set = how.set;
     let mut a = [0u8; CHAIN];
-    let d = level_chain(&mut a, base, set, n, k, l, place, s, s_group_at, s_path_at);
+    let d = level_chain(&mut a, base, how, n, k, l, place, s, s_group_at, s_path_at);
     let mut b = [0u8; CHAIN];
-    level_chain(&mut b, base, set, n, k, l, place, t, t_group_at, t_path_at);
+    level_chain(&mut b, base, how, n, k, l, place, t, t_group_at, t_path_at);
     let width = level_width(set, n, k, l);
     let depth = level_depth(set, n, k, l);
     pick_last(&a, &b, 97 + d + 16 * width, 136 + d, depth, first, second)

@@ -13,12 +13,12 @@ use Rattle.theory_compare.specs.Compare.{recordsFound, accepts, Comparison, com
 use Rattle.compare_pick.specs.helpers.Chains.{Picked}
 use Rattle.compare_levels.specs.helpers.Levels.{Comparable}
 use Rattle.compare_records.specs.helpers.Numbers.{lengthQuestions, lentNumber, recordQuestions, recordsNumber}
-use Rattle.theory_record.specs.declared.WidthSet.{WidthSet}
+use Rattle.theory_record.specs.declared.Trees.{Trees}
 use Rattle.theory_record.specs.Scheme.{Scheme, scheme}
 
-module _ (base : List ℕ) (set : WidthSet) (n k position : ℕ) (challenges roots first second old old′ : List ℕ) where
+module _ (base : List ℕ) (how : Trees) (n k position : ℕ) (challenges roots first second old old′ : List ℕ) where
   abbrev S : Scheme
-  S = scheme set base n k
+  S = scheme how base n k
 
   -- the three equations of the contract, as one fact
   pub record Answered (r : Comparison) (new new′ : List ℕ) : Type 0 where
@@ -39,14 +39,14 @@ module _ (base : List ℕ) (set : WidthSet) (n k position : ℕ) (challenges roo
     lent-refused z =
         refused-by x
         (first-stops (sizeQuestions n k ++ lengthQuestions (length base) n k position (length challenges) (length roots) (length old) (length old′))
-        (recordQuestions base set n k position challenges roots first second) x tt ex z) z
+        (recordQuestions base how n k position challenges roots first second) x tt ex z) z
 
-    module _ (zx : x ≡ 0) {y : ℕ} (ey : y ≡ recordsNumber base set n k position challenges roots first second) where
+    module _ (zx : x ≡ 0) {y : ℕ} (ey : y ≡ recordsNumber base how n k position challenges roots first second) where
       number-is : y ≡ compareNumber S position challenges roots first second old old′
       unfolding lentNumber recordsNumber compareNumber
       number-is =
           first-passes (sizeQuestions n k ++ lengthQuestions (length base) n k position (length challenges) (length roots) (length old) (length old′))
-          (recordQuestions base set n k position challenges roots first second) x tt ex y zx ey
+          (recordQuestions base how n k position challenges roots first second) x tt ex y zx ey
 
       pub records-refused : (y ≡ 0 → ⊥) → Answered (record { number = y; first = 0; second = 0 }) old old′
       records-refused z = refused-by y number-is z
@@ -62,7 +62,7 @@ module _ (base : List ℕ) (set : WidthSet) (n k position : ℕ) (challenges roo
         comparable =
             let lent = lengthQuestions (length base) n k position (length challenges) (length roots) (length old) (length old′) in
             let a = sizes-fit n k (all-yes (sizeQuestions n k ++ lent) tt (sym ex ∙ zx)) .1 in
-            let b = all-yes (recordQuestions base set n k position challenges roots first second) tt (sym ey ∙ zy) in
+            let b = all-yes (recordQuestions base how n k position challenges roots first second) tt (sym ey ∙ zy) in
             record {
               challenges = challenges;
               roots = roots;

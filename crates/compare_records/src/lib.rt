@@ -4,7 +4,7 @@ use code_level::level_length;
 use code_level::size_number;
 use compare_levels::pick_levels;
 use record_query_check::check_query;
-use theory_record::WidthSet;
+use theory_record::Trees;
 use tree_place::Place;
 ghost use mathlib.Core.Path.{_≡_};
 ghost use Rattle.theory_compare.specs.Compare.{accepts};
@@ -66,7 +66,7 @@ fn lent_number(
 // Is a record accepted?
 fn accepted(
     base: &[u8],
-    set: WidthSet,
+    how: Trees,
     n: usize,
     k: usize,
     position: Place,
@@ -74,16 +74,16 @@ fn accepted(
     roots: &[u8],
     s: &[u8],
 ) -> bool
-    ensures { λ r. ⌜ r ≡ accepts (schemeOf set base n k) (index position) (now (challenges .entry)) (now (roots .entry)) (now (s .entry)) ⌝ }
+    ensures { λ r. ⌜ r ≡ accepts (schemeOf how base n k) (index position) (now (challenges .entry)) (now (roots .entry)) (now (s .entry)) ⌝ }
 {
-    let c = check_query(base, set, n, k, position, challenges, roots, s);
+    let c = check_query(base, how, n, k, position, challenges, roots, s);
     c.number == 0
 }
 
 // 32 and 33.
 fn records_number(
     base: &[u8],
-    set: WidthSet,
+    how: Trees,
     n: usize,
     k: usize,
     position: Place,
@@ -92,12 +92,12 @@ fn records_number(
     s: &[u8],
     t: &[u8],
 ) -> u32
-    ensures { λ r. ⌜ r ≡ recordsLent base set n k (index position) challenges roots s t ⌝ }
+    ensures { λ r. ⌜ r ≡ recordsLent base how n k (index position) challenges roots s t ⌝ }
 {
-    if !accepted(base, set, n, k, position, challenges, roots, s) {
+    if !accepted(base, how, n, k, position, challenges, roots, s) {
         return 32;
     }
-    if !accepted(base, set, n, k, position, challenges, roots, t) {
+    if !accepted(base, how, n, k, position, challenges, roots, t) {
         return 32;
     }
     if same_bytes(s, t) {
@@ -110,7 +110,7 @@ fn records_number(
 // nearest the root that differ go into the buffers, of MESSAGE_BUFFER bytes each.
 pub fn compare(
     base: &[u8],
-    set: WidthSet,
+    how: Trees,
     n: usize,
     k: usize,
     position: Place,
@@ -121,9 +121,9 @@ pub fn compare(
     one: &mut [u8],
     two: &mut [u8],
 ) -> Compared
-    ensures { λ r. ⌜ comparison r ≡ comparedLent base set n k (index position) challenges roots first second one two ⌝ }
-    ensures { λ _. ⌜ now (one .exit) ≡ firstLeft base set n k (index position) challenges roots first second one two ⌝ }
-    ensures { λ _. ⌜ now (two .exit) ≡ secondLeft base set n k (index position) challenges roots first second one two ⌝ }
+    ensures { λ r. ⌜ comparison r ≡ comparedLent base how n k (index position) challenges roots first second one two ⌝ }
+    ensures { λ _. ⌜ now (one .exit) ≡ firstLeft base how n k (index position) challenges roots first second one two ⌝ }
+    ensures { λ _. ⌜ now (two .exit) ≡ secondLeft base how n k (index position) challenges roots first second one two ⌝ }
 {
     let x = lent_number(
         base.len(),
@@ -142,7 +142,7 @@ pub fn compare(
             second: 0,
         };
     }
-    let y = records_number(base, set, n, k, position, challenges, roots, first, second);
+    let y = records_number(base, how, n, k, position, challenges, roots, first, second);
     if y != 0 {
         return Compared {
             number: y,
@@ -150,7 +150,7 @@ pub fn compare(
             second: 0,
         };
     }
-    let m = pick_levels(base, set, n, k, position, first, second, one, two);
+    let m = pick_levels(base, how, n, k, position, first, second, one, two);
     Compared {
         number: 0,
         first: m,

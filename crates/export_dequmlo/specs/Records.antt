@@ -1,5 +1,5 @@
 -- What the exported functions on records answer and leave, of the slices that they are lent: what the entry does under the set of widths that a number
--- names; 4, and every buffer as it was, where it names none.
+-- names, and the key where trees are hashed; 4, and every buffer as it was, where it names none.
 use Prim.Native.Nat.{ℕ}
 use mathlib.Core.List.{List}
 use denote.Ref.{now}
@@ -10,6 +10,8 @@ use Rattle.theory_record.specs.Tail.{checkTail}
 use Rattle.theory_record.specs.Build.{buildQueryNumber, buildQuery, buildTailNumber, buildTail}
 use Rattle.theory_compare.specs.Compare.{Comparison}
 use Rattle.theory_compare.specs.Lent.{comparedLent, firstLeft, secondLeft}
+use Rattle.export_dequmlo.specs.declared.keys.Key.{Key}
+use Rattle.export_dequmlo.specs.Keys.{withTrees}
 use Rattle.export_dequmlo.specs.Sets.{withSet}
 
 -- ---- building a query record: the number, and the record's buffer afterwards
@@ -24,9 +26,9 @@ module _ (out levels trees : Slice) (widths n k position : ℕ) where
 
 -- ---- checking one
 
-abbrev pub queryAnswer : Slice → ℕ → ℕ → ℕ → ℕ → Slice → Slice → Slice → Answer
-queryAnswer base widths n k position challenges roots bytes =
-    withSet widths (λ set. checkQuery (schemeOf set base n k) position (now (challenges .entry)) (now (roots .entry)) (now (bytes .entry))) (refused 4)
+abbrev pub queryAnswer : Key → Slice → ℕ → ℕ → ℕ → ℕ → Slice → Slice → Slice → Answer
+queryAnswer key base widths n k position challenges roots bytes =
+    withTrees key widths (λ how. checkQuery (schemeOf how base n k) position (now (challenges .entry)) (now (roots .entry)) (now (bytes .entry))) (refused 4)
 
 -- ---- building a tail record
 
@@ -39,20 +41,20 @@ module _ (out level tree : Slice) (widths n k : ℕ) where
 
 -- ---- checking one, against a claim
 
-abbrev pub tailAnswer : Slice → ℕ → ℕ → ℕ → Slice → ℕ → Slice → ℕ
-tailAnswer base widths n k root claim bytes =
-    withSet widths (λ set. checkTail (schemeOf set base n k) (now (root .entry)) claim (now (bytes .entry))) 4
+abbrev pub tailAnswer : Key → Slice → ℕ → ℕ → ℕ → Slice → ℕ → Slice → ℕ
+tailAnswer key base widths n k root claim bytes =
+    withTrees key widths (λ how. checkTail (schemeOf how base n k) (now (root .entry)) claim (now (bytes .entry))) 4
 
 -- ---- comparing two query records: the answer, and the two buffers afterwards
 
-module _ (base : Slice) (widths n k position : ℕ) (challenges roots first second message message′ : Slice) where
+module _ (key : Key) (base : Slice) (widths n k position : ℕ) (challenges roots first second message message′ : Slice) where
   abbrev pub comparedAnswer : Comparison
   comparedAnswer =
-      withSet widths (λ set. comparedLent base set n k position challenges roots first second message message′)
+      withTrees key widths (λ how. comparedLent base how n k position challenges roots first second message message′)
       (record { number = 4; first = 0; second = 0 })
 
   abbrev pub firstAfter : List ℕ
-  firstAfter = withSet widths (λ set. firstLeft base set n k position challenges roots first second message message′) (now (message .entry))
+  firstAfter = withTrees key widths (λ how. firstLeft base how n k position challenges roots first second message message′) (now (message .entry))
 
   abbrev pub secondAfter : List ℕ
-  secondAfter = withSet widths (λ set. secondLeft base set n k position challenges roots first second message message′) (now (message′ .entry))
+  secondAfter = withTrees key widths (λ how. secondLeft base how n k position challenges roots first second message message′) (now (message′ .entry))

@@ -3,8 +3,6 @@ use Prim.Native.Nat.{ℕ}
 use lib.Dec.{leb, eqb}
 use Rattle.theory_laws.specs.Questions.{pick}
 use Rattle.theory_record.specs.declared.WidthSet.{WidthSet}
-use Rattle.theory_record.specs.Scheme.{Scheme}
-use Rattle.theory_record.specs.Lent.{Slice, schemeOf}
 
 -- the set that a number names
 unfoldable pub setOf : ℕ → WidthSet
@@ -13,7 +11,3 @@ setOf widths = pick (eqb widths 0) WidthSet.Present WidthSet.Wide
 -- what is made of the set that a number names; where it names none, what is answered or left instead
 abbrev pub withSet : {A : Type 0} → ℕ → (WidthSet → A) → A → A
 withSet widths made instead = pick (leb widths 1) (made (setOf widths)) instead
-
--- the scheme under that set, of a lent base domain, n and k
-abbrev pub schemeBy : ℕ → Slice → ℕ → ℕ → Scheme
-schemeBy widths base n k = schemeOf (setOf widths) base n k

@@ -1,5 +1,6 @@
 // Committing a table, folding a codeword, and all levels of a commitment by its challenges.
-use crate::sets::set_of;
+use crate::keys::Key;
+use crate::keys::trees_of;
 use field_gf128::Word;
 ghost use mathlib.Core.Path.{_≡_};
 ghost use lib.ListN.{length};
@@ -18,11 +19,12 @@ ghost use Rattle.code_commit.specs.Lent.{commitLent, codewordLent};
 ghost use Rattle.theory_record.specs.Trees.{levelsLent, treesLent, rootsLent};
 ghost use Rattle.code_fold_levels.specs.Levels.{foldLevelsLent, foldedLent};
 ghost use Rattle.export_dequmlo.specs.Answers.{folded};
-ghost use Rattle.export_dequmlo.specs.Sets.{schemeBy, withSet};
+ghost use Rattle.export_dequmlo.specs.Keys.{schemeBy, withTrees};
 
 // The gammas of a base domain, the codeword of a table of 2^n words, its list, 0 to n - 1, and level 0's tree: 4, 5, 7.
 #[no_mangle]
 pub extern "C" fn dequmlo_commit(
+    key: Key,
     widths: u32,
     n: usize,
     k: usize,
@@ -33,17 +35,18 @@ pub extern "C" fn dequmlo_commit(
     coordinates: &mut [usize],
     tree: &mut [u8],
 ) -> u32
-    ensures { λ r. ⌜ r ≡ withSet widths (λ set. commitLent set n k base table gammas codeword coordinates tree) 4 ⌝ }
+    ensures { λ r. ⌜ r ≡ withTrees key widths (λ how. commitLent how n k base table gammas codeword coordinates tree) 4 ⌝ }
     ensures { λ r. ⌜ words (now (gammas .exit)) ≡ onDone r (G.gammas hash (now (base .entry)) n k) (words (now (gammas .entry))) ⌝ }
     ensures { λ r. ⌜ words (now (codeword .exit)) ≡ onDone r (codewordLent n k base table) (words (now (codeword .entry))) ⌝ }
     ensures { λ r. ⌜ now (coordinates .exit) ≡ onDone r (allCoordinates n) (now (coordinates .entry)) ⌝ }
-    ensures { λ r. ⌜ now (tree .exit) ≡ onDone r (committedTree (schemeBy widths base n k) (words (now (table .entry)))) (now (tree .entry)) ⌝ }
+    ensures { λ r. ⌜ now (tree .exit)
+        ≡ onDone r (committedTree (schemeBy key widths base n k) (words (now (table .entry)))) (now (tree .entry)) ⌝ }
 {
     if widths > 1 {
         return 4;
     }
     code_commit::commit(
-        set_of(widths),
+        trees_of(key, widths),
         n,
         k,
         base,
@@ -90,6 +93,7 @@ pub extern "C" fn dequmlo_fold(
 // All levels of the codeword that stands as level 0 at the front of `levels`, by n challenges, their trees and their roots: 4, 5, 7.
 #[no_mangle]
 pub extern "C" fn dequmlo_fold_levels(
+    key: Key,
     widths: u32,
     n: usize,
     k: usize,
@@ -100,17 +104,19 @@ pub extern "C" fn dequmlo_fold_levels(
     trees: &mut [u8],
     roots: &mut [u8],
 ) -> u32
-    ensures { λ r. ⌜ r ≡ withSet widths (λ set. foldLevelsLent set n k base challenges levels half trees roots) 4 ⌝ }
+    ensures { λ r. ⌜ r ≡ withTrees key widths (λ how. foldLevelsLent how n k base challenges levels half trees roots) 4 ⌝ }
     ensures { λ r. ⌜ words (now (levels .exit)) ≡ onDone r (levelsLent n (foldedLent n k challenges levels)) (words (now (levels .entry))) ⌝ }
     ensures { λ r. ⌜ now (half .exit) ≡ onDone r (tab (length (now (half .entry))) (λ v. 0)) (now (half .entry)) ⌝ }
-    ensures { λ r. ⌜ now (trees .exit) ≡ onDone r (treesLent (schemeBy widths base n k) (foldedLent n k challenges levels)) (now (trees .entry)) ⌝ }
-    ensures { λ r. ⌜ now (roots .exit) ≡ onDone r (rootsLent (schemeBy widths base n k) (foldedLent n k challenges levels)) (now (roots .entry)) ⌝ }
+    ensures { λ r. ⌜ now (trees .exit)
+        ≡ onDone r (treesLent (schemeBy key widths base n k) (foldedLent n k challenges levels)) (now (trees .entry)) ⌝ }
+    ensures { λ r. ⌜ now (roots .exit)
+        ≡ onDone r (rootsLent (schemeBy key widths base n k) (foldedLent n k challenges levels)) (now (roots .entry)) ⌝ }
 {
     if widths > 1 {
         return 4;
     }
     code_fold_levels::fold_levels(
-        set_of(widths),
+        trees_of(key, widths),
         n,
         k,
         base,

@@ -1,7 +1,9 @@
 // Parts of the work, each into a buffer of its own, for callers that divide it over threads: a block of the codeword or half of one, entries of a
 // fold, leaves and parents of a tree; the same of a level of a commitment; and the gammas, which come before the blocks. Consecutive parts end to
 // end are what the whole leaves (theory_laws/proofs/Parts).
-use crate::sets::set_of;
+use crate::keys::Key;
+use crate::keys::mode_of;
+use crate::keys::trees_of;
 use field_gf128::Word;
 ghost use mathlib.Core.Path.{_≡_};
 ghost use Prim.Native.Nat.{_*_, _/_};
@@ -10,6 +12,7 @@ ghost use Rattle.theory_laws.specs.Questions.{onDone};
 ghost use Rattle.theory_field.specs.Words.{words};
 ghost use Rattle.field_gf128.specs.Word.{word};
 ghost use Rattle.theory_blake3.specs.Digest.{hash};
+ghost use Rattle.theory_blake3.specs.Modes.{under};
 ghost use Rattle.theory_code.specs.Gammas as G;
 ghost use Rattle.theory_code.specs.Questions.{deriveNumber};
 ghost use Rattle.theory_code.specs.PartQuestions.{blockNumber, halfNumber, foldPartNumber};
@@ -19,7 +22,7 @@ ghost use Rattle.code_parts.specs.Parts.{blockInto, halfInto, foldPartInto};
 ghost use Rattle.tree_parts.specs.Parts.{leavesInto, parentsOf, parentsInto};
 ghost use Rattle.code_level_parts.specs.Numbers.{nextPartNumber, levelParentsNumber};
 ghost use Rattle.code_level_parts.specs.Parts.{levelLeavesOf, levelLeavesLent};
-ghost use Rattle.export_dequmlo.specs.Sets.{setOf, withSet};
+ghost use Rattle.export_dequmlo.specs.Keys.{modeOf, treesOf, withTrees};
 
 // The gammas of a base domain: 4, 5, 7.
 #[no_mangle]
@@ -82,6 +85,7 @@ pub extern "C" fn dequmlo_fold_part(
 // The leaves of a tree from group `first` on: 7, 8, 9, 10, 11, 5.
 #[no_mangle]
 pub extern "C" fn dequmlo_tree_leaves(
+    key: Key,
     domain: &[u8],
     count: usize,
     width: usize,
@@ -90,23 +94,24 @@ pub extern "C" fn dequmlo_tree_leaves(
     out: &mut [u8],
 ) -> u32
     ensures { λ r. ⌜ r ≡ leavesNumber (length (now (domain .entry))) count width first (length (now (values .entry))) (length (now (out .entry))) ⌝ }
-    ensures { λ _. ⌜ now (out .exit) ≡ leavesInto (now (domain .entry)) count width first (now (values .entry)) (now (out .entry)) ⌝ }
+    ensures { λ _. ⌜ now (out .exit) ≡ leavesInto (modeOf key) (now (domain .entry)) count width first (now (values .entry)) (now (out .entry)) ⌝ }
 {
-    tree_parts::leaves(domain, count, width, first, values, out)
+    tree_parts::leaves(mode_of(key), domain, count, width, first, values, out)
 }
 
 // The parents of digests of a level of a tree, two by two: 5, 7.
 #[no_mangle]
 pub extern "C" fn dequmlo_tree_parents(
+    key: Key,
     domain: &[u8],
     level: usize,
     children: &[u8],
     out: &mut [u8],
 ) -> u32
     ensures { λ r. ⌜ r ≡ parentsNumber (length (now (domain .entry))) (length (now (children .entry))) (length (now (out .entry))) ⌝ }
-    ensures { λ _. ⌜ now (out .exit) ≡ parentsInto (now (domain .entry)) level (now (children .entry)) (now (out .entry)) ⌝ }
+    ensures { λ _. ⌜ now (out .exit) ≡ parentsInto (modeOf key) (now (domain .entry)) level (now (children .entry)) (now (out .entry)) ⌝ }
 {
-    tree_parts::parents(domain, level, children, out)
+    tree_parts::parents(mode_of(key), domain, level, children, out)
 }
 
 // Entries of the level after a level, from entry `first` on, by its challenge: 4, 5, 11.
@@ -129,6 +134,7 @@ pub extern "C" fn dequmlo_next_part(
 // The leaves of a level's tree from group `first` on: 4, 5, 7, 11.
 #[no_mangle]
 pub extern "C" fn dequmlo_level_leaves(
+    key: Key,
     widths: u32,
     n: usize,
     k: usize,
@@ -138,18 +144,19 @@ pub extern "C" fn dequmlo_level_leaves(
     values: &[u64],
     out: &mut [u8],
 ) -> u32
-    ensures { λ r. ⌜ r ≡ withSet widths (λ set. levelLeavesLent set n k level base first values out) 4 ⌝ }
-    ensures { λ r. ⌜ now (out .exit) ≡ onDone r (levelLeavesOf (setOf widths) n k level base first values out) (now (out .entry)) ⌝ }
+    ensures { λ r. ⌜ r ≡ withTrees key widths (λ how. levelLeavesLent how n k level base first values out) 4 ⌝ }
+    ensures { λ r. ⌜ now (out .exit) ≡ onDone r (levelLeavesOf (treesOf key widths) n k level base first values out) (now (out .entry)) ⌝ }
 {
     if widths > 1 {
         return 4;
     }
-    code_level_parts::level_leaves(set_of(widths), n, k, level, base, first, values, out)
+    code_level_parts::level_leaves(trees_of(key, widths), n, k, level, base, first, values, out)
 }
 
 // The parents of digests of a level's tree, two by two: 4, 5, 7.
 #[no_mangle]
 pub extern "C" fn dequmlo_level_parents(
+    key: Key,
     n: usize,
     k: usize,
     level: usize,
@@ -159,7 +166,8 @@ pub extern "C" fn dequmlo_level_parents(
     out: &mut [u8],
 ) -> u32
     ensures { λ r. ⌜ r ≡ levelParentsNumber n k level (length (now (base .entry))) (length (now (children .entry))) (length (now (out .entry))) ⌝ }
-    ensures { λ r. ⌜ now (out .exit) ≡ onDone r (parentsOf (levelDomain (now (base .entry)) level) height (now (children .entry))) (now (out .entry)) ⌝ }
+    ensures { λ r. ⌜ now (out .exit)
+        ≡ onDone r (parentsOf (under (modeOf key)) (levelDomain (now (base .entry)) level) height (now (children .entry))) (now (out .entry)) ⌝ }
 {
-    code_level_parts::level_parents(n, k, level, base, height, children, out)
+    code_level_parts::level_parents(mode_of(key), n, k, level, base, height, children, out)
 }

@@ -1,4 +1,6 @@
 // Query and tail records built and checked, and two query records compared.
+use crate::keys::Key;
+use crate::keys::trees_of;
 use crate::sets::set_of;
 use field_gf128::Word;
 use tree_place::Place;
@@ -39,6 +41,7 @@ pub struct Checked {
 // A query record checked: 4, 5, 7, 11, 14 to 26.
 #[no_mangle]
 pub extern "C" fn dequmlo_check_query(
+    key: Key,
     base: &[u8],
     widths: u32,
     n: usize,
@@ -48,7 +51,7 @@ pub extern "C" fn dequmlo_check_query(
     roots: &[u8],
     bytes: &[u8],
 ) -> Checked
-    ensures { λ r. ⌜ checked r ≡ queryAnswer base widths n k position challenges roots bytes ⌝ }
+    ensures { λ r. ⌜ checked r ≡ queryAnswer key base widths n k position challenges roots bytes ⌝ }
 {
     if widths > 1 {
         return Checked {
@@ -57,8 +60,8 @@ pub extern "C" fn dequmlo_check_query(
         };
     }
     let place = Place::at(position);
-    let set = set_of(widths);
-    let a = record_query_check::check_query(base, set, n, k, place, challenges, roots, bytes);
+    let how = trees_of(key, widths);
+    let a = record_query_check::check_query(base, how, n, k, place, challenges, roots, bytes);
     Checked {
         number: a.number,
         level: a.level,
@@ -87,6 +90,7 @@ pub extern "C" fn dequmlo_build_tail(
 // A tail record checked against the last level's root and the terminal claim: 4, 5, 7, 14, 27 to 31.
 #[no_mangle]
 pub extern "C" fn dequmlo_check_tail(
+    key: Key,
     base: &[u8],
     widths: u32,
     n: usize,
@@ -95,12 +99,12 @@ pub extern "C" fn dequmlo_check_tail(
     claim: Word,
     bytes: &[u8],
 ) -> u32
-    ensures { λ r. ⌜ r ≡ tailAnswer base widths n k root (word claim) bytes ⌝ }
+    ensures { λ r. ⌜ r ≡ tailAnswer key base widths n k root (word claim) bytes ⌝ }
 {
     if widths > 1 {
         return 4;
     }
-    record_tail_check::check_tail(base, set_of(widths), n, k, root, claim, bytes)
+    record_tail_check::check_tail(base, trees_of(key, widths), n, k, root, claim, bytes)
 }
 
 // The number, and the lengths of the two messages, 0 where it is refused.
@@ -115,6 +119,7 @@ pub struct Compared {
 // the buffers, of 1,024 bytes each.
 #[no_mangle]
 pub extern "C" fn dequmlo_compare(
+    key: Key,
     base: &[u8],
     widths: u32,
     n: usize,
@@ -127,9 +132,9 @@ pub extern "C" fn dequmlo_compare(
     one: &mut [u8],
     two: &mut [u8],
 ) -> Compared
-    ensures { λ r. ⌜ compared r ≡ comparedAnswer base widths n k position challenges roots first second one two ⌝ }
-    ensures { λ _. ⌜ now (one .exit) ≡ firstAfter base widths n k position challenges roots first second one two ⌝ }
-    ensures { λ _. ⌜ now (two .exit) ≡ secondAfter base widths n k position challenges roots first second one two ⌝ }
+    ensures { λ r. ⌜ compared r ≡ comparedAnswer key base widths n k position challenges roots first second one two ⌝ }
+    ensures { λ _. ⌜ now (one .exit) ≡ firstAfter key base widths n k position challenges roots first second one two ⌝ }
+    ensures { λ _. ⌜ now (two .exit) ≡ secondAfter key base widths n k position challenges roots first second one two ⌝ }
 {
     if widths > 1 {
         return Compared {
@@ -140,7 +145,7 @@ pub extern "C" fn dequmlo_compare(
     }
     let a = compare_records::compare(
         base,
-        set_of(widths),
+        trees_of(key, widths),
         n,
         k,
         Place::at(position),

@@ -21,7 +21,9 @@ use Rattle.ring_partials.specs.Numbers as ring
 use Rattle.ring_indicator.specs.Numbers.{evalQuestions, evalNumber}
 use Rattle.ring_identities.specs.Numbers.{sidesQuestions, sidesNumber}
 use Rattle.hash_hasher.specs.Whole.{digestQuestions, digestOf}
+use Rattle.hash_hasher.specs.declared.hasher.Updated.{Updated}
 use Rattle.hash_hasher.specs.Hasher as hasher
+use Rattle.hash_modes.specs.Answers as modes
 use Rattle.hash_serialize_parts.specs.Parts as parts
 use Rattle.theory_merkle.specs.Questions.{leafQuestions, nodeQuestions, buildQuestions, openQuestions, rootQuestions}
 use Rattle.theory_merkle.specs.Numbers.{leafNumber, nodeNumber, buildNumber, openNumber, rootNumber}
@@ -82,6 +84,7 @@ pub every-entry : EveryEntry
 unfolding known among
     inverseOf refusal blocks.runNumber blocks.hashNumber packNumber eqNumber ring.partialNumber ring.foldNumber evalNumber sidesNumber
     digestOf hasher.numberOf hasher.updateOf hasher.finalizeOf parts.numberOf
+    modes.keyedDigestOf modes.derivedKeyOf modes.keyedHasherOf modes.contextHasherOf
     leafNumber nodeNumber buildNumber openNumber rootNumber leavesNumber parentsNumber
     code.deriveNumber code.shiftNumber code.encodeNumber code.foldNumber code.earlierNumber blockNumber halfNumber foldPartNumber
     commitNumber sizeNumber lengthNumber domainNumber levelTreeNumber
@@ -101,6 +104,12 @@ every-entry =
       digest = λ key flags input. asked (digestQuestions input) refl;
       update = λ s input. asked (hasher.questions s (length input)) refl;
       finalize = λ s. asked (hasher.questions s 0) refl;
+      keyed-digest = λ key input. asked (modes.keyedQuestions key input) refl;
+      derive-key = λ context material. asked (modes.deriveQuestions context material) refl;
+      keyed-hasher = λ key.
+          either-known (λ (r : Updated). r .number) (eqb (firstNo (modes.keyQuestions key)) 0) _ _ refl (asked (modes.keyQuestions key) refl);
+      context-hasher = λ context.
+          either-known (λ (r : Updated). r .number) (eqb (firstNo (digestQuestions context)) 0) _ _ refl (asked (digestQuestions context) refl);
       serialize-parts = λ lengths bytes out. asked (parts.questions lengths bytes out) refl;
       leaf = λ domain count width place values. asked (leafQuestions domain count width place values) refl;
       node = λ domain left right. asked (nodeQuestions domain left right) refl;

@@ -15,6 +15,7 @@ use Rattle.ring_identities.specs.Numbers.{sidesNumber}
 use Rattle.hash_hasher.specs.declared.hasher.Hasher.{Hasher}
 use Rattle.hash_hasher.specs.Whole.{digestOf}
 use Rattle.hash_hasher.specs.Hasher.{updateOf, finalizeOf}
+use Rattle.hash_modes.specs.Answers.{keyedDigestOf, derivedKeyOf, keyedHasherOf, contextHasherOf}
 use Rattle.hash_serialize_parts.specs.Parts as parts
 use Rattle.theory_merkle.specs.Numbers.{leafNumber, nodeNumber, buildNumber, openNumber, rootNumber}
 use Rattle.theory_merkle.specs.PartQuestions.{leavesNumber, parentsNumber}
@@ -60,6 +61,14 @@ pub record EveryEntry : Type 1 where
   -- hasher: update, finalize
   pub update : (s : Hasher) (input : List ℕ) → Known (updateOf s input .number)
   pub finalize : (s : Hasher) → Known (finalizeOf s .number)
+  -- digest in keyed mode
+  pub keyed-digest : (key input : List ℕ) → Known (keyedDigestOf key input .number)
+  -- key derivation
+  pub derive-key : (context material : List ℕ) → Known (derivedKeyOf context material .number)
+  -- hasher: started with a key
+  pub keyed-hasher : (key : List ℕ) → Known (keyedHasherOf key .number)
+  -- hasher: started with a context
+  pub context-hasher : (context : List ℕ) → Known (contextHasherOf context .number)
   -- serialize_parts
   pub serialize-parts : (lengths : List ℕ) (bytes out : ℕ) → Known (parts.numberOf lengths bytes out)
   -- leaf digest of the group of a place
@@ -126,7 +135,7 @@ pub record EveryEntry : Type 1 where
       → Known (run.runNumber s n k position base table calls challenges gammas levels coordinates half kept trees roots query tail one two)
   -- the program tail-list
   pub tail-list : (input : List ℕ) → Known (tailNumber input)
-  -- an exported function that is given the number of a set of widths: where the entry's answer under each set has such a number, and so has the one that is
-  -- given instead (4), then what it answers has
+  -- an exported function that is given the number of a set of widths, with a key or without: where the entry's answer under each set has such a
+  -- number, and so has the one that is given instead (4), then what it answers has
   pub by-number : {A : Type 0} (number : A → ℕ) (widths : ℕ) (made : WidthSet → A) (instead : A) → ((set : WidthSet) → Known (number (made set)))
       → Known (number instead) → Known (number (withSet widths made instead))

@@ -15,7 +15,7 @@ use Rattle.bytes_numbers.specs.helpers.Put.{Put}
 use Rattle.tree_digest.proofs.Messages.{message-length}
 use Rattle.theory_record.specs.Trees.{leadsTo}
 use Rattle.theory_record.specs.Format.{runCount, runSize, runFits, runItems}
-use Rattle.theory_record.specs.declared.WidthSet.{WidthSet}
+use Rattle.theory_record.specs.declared.Trees.{Trees}
 use Rattle.theory_record.specs.Widths.{widthsOf, widest}
 use Rattle.theory_record.proofs.Domain.{levelDomain-fits}
 use Rattle.theory_record.proofs.Widths.{powers, width-most, level-shape, width-pos}
@@ -41,14 +41,14 @@ pub record Room (S : Scheme) (l : ℕ) (s : List ℕ) (group path : ℕ) : Type 
   pub group-room : group + 4 + 16 * widthAt S l ≤ length s
   pub path-room : path + 4 + 32 * depthAt S l ≤ length s
 
-pub sized-room : (set : WidthSet) {base : List ℕ} {n k l : ℕ} {s : List ℕ} {group path : ℕ} → Sized (scheme set base n k) l s group path
-    → Room (scheme set base n k) l s group path
-sized-room set {base} {n} {k} {l} {s} {group} {path} z =
+pub sized-room : (how : Trees) {base : List ℕ} {n k l : ℕ} {s : List ℕ} {group path : ℕ} → Sized (scheme how base n k) l s group path
+    → Room (scheme how base n k) l s group path
+sized-room how {base} {n} {k} {l} {s} {group} {path} z =
     let r = z .readable in
     record {
       domain-short = levelDomain-fits base l (r .base-short) (omega arith);
-      width-pos = width-pos (widthsOf set) n k l (level-shape (widthsOf set) n k l (powers set));
-      width-le = width-most set n k l;
+      width-pos = width-pos (widthsOf (how .set)) n k l (level-shape (widthsOf (how .set)) n k l (powers (how .set)));
+      width-le = width-most (how .set) n k l;
       group-room = rw (z .width-is) at (run-room 16 s group (r .group-fits));
       path-room = rw (z .depth-is) at (run-room 32 s path (r .path-fits));
     }

@@ -10,7 +10,6 @@ use Rattle.theory_laws.specs.Lists.{part, runs, leValue}
 use Rattle.theory_laws.proofs.Lists.{length-runs, getD-runs}
 use Rattle.theory_field.specs.Words.{words, joined}
 use Rattle.theory_field.proofs.Words.{Filled, at-words, length-words-even}
-use Rattle.theory_blake3.specs.Digest.{hash}
 use Rattle.theory_merkle.specs.Tree.{leafDigest}
 use Rattle.theory_record.specs.Widths.{widest}
 use Rattle.record_opening.specs.helpers.Opening.{valuesFrom}
@@ -40,9 +39,9 @@ values-filled s from c i v f n h g =
 pub halves-long : (c : ℕ) (l : List ℕ) → length l ≡ 2 * widest → c ≤ widest → 2 * c ≡ length (take (2 * c) l)
 halves-long c l n h = sym (length-take-le (2 * c) l (omega arith))
 
-pub leaf-of-values : (domain : List ℕ) (count width g : ℕ) (ws vs d : List ℕ) → d ≡ leafDigest hash domain count width g ws → ws ≡ vs
-    → d ≡ leafDigest hash domain count width g vs
-leaf-of-values domain count width g ws vs d e f = e ∙ ap (leafDigest hash domain count width g) f
+pub leaf-of-values : (H : List ℕ → List ℕ) (domain : List ℕ) (count width g : ℕ) (ws vs d : List ℕ) → d ≡ leafDigest H domain count width g ws → ws ≡ vs
+    → d ≡ leafDigest H domain count width g vs
+leaf-of-values H domain count width g ws vs d e f = e ∙ ap (leafDigest H domain count width g) f
 
 pub halves-back : (c : ℕ) (l : List ℕ) → length l ≡ 2 * widest → c ≤ widest → length (take (2 * c) l) ≡ 2 * c
 halves-back c l n h = sym (halves-long c l n h)

@@ -11,7 +11,8 @@ use code_level::level_width;
 use field_gf128::Word;
 use record_reader::count_at;
 use record_reader::word_at;
-use theory_record::WidthSet;
+use theory_blake3::Mode;
+use theory_record::Trees;
 use tree_digest::hash_group;
 use tree_message::leaf_prefix;
 use tree_place::Group;
@@ -27,7 +28,7 @@ ghost use Rattle.theory_laws.specs.Lists.{part, same};
 ghost use Rattle.theory_field.specs.Words.{words};
 ghost use Rattle.field_gf128.specs.Word.{word};
 ghost use Rattle.theory_merkle.specs.Tree.{leafDigest};
-ghost use Rattle.theory_blake3.specs.Digest.{hash};
+ghost use Rattle.theory_blake3.specs.Modes.{under};
 ghost use Rattle.tree_place.specs.Place.{index, number};
 ghost use Rattle.record_opening.specs.helpers.Opening.{valuesFrom, leadsAt, rootFrom, WayThere, Readable, Sized, numberAt, AgainThere};
 ghost use Rattle.record_opening.specs.helpers.Again.{OldThere, Same};
@@ -54,6 +55,7 @@ pub fn group_values(s: &[u8], from: usize, width: usize) -> [u64; 2 * WIDEST]
 
 // The digest of the group whose values stand from a byte of a record on.
 fn leaf_at(
+    mode: Mode,
     domain: &[u8],
     count: usize,
     width: usize,
@@ -62,16 +64,24 @@ fn leaf_at(
     from: usize,
 ) -> [u8; 32]
     requires { ⌜ (length (now domain) ≤ 255) × (width ≤ widest) × (from + 16 * width ≤ length (now s)) ⌝ }
-    ensures { λ r. ⌜ r ≡ leafDigest hash (now (domain .entry)) count width (number group) (valuesFrom (now (s .entry)) from width) ⌝ }
+    ensures { λ r. ⌜ r ≡ leafDigest (under mode) (now (domain .entry)) count width (number group) (valuesFrom (now (s .entry)) from width) ⌝ }
 {
     let values = group_values(s, from, width);
     let mut message = [0u8; LEVEL_LEAF];
     let prefix = leaf_prefix(&mut message, domain, count, width);
-    hash_group(&mut message, prefix, width, group, &values[..2 * width])
+    hash_group(
+        mode,
+        &mut message,
+        prefix,
+        width,
+        group,
+        &values[..2 * width],
+    )
 }
 
 // The root that the group of a place, whose values stand from one byte of a record on, and the digests from another lead to.
 fn root_from(
+    mode: Mode,
     domain: &[u8],
     count: usize,
     width: usize,
@@ -82,17 +92,17 @@ fn root_from(
     depth: usize,
 ) -> [u8; 32]
     requires { ⌜ WayThere (length (now domain)) width (length (now s)) from «path_from» depth ⌝ }
-    ensures { λ r. ⌜ r ≡ rootFrom (now (domain .entry)) count width (index place) (now (s .entry)) from «path_from» depth ⌝ }
+    ensures { λ r. ⌜ r ≡ rootFrom (under mode) (now (domain .entry)) count width (index place) (now (s .entry)) from «path_from» depth ⌝ }
 {
     let g = group_of(place, width);
-    let leaf = leaf_at(domain, count, width, g, s, from);
-    climb_path(domain, g, leaf, s, path_from, depth)
+    let leaf = leaf_at(mode, domain, count, width, g, s, from);
+    climb_path(mode, domain, g, leaf, s, path_from, depth)
 }
 
 // The root that a place of level l, and the group and the path that stand at these bytes of a record lead to.
 pub fn leads_to(
     base: &[u8],
-    set: WidthSet,
+    how: Trees,
     n: usize,
     k: usize,
     l: usize,
@@ -101,15 +111,18 @@ pub fn leads_to(
     group_at: usize,
     path_at: usize,
 ) -> [u8; 32]
-    requires { ⌜ Sized (scheme set (now base) n k) l (now s) «group_at» «path_at» ⌝ }
-    ensures { λ r. ⌜ r ≡ leadsAt (scheme set (now (base .entry)) n k) l (index place) (now (s .entry)) «group_at» «path_at» ⌝ }
+    requires { ⌜ Sized (scheme how (now base) n k) l (now s) «group_at» «path_at» ⌝ }
+    ensures { λ r. ⌜ r ≡ leadsAt (scheme how (now (base .entry)) n k) l (index place) (now (s .entry)) «group_at» «path_at» ⌝ }
 {
     let mut domain = [0u8; DOMAIN];
     let d = level_domain(&mut domain, base, l);
     let count = level_length(n, k, l);
+    let set = how.set;
     let width = level_width(set, n, k, l);
     let depth = level_depth(set, n, k, l);
+    let mode = how.mode;
     root_from(
+        mode,
         &domain[..d],
         count,
         width,
@@ -145,7 +158,7 @@ fn same_digest(a: [u8; 32], b: [u8; 32]) -> bool
 // length, the root.
 pub fn opening_number(
     base: &[u8],
-    set: WidthSet,
+    how: Trees,
     n: usize,
     k: usize,
     l: usize,
@@ -156,16 +169,17 @@ pub fn opening_number(
     root: [u8; 32],
     first: u32,
 ) -> u32
-    requires { ⌜ (Readable (scheme set (now base) n k) l (now s) «group_at» «path_at») × (first < 100) ⌝ }
-    ensures { λ r. ⌜ r ≡ numberAt (scheme set (now (base .entry)) n k) l (index place) (now (s .entry)) «group_at» «path_at» root first ⌝ }
+    requires { ⌜ (Readable (scheme how (now base) n k) l (now s) «group_at» «path_at») × (first < 100) ⌝ }
+    ensures { λ r. ⌜ r ≡ numberAt (scheme how (now (base .entry)) n k) l (index place) (now (s .entry)) «group_at» «path_at» root first ⌝ }
 {
+    let set = how.set;
     if count_at(s, group_at) != level_width(set, n, k, l) {
         return first;
     }
     if count_at(s, path_at) != level_depth(set, n, k, l) {
         return first + 1;
     }
-    let d = leads_to(base, set, n, k, l, place, s, group_at, path_at);
+    let d = leads_to(base, how, n, k, l, place, s, group_at, path_at);
     if !same_digest(d, root) {
         return first + 2;
     }
@@ -227,7 +241,7 @@ fn same_opening(
 // the next level's a: what is known to lead to this root is not hashed again.
 pub fn opening_again(
     base: &[u8],
-    set: WidthSet,
+    how: Trees,
     n: usize,
     k: usize,
     l: usize,
@@ -239,13 +253,14 @@ pub fn opening_again(
     first: u32,
     old: Opened,
 ) -> u32
-    requires { ⌜ AgainThere (scheme set (now base) n k) n l (index place) (now s) «group_at» «path_at» old root first ⌝ }
-    ensures { λ r. ⌜ r ≡ numberAt (scheme set (now (base .entry)) n k) l (index place) (now (s .entry)) «group_at» «path_at» root first ⌝ }
+    requires { ⌜ AgainThere (scheme how (now base) n k) n l (index place) (now s) «group_at» «path_at» old root first ⌝ }
+    ensures { λ r. ⌜ r ≡ numberAt (scheme how (now (base .entry)) n k) l (index place) (now (s .entry)) «group_at» «path_at» root first ⌝ }
 {
+    let set = how.set;
     let w = level_width(set, n, k, l);
     let d = level_depth(set, n, k, l);
     if same_opening(s, group_at, path_at, old, w, d) {
         return 0;
     }
-    opening_number(base, set, n, k, l, place, s, group_at, path_at, root, first)
+    opening_number(base, how, n, k, l, place, s, group_at, path_at, root, first)
 }

@@ -15,7 +15,7 @@ use record_reader::count_at;
 use record_reader::level_at;
 use record_reader::query_whole;
 use record_reader::word_at;
-use theory_record::WidthSet;
+use theory_record::Trees;
 use tree_place::Place;
 use tree_place::in_group;
 ghost use mathlib.Core.Path.{_≡_};
@@ -67,7 +67,7 @@ fn holds(s: &[u8], group_at: usize, width: usize, place: Place, w: Word) -> bool
 // 16 to 19 and 21: the group of a and b, at places 2q and 2q + 1 of level l. It may be known from the level before, whose c it holds.
 fn a_number(
     base: &[u8],
-    set: WidthSet,
+    how: Trees,
     n: usize,
     k: usize,
     l: usize,
@@ -80,13 +80,14 @@ fn a_number(
     b: Word,
     old: Opened,
 ) -> u32
-    requires { ⌜ PairThere (scheme set (now base) n k) l (index q) (now s) «group_at» «path_at» root old ⌝ }
-    ensures { λ r. ⌜ r ≡ aNumberAt (schemeOf set base n k) l (index q) (now (s .entry)) «group_at» «path_at» root (word a) (word b) ⌝ }
+    requires { ⌜ PairThere (scheme how (now base) n k) l (index q) (now s) «group_at» «path_at» root old ⌝ }
+    ensures { λ r. ⌜ r ≡ aNumberAt (schemeOf how base n k) l (index q) (now (s .entry)) «group_at» «path_at» root (word a) (word b) ⌝ }
 {
+    let set = how.set;
     let first = q.first_of_pair();
     let x = opening_again(
         base,
-        set,
+        how,
         n,
         k,
         l,
@@ -115,7 +116,7 @@ fn a_number(
 // 22 to 25: the group of c, at place q of level l.
 fn c_number(
     base: &[u8],
-    set: WidthSet,
+    how: Trees,
     n: usize,
     k: usize,
     l: usize,
@@ -126,10 +127,11 @@ fn c_number(
     root: [u8; 32],
     c: Word,
 ) -> u32
-    requires { ⌜ Readable (scheme set (now base) n k) l (now s) «group_at» «path_at» ⌝ }
-    ensures { λ r. ⌜ r ≡ cNumberAt (schemeOf set base n k) l (index q) (now (s .entry)) «group_at» «path_at» root (word c) ⌝ }
+    requires { ⌜ Readable (scheme how (now base) n k) l (now s) «group_at» «path_at» ⌝ }
+    ensures { λ r. ⌜ r ≡ cNumberAt (schemeOf how base n k) l (index q) (now (s .entry)) «group_at» «path_at» root (word c) ⌝ }
 {
-    let x = opening_number(base, set, n, k, l, q, s, group_at, path_at, root, 22);
+    let set = how.set;
+    let x = opening_number(base, how, n, k, l, q, s, group_at, path_at, root, 22);
     if x != 0 {
         return x;
     }
@@ -143,7 +145,7 @@ fn c_number(
 // 16 to 26: the level that stands at a byte of the record, of which the level before may have opened the group of a and b.
 fn level_number(
     base: &[u8],
-    set: WidthSet,
+    how: Trees,
     n: usize,
     k: usize,
     position: Place,
@@ -155,8 +157,8 @@ fn level_number(
     v: Level,
     old: Opened,
 ) -> u32
-    requires { ⌜ LevelThere (scheme set (now base) n k) (index position) (now challenges) (now roots) l (now s) at v old ⌝ }
-    ensures { λ r. ⌜ r ≡ levelAsked (schemeOf set base n k) (index position) (now (challenges .entry)) (now (roots .entry)) l (now (s .entry)) at ⌝ }
+    requires { ⌜ LevelThere (scheme how (now base) n k) (index position) (now challenges) (now roots) l (now s) at v old ⌝ }
+    ensures { λ r. ⌜ r ≡ levelAsked (schemeOf how base n k) (index position) (now (challenges .entry)) (now (roots .entry)) l (now (s .entry)) at ⌝ }
 {
     let q = pair_of(position, l);
     let a = word_at(s, at);
@@ -165,7 +167,7 @@ fn level_number(
     let ra = load(roots, 32 * l);
     let x = a_number(
         base,
-        set,
+        how,
         n,
         k,
         l,
@@ -184,7 +186,7 @@ fn level_number(
     let rc = load(roots, 32 * (l + 1));
     let y = c_number(
         base,
-        set,
+        how,
         n,
         k,
         l + 1,
@@ -209,7 +211,7 @@ fn level_number(
 // 16 to 26, level by level, of a record that reads whole and has n levels.
 fn check_levels(
     base: &[u8],
-    set: WidthSet,
+    how: Trees,
     n: usize,
     k: usize,
     position: Place,
@@ -217,8 +219,8 @@ fn check_levels(
     roots: &[u8],
     s: &[u8],
 ) -> Checked
-    requires { ⌜ (Allowed (scheme set (now base) n k) (index position) (now challenges) (now roots)) × (Whole n (now s)) ⌝ }
-    ensures { λ r. ⌜ answer r ≡ allAsked (schemeOf set base n k) (index position) (now (challenges .entry)) (now (roots .entry)) (now (s .entry)) ⌝ }
+    requires { ⌜ (Allowed (scheme how (now base) n k) (index position) (now challenges) (now roots)) × (Whole n (now s)) ⌝ }
+    ensures { λ r. ⌜ answer r ≡ allAsked (schemeOf how base n k) (index position) (now (challenges .entry)) (now (roots .entry)) (now (s .entry)) ⌝ }
 {
     let mut l: usize = 0;
     let mut at: usize = 4;
@@ -231,7 +233,7 @@ fn check_levels(
         let v = level_at(s, at);
         let q = level_number(
             base,
-            set,
+            how,
             n,
             k,
             position,
@@ -303,7 +305,7 @@ fn query_number(
 // Check a query record for a position, lent n challenges and n + 1 roots, level 0 first: 4, 5, 7, 11, 14, 15, then level by level 16 to 26.
 pub fn check_query(
     base: &[u8],
-    set: WidthSet,
+    how: Trees,
     n: usize,
     k: usize,
     position: Place,
@@ -311,7 +313,7 @@ pub fn check_query(
     roots: &[u8],
     s: &[u8],
 ) -> Checked
-    ensures { λ r. ⌜ answer r ≡ checkQuery (schemeOf set base n k) (index position) (now (challenges .entry)) (now (roots .entry)) (now (s .entry)) ⌝ }
+    ensures { λ r. ⌜ answer r ≡ checkQuery (schemeOf how base n k) (index position) (now (challenges .entry)) (now (roots .entry)) (now (s .entry)) ⌝ }
 {
     let number = query_number(base, n, k, position, challenges, roots, s);
     if number != 0 {
@@ -320,5 +322,5 @@ pub fn check_query(
             level: 0,
         };
     }
-    check_levels(base, set, n, k, position, challenges, roots, s)
+    check_levels(base, how, n, k, position, challenges, roots, s)
 }

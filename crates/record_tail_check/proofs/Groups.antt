@@ -17,7 +17,7 @@ use Rattle.field_gf128.specs.Word.{word}
 use Rattle.record_reader.specs.helpers.Places.{groupAt}
 use Rattle.record_reader.specs.declared.TailGroup.{TailGroup}
 use Rattle.record_reader.proofs.Places.{group-places, group-more}
-use Rattle.theory_record.specs.declared.WidthSet.{WidthSet}
+use Rattle.theory_record.specs.declared.Trees.{Trees}
 use Rattle.theory_record.specs.Widths.{widthsOf, levelLength, levelWidth, levelGroups}
 use Rattle.theory_record.specs.Format.{tailForm, tailGroupOf, tailGroupFits, fromTailPath, runFits, runCount, runItems, wholeItems, itemsOf, recordItems}
 use Rattle.theory_record.specs.Tail.{firstValue, groupQuestions}
@@ -49,7 +49,7 @@ module _ (s : List ℕ) (c m : ℕ) (h : 0 < c) (e : m ≡ runCount (drop 4 s)) 
 
 -- ---- what is read is there
 
-module _ {base : List ℕ} {set : WidthSet} {n k : ℕ} {s : List ℕ} (z : Allowed base set n k s) {c : ℕ} (ec : c ≡ levelGroups (widthsOf set) n k n) where
+module _ {base : List ℕ} {how : Trees} {n k : ℕ} {s : List ℕ} (z : Allowed base how n k s) {c : ℕ} (ec : c ≡ levelGroups (widthsOf (how .set)) n k n) where
   pub begin-within : 4 ≤ length s
   begin-within = whole-counts tailForm s (z .reads-whole)
 
@@ -57,12 +57,12 @@ module _ {base : List ℕ} {set : WidthSet} {n k : ℕ} {s : List ℕ} (z : Allo
   begin-whole = whole-items tailForm s c (z .reads-whole) (z .groups-are ∙ sym ec)
 
   pub some-group : 0 < c
-  some-group = rw ec (groups-pos (widthsOf set) n k n (level-shape (widthsOf set) n k n (powers set)))
+  some-group = rw ec (groups-pos (widthsOf (how .set)) n k n (level-shape (widthsOf (how .set)) n k n (powers (how .set))))
 
-  pub place-small : (g : ℕ) {w : ℕ} → g < c → w ≡ levelWidth (widthsOf set) n k n → g * w ≤ 16
+  pub place-small : (g : ℕ) {w : ℕ} → g < c → w ≡ levelWidth (widthsOf (how .set)) n k n → g * w ≤ 16
   place-small g {w} h ew =
-      let e : levelGroups (widthsOf set) n k n * levelWidth (widthsOf set) n k n ≡ 2 ^ k =
-      groups-times-width (widthsOf set) n k n (level-shape (widthsOf set) n k n (powers set)) ∙ last-length n k in
+      let e : levelGroups (widthsOf (how .set)) n k n * levelWidth (widthsOf (how .set)) n k n ≡ 2 ^ k =
+      groups-times-width (widthsOf (how .set)) n k n (level-shape (widthsOf (how .set)) n k n (powers (how .set))) ∙ last-length n k in
       let f : c * w ≡ 2 ^ k = rw (ec, ew) e in
       let b : 2 ^ k ≤ 2 ^ 4 = pow-mono {i = k} {j = 4} (z .k-most) in
       let m : g * w ≤ c * w = mul-le-mul-right w (omega arith) in
@@ -75,7 +75,7 @@ module _ {base : List ℕ} {set : WidthSet} {n k : ℕ} {s : List ℕ} (z : Allo
     pub rest-there : wholeItems tailForm (c - (g + 1)) (drop (v .next) s) ≡ true
     rest-there = group-more s i c g true v ev h w (ap not there)
 
-    pub group-readable : Readable (scheme set base n k) n s i (v .«path_at»)
+    pub group-readable : Readable (scheme how base n k) n s i (v .«path_at»)
     unfolding tailGroupFits
     group-readable =
         let p = group-places s i v ev in
@@ -92,44 +92,44 @@ module _ {base : List ℕ} {set : WidthSet} {n k : ℕ} {s : List ℕ} (z : Allo
 -- ---- the loop
 
 -- what is left of the check, from group g on, of c, which starts at place i
-unfoldable pub groupsLeft : List ℕ → WidthSet → ℕ → ℕ → List ℕ → ℕ → List ℕ → ℕ → ℕ → ℕ → ℕ
-groupsLeft base set n k root claim s c i g = checkGroupsFrom (scheme set base n k) root s c (claimed set n k claim s) i g
+unfoldable pub groupsLeft : List ℕ → Trees → ℕ → ℕ → List ℕ → ℕ → List ℕ → ℕ → ℕ → ℕ → ℕ
+groupsLeft base how n k root claim s c i g = checkGroupsFrom (scheme how base n k) root s c (claimed how n k claim s) i g
 
-pub begin-groups : (base : List ℕ) (set : WidthSet) (n k : ℕ) (root : List ℕ) (claim : ℕ) (s : List ℕ) (c : ℕ) → c ≡ levelGroups (widthsOf set) n k n
-    → groupsLeft base set n k root claim s c 4 0 ≡ groupsNumber base set n k root claim s
+pub begin-groups : (base : List ℕ) (how : Trees) (n k : ℕ) (root : List ℕ) (claim : ℕ) (s : List ℕ) (c : ℕ) → c ≡ levelGroups (widthsOf (how .set)) n k n
+    → groupsLeft base how n k root claim s c 4 0 ≡ groupsNumber base how n k root claim s
 unfolding groupsLeft groupsNumber recordItems
-begin-groups base set n k root claim s c e =
-    let z : c - 0 ≡ levelGroups (widthsOf set) n k n = omega arith in
+begin-groups base how n k root claim s c e =
+    let z : c - 0 ≡ levelGroups (widthsOf (how .set)) n k n = omega arith in
     rw z
 
-module _ (base : List ℕ) (set : WidthSet) (n k : ℕ) (root : List ℕ) (claim : ℕ) (s : List ℕ) (c i g : ℕ) {r : ℕ}
-    (e : groupsLeft base set n k root claim s c i g ≡ r) where
+module _ (base : List ℕ) (how : Trees) (n k : ℕ) (root : List ℕ) (claim : ℕ) (s : List ℕ) (c i g : ℕ) {r : ℕ}
+    (e : groupsLeft base how n k root claim s c i g ≡ r) where
   module _ {v : TailGroup} {q w first : ℕ} (ev : v ≡ groupAt s i) (ef : first ≡ g * w)
-      (eq : q ≡ openingNumber (scheme set base n k) n first (valuesAt s i) (digestsAt s (v .«path_at»)) root 28)
-      (ew : w ≡ levelWidth (widthsOf set) n k n) (h : g < c) where
-    number-is : q ≡ firstNo (groupQuestions (scheme set base n k) root g (tailGroupOf (drop i s)))
+      (eq : q ≡ openingNumber (scheme how base n k) n first (valuesAt s i) (digestsAt s (v .«path_at»)) root 28)
+      (ew : w ≡ levelWidth (widthsOf (how .set)) n k n) (h : g < c) where
+    number-is : q ≡ firstNo (groupQuestions (scheme how base n k) root g (tailGroupOf (drop i s)))
     unfolding openingNumber valuesAt digestsAt tailGroupOf
     number-is =
         let p = group-places s i v ev .path in
         rw (← p)
-        (eq ∙ ap (λ (x : ℕ). openingNumber (scheme set base n k) n x (valuesAt s i) (digestsAt s (v .«path_at»)) root 28) (ef ∙ ap (λ (x : ℕ). g * x) ew))
+        (eq ∙ ap (λ (x : ℕ). openingNumber (scheme how base n k) n x (valuesAt s i) (digestsAt s (v .«path_at»)) root 28) (ef ∙ ap (λ (x : ℕ). g * x) ew))
 
     pub group-refused : (q ≡ 0 → ⊥) → q ≡ r
     unfolding groupsLeft
-    group-refused z = groups-stop (scheme set base n k) root s c (claimed set n k claim s) i g r q h number-is z e
+    group-refused z = groups-stop (scheme how base n k) root s c (claimed how n k claim s) i g r q h number-is z e
 
-    pub group-passed : q ≡ 0 → groupsLeft base set n k root claim s c (v .next) (g + 1) ≡ r
+    pub group-passed : q ≡ 0 → groupsLeft base how n k root claim s c (v .next) (g + 1) ≡ r
     unfolding groupsLeft
-    group-passed z = groups-step (scheme set base n k) root s c (claimed set n k claim s) i g r (v .next) q h number-is z (group-places s i v ev .after) e
+    group-passed z = groups-step (scheme how base n k) root s c (claimed how n k claim s) i g r (v .next) q h number-is z (group-places s i v ev .after) e
 
   -- the claim
-  module _ (h : c ≤ g) (ec : c ≡ levelGroups (widthsOf set) n k n) {x : ℕ} {t : Bool} (ex : x ≡ firstValue (recordItems tailForm c s))
+  module _ (h : c ≤ g) (ec : c ≡ levelGroups (widthsOf (how .set)) n k n) {x : ℕ} {t : Bool} (ex : x ≡ firstValue (recordItems tailForm c s))
       (et : t ≡ eqb x claim) where
-    claim-left : firstNo (claimed set n k claim s) ≡ r
+    claim-left : firstNo (claimed how n k claim s) ≡ r
     unfolding groupsLeft
-    claim-left = groups-end (scheme set base n k) root s c (claimed set n k claim s) i g r h e
+    claim-left = groups-end (scheme how base n k) root s c (claimed how n k claim s) i g r h e
 
-    said : t ≡ eqb (firstValue (recordItems tailForm (levelGroups (widthsOf set) n k n) s)) claim
+    said : t ≡ eqb (firstValue (recordItems tailForm (levelGroups (widthsOf (how .set)) n k n) s)) claim
     said = et ∙ ap (λ (y : ℕ). eqb y claim) (ex ∙ ap (λ (j : ℕ). firstValue (recordItems tailForm j s)) ec)
 
     pub not-claimed : not t ≡ true → 31 ≡ r

@@ -10,7 +10,7 @@ use record_reader::count_at;
 use record_reader::group_at;
 use record_reader::tail_whole;
 use record_reader::word_at;
-use theory_record::WidthSet;
+use theory_record::Trees;
 use tree_place::Group;
 ghost use mathlib.Core.Path.{_≡_};
 ghost use Prim.Native.Nat.{_<_};
@@ -34,16 +34,17 @@ fn first_value(s: &[u8], groups: usize) -> Word
 // 28 to 30, group by group, and 31.
 fn groups_number(
     base: &[u8],
-    set: WidthSet,
+    how: Trees,
     n: usize,
     k: usize,
     root: [u8; 32],
     claim: Word,
     s: &[u8],
 ) -> u32
-    requires { ⌜ Allowed (now base) set n k (now s) ⌝ }
-    ensures { λ r. ⌜ r ≡ groupsNumber (now (base .entry)) set n k root (word claim) (now (s .entry)) ⌝ }
+    requires { ⌜ Allowed (now base) how n k (now s) ⌝ }
+    ensures { λ r. ⌜ r ≡ groupsNumber (now (base .entry)) how n k root (word claim) (now (s .entry)) ⌝ }
 {
+    let set = how.set;
     let groups = level_groups(set, n, k, n);
     let width = level_width(set, n, k, n);
     let mut g: usize = 0;
@@ -51,7 +52,7 @@ fn groups_number(
     while g < groups {
         let v = group_at(s, at);
         let first = Group::numbered(g).first_place(width);
-        let q = opening_number(base, set, n, k, n, first, s, at, v.path_at, root, 28);
+        let q = opening_number(base, how, n, k, n, first, s, at, v.path_at, root, 28);
         if q != 0 {
             return q;
         }
@@ -66,9 +67,10 @@ fn groups_number(
 }
 
 // 4, 5, 7, 14 and 27.
-fn head_number(base: &[u8], set: WidthSet, n: usize, k: usize, root: &[u8], s: &[u8]) -> u32
-    ensures { λ r. ⌜ r ≡ headNumber (now (base .entry)) set n k (now (root .entry)) (now (s .entry)) ⌝ }
+fn head_number(base: &[u8], how: Trees, n: usize, k: usize, root: &[u8], s: &[u8]) -> u32
+    ensures { λ r. ⌜ r ≡ headNumber (now (base .entry)) how n k (now (root .entry)) (now (s .entry)) ⌝ }
 {
+    let set = how.set;
     let x = size_number(n, k);
     if x != 0 {
         return x;
@@ -91,19 +93,19 @@ fn head_number(base: &[u8], set: WidthSet, n: usize, k: usize, root: &[u8], s: &
 // Check a tail record, lent the last level's root and the terminal claim: 4, 5, 7, 14, 27, then group by group 28 to 30, and 31.
 pub fn check_tail(
     base: &[u8],
-    set: WidthSet,
+    how: Trees,
     n: usize,
     k: usize,
     root: &[u8],
     claim: Word,
     s: &[u8],
 ) -> u32
-    ensures { λ r. ⌜ r ≡ checkTail (scheme set (now (base .entry)) n k) (now (root .entry)) (word claim) (now (s .entry)) ⌝ }
+    ensures { λ r. ⌜ r ≡ checkTail (scheme how (now (base .entry)) n k) (now (root .entry)) (word claim) (now (s .entry)) ⌝ }
 {
-    let number = head_number(base, set, n, k, root, s);
+    let number = head_number(base, how, n, k, root, s);
     if number != 0 {
         return number;
     }
     let last = load(root, 0);
-    groups_number(base, set, n, k, last, claim, s)
+    groups_number(base, how, n, k, last, claim, s)
 }

@@ -1,6 +1,6 @@
 // What the comparison with the Rust and the benchmark call: leaves and entries, exported under names of their own. It is no part of what
 // people link. A helper that requires is called only where its requirement holds; elsewhere nothing is done. The set of widths is the present
-// one, which is the Rust's.
+// one, which is the Rust's, and trees have no key, as the Rust's have none.
 use code_profile::Parameters;
 use code_profile::Profile;
 use field_blocks::Block;
@@ -8,6 +8,8 @@ use field_blocks::Hashed;
 use field_gf128::Inverse;
 use field_gf128::Word;
 use hash_hasher::whole::Digested;
+use theory_blake3::Mode;
+use theory_record::Trees;
 use theory_record::WidthSet;
 use tree_place::Place;
 
@@ -344,6 +346,18 @@ pub extern "C" fn dequmlo_test_fold_sides(
     numbered(ring_identities::fold_sides(n, packed, point, words, table))
 }
 
+// The mode of the Rust's trees.
+fn no_key() -> Mode {
+    hash_modes::hash_mode()
+}
+
+// How the Rust's trees are made.
+fn trees() -> Trees {
+    let set = WidthSet::Present;
+    let mode = no_key();
+    Trees { set, mode }
+}
+
 #[no_mangle]
 pub extern "C" fn dequmlo_test_build(
     domain: &[u8],
@@ -352,7 +366,7 @@ pub extern "C" fn dequmlo_test_build(
     values: &[u64],
     tree: &mut [u8],
 ) -> u32 {
-    tree_build::build(domain, count, width, values, tree)
+    tree_build::build(no_key(), domain, count, width, values, tree)
 }
 
 #[no_mangle]
@@ -372,7 +386,7 @@ pub extern "C" fn dequmlo_test_leaf_digest(
     place: usize,
     values: &[u64],
 ) -> Digested {
-    tree_digest::leaf_digest(domain, count, width, Place::at(place), values)
+    tree_digest::leaf_digest(no_key(), domain, count, width, Place::at(place), values)
 }
 
 #[no_mangle]
@@ -382,7 +396,7 @@ pub extern "C" fn dequmlo_test_node_digest(
     left: &[u8],
     right: &[u8],
 ) -> Digested {
-    tree_digest::node_digest(domain, level, left, right)
+    tree_digest::node_digest(no_key(), domain, level, left, right)
 }
 
 #[no_mangle]
@@ -405,7 +419,15 @@ pub extern "C" fn dequmlo_test_root_of_path(
     values: &[u64],
     path: &[u8],
 ) -> Digested {
-    tree_path::root_of_path(domain, count, width, Place::at(place), values, path)
+    tree_path::root_of_path(
+        no_key(),
+        domain,
+        count,
+        width,
+        Place::at(place),
+        values,
+        path,
+    )
 }
 
 // A number, and the level for 16 to 26.
@@ -426,8 +448,7 @@ pub extern "C" fn dequmlo_test_check_query(
     s: &[u8],
 ) -> NumberedLevel {
     let place = Place::at(position);
-    let set = WidthSet::Present;
-    let a = record_query_check::check_query(base, set, n, k, place, challenges, roots, s);
+    let a = record_query_check::check_query(base, trees(), n, k, place, challenges, roots, s);
     NumberedLevel {
         number: a.number,
         level: a.level,
@@ -443,7 +464,7 @@ pub extern "C" fn dequmlo_test_check_tail(
     claim: Word,
     s: &[u8],
 ) -> u32 {
-    record_tail_check::check_tail(base, WidthSet::Present, n, k, root, claim, s)
+    record_tail_check::check_tail(base, trees(), n, k, root, claim, s)
 }
 
 #[no_mangle]
@@ -533,6 +554,15 @@ pub extern "C" fn dequmlo_test_commit(
     coordinates: &mut [usize],
     tree: &mut [u8],
 ) -> u32 {
-    let set = WidthSet::Present;
-    code_commit::commit(set, n, k, base, table, gammas, codeword, coordinates, tree)
+    code_commit::commit(
+        trees(),
+        n,
+        k,
+        base,
+        table,
+        gammas,
+        codeword,
+        coordinates,
+        tree,
+    )
 }

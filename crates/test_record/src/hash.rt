@@ -1,12 +1,15 @@
-// The hash: BLAKE3 in one call and by a hasher, and `serialize_parts`.
+// The hash: BLAKE3 in one call and by a hasher, in its three modes, and `serialize_parts`.
 ghost use mathlib.Core.Path.{_≡_};
 ghost use Prim.Native.Nat.{_≤_, _<_};
 ghost use lib.ListN.{length};
 use hash_hasher::hasher::Hasher;
+use hash_hasher::hasher::Updated;
 use hash_hasher::hasher::finalize;
 use hash_hasher::hasher::new;
 use hash_hasher::hasher::update;
 use hash_hasher::whole::Digested;
+use hash_modes::context_hasher;
+use hash_modes::keyed_hasher;
 use test_lines::answer::Answer;
 use test_lines::answer::no_room;
 use test_lines::answer::one;
@@ -59,8 +62,8 @@ fn fed_with(s: Hasher, input: &[u8]) -> Hasher {
 
 // The digest by a hasher that is fed in pieces: by the size with a number at a time, where step is 0, and by the sizes from there in turn, where
 // it is 1.
-fn pieces(input: &[u8], first: usize, step: usize, y: &mut [u8]) -> Answer {
-    let mut s = new();
+fn pieces(start: Hasher, input: &[u8], first: usize, step: usize, y: &mut [u8]) -> Answer {
+    let mut s = start;
     let mut i: usize = 0;
     let mut k = first % 8;
     while i < input.len() {
@@ -159,9 +162,27 @@ pub fn answer(place: usize, n: Numbers, a: &[u64], s: &[u8], t: &[u8], y: &mut [
     match place {
         0 => digested(hash_hasher::whole::digest(s), y),
         1 => one(hash_serialize_parts::serialize_parts(s, a, y)),
-        2 => pieces(s, n.0, n.1, y),
+        2 => pieces(new(), s, n.0, n.1, y),
         3 => fed(s, n.0, t, y),
         4 => state(a, s, y),
+        _ => no_room(),
+    }
+}
+
+// The digest by a hasher of a mode, fed in pieces, and the number that it was started with.
+fn pieces_of(u: Updated, input: &[u8], n: Numbers, y: &mut [u8]) -> Answer {
+    let start = u.state;
+    pieces(start, input, n.0, n.1, y);
+    one(u.number)
+}
+
+// Keyed mode and key derivation: by a key, or a context.
+pub fn by_mode(place: usize, n: Numbers, s: &[u8], t: &[u8], y: &mut [u8]) -> Answer {
+    match place {
+        0 => digested(hash_modes::keyed_digest(s, t), y),
+        1 => digested(hash_modes::derive_key(s, t), y),
+        2 => pieces_of(keyed_hasher(s), t, n, y),
+        3 => pieces_of(context_hasher(s), t, n, y),
         _ => no_room(),
     }
 }

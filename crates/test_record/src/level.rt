@@ -1,4 +1,7 @@
 // Levels, profiles and the parameters of seals, trees of levels and the last level: eval.rs, and docs/SPECIFICATION.md's `tail-list`.
+use crate::key::mode_in;
+use crate::key::set_of;
+use crate::key::trees_of;
 use code_profile::Named;
 use code_profile::Parameters;
 use code_profile::Profile;
@@ -15,15 +18,7 @@ use test_lines::request::numbers_in;
 use test_lines::request::words_in;
 use test_lines::words::copy;
 use test_lines::words::first;
-use theory_record::WidthSet;
-
-// A set of widths by its number.
-pub fn set_of(number: usize) -> WidthSet {
-    match number {
-        0 => WidthSet::Present,
-        _ => WidthSet::Wide,
-    }
-}
+use theory_record::Trees;
 
 // A length as the answer.
 fn length(x: usize) -> Answer {
@@ -87,18 +82,13 @@ fn domain_length(n: usize, s: &[u8]) -> Answer {
     two(r.number, r.length)
 }
 
-fn level_tree(n: Numbers, a: &[u64], s: &[u8], y: &mut [u8]) -> Answer {
-    one(code_commit::level::level_tree(set_of(n.0), n.1, n.2, n.3, s, a, y))
-}
-
-pub fn answer(place: usize, n: Numbers, a: &[u64], s: &[u8], y: &mut [u8]) -> Answer {
+pub fn answer(place: usize, n: Numbers, s: &[u8], y: &mut [u8]) -> Answer {
     match place {
         0 => length(code_level::fold_tree_width(set_of(n.0), n.1)),
         1 => level_domain(n.0, s, y),
         2 => parameters(code_profile::parameters_of(profile(n.0)), y),
         3 => domain_length(n.0, s),
         4 => one(code_level::domain::level_domain(s, n.0, y)),
-        5 => level_tree(n, a, s, y),
         6 => parameters(code_profile::seal_parameters(named(n.0), n.1 != 0), y),
         7 => parameters(code_profile::writer_parameters(named(n.0)), y),
         _ => no_room(),
@@ -107,6 +97,7 @@ pub fn answer(place: usize, n: Numbers, a: &[u64], s: &[u8], y: &mut [u8]) -> An
 
 // All levels of a codeword, which stands at their front, by its challenges.
 pub fn fold_levels(
+    how: Trees,
     n: Numbers,
     challenges: &[u64],
     codeword: &[u64],
@@ -117,14 +108,10 @@ pub fn fold_levels(
     z: &mut [u8],
 ) -> Answer {
     copy(first_halves(w, codeword.len()), codeword);
-    one(code_fold_levels::fold_levels(set_of(n.0), n.1, n.2, s, challenges, w, x, y, z))
+    one(code_fold_levels::fold_levels(how, n.1, n.2, s, challenges, w, x, y, z))
 }
 
-fn level_leaves(n: Numbers, a: &[u64], s: &[u8], y: &mut [u8]) -> Answer {
-    one(code_level_parts::level_leaves(set_of(n.0), n.1, n.2, n.3, s, n.4, a, y))
-}
-
-// Parts of a level and of its tree.
+// A level's tree, and parts of a level and of its tree.
 pub fn part(place: usize, words: &[u64], bytes: &[u8], w: &mut [u64], y: &mut [u8]) -> Answer {
     let n = numbers_in(words);
     let a = words_in(words, 0);
@@ -133,8 +120,9 @@ pub fn part(place: usize, words: &[u64], bytes: &[u8], w: &mut [u64], y: &mut [u
     let t = bytes_in(words, bytes, 1);
     match place {
         0 => one(code_level_parts::next_part(n.0, n.1, n.2, first(a), n.3, b, w)),
-        1 => level_leaves(n, a, s, y),
-        2 => one(code_level_parts::level_parents(n.0, n.1, n.2, s, n.3, t, y)),
+        1 => one(code_level_parts::level_leaves(trees_of(n.0, bytes), n.1, n.2, n.3, s, n.4, a, y)),
+        2 => one(code_level_parts::level_parents(mode_in(bytes), n.0, n.1, n.2, s, n.3, t, y)),
+        3 => one(code_commit::level::level_tree(trees_of(n.0, bytes), n.1, n.2, n.3, s, a, y)),
         _ => no_room(),
     }
 }

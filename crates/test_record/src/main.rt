@@ -4,6 +4,7 @@ ghost use mathlib.Core.Path.{_≡_};
 ghost use lib.ListN.{length};
 
 mod hash;
+mod key;
 mod level;
 mod many;
 mod pair;
@@ -42,9 +43,10 @@ fn on_bytes(operation: usize, words: &[u64], bytes: &[u8], y: &mut [u8]) -> Answ
     let u = bytes_in(words, bytes, 2);
     match operation / 8 {
         2 => hash::answer(place, n, a, s, t, y),
-        3 => tree::answer(place, n, a, s, t, u, y),
-        4 => level::answer(place, n, a, s, y),
-        _ => record::answer(place, n, a, s, t, u, y),
+        3 => tree::answer(key::mode_in(bytes), place, n, a, s, t, u, y),
+        4 => level::answer(place, n, s, y),
+        8 => hash::by_mode(place, n, s, t, y),
+        _ => record::answer(place, n, a, s, t, u, bytes, y),
     }
 }
 
@@ -63,8 +65,18 @@ fn on_all(
     let a = words_in(words, 0);
     let s = bytes_in(words, bytes, 0);
     match place {
-        0 => one(code_commit::commit(level::set_of(n.0), n.1, n.2, s, a, w, x, list, y)),
-        1 => level::fold_levels(n, a, words_in(words, 1), s, w, x, y, z),
+        0 => one(code_commit::commit(key::trees_of(n.0, bytes), n.1, n.2, s, a, w, x, list, y)),
+        1 => level::fold_levels(
+            key::trees_of(n.0, bytes),
+            n,
+            a,
+            words_in(words, 1),
+            s,
+            w,
+            x,
+            y,
+            z,
+        ),
         2 => level::tails(s, w),
         3 => pair::compare(words, bytes, y, z),
         4 => pair::walk(n.0, n.1, n.2, s, bytes_in(words, bytes, 1), y, z),
@@ -85,7 +97,7 @@ fn answer(
     z: &mut [u8],
 ) -> Answer {
     match operation / 8 {
-        2..=5 => on_bytes(operation, words, bytes, y),
+        2..=5 | 8 => on_bytes(operation, words, bytes, y),
         6 => on_all(operation % 8, words, bytes, list, w, x, y, z),
         7 => level::part(operation % 8, words, bytes, w, y),
         _ => no_room(),
@@ -119,7 +131,7 @@ fn run(s: &[u8], line: usize, bytes: &mut [u8], kept: usize) -> usize {
 = b
 # n
  n
-none n
+key b
 none n
 none n
 none n
@@ -153,7 +165,7 @@ level_domain bnB
 profile nB
 domain_length bn
 domain_into bnB
-level_tree nnnnbwB
+none n
 seal_parameters nnB
 writer_parameters nB
 check_query bnnnnwbb
@@ -175,10 +187,19 @@ none n
 next_part nnnwnwW
 level_leaves nnnnbnwB
 level_parents nnnbnbB
+level_tree nnnnbwB
+none n
+none n
+none n
+none n
+keyed_blake3 bbd
+derive_key bbd
+keyed_pieces bbnnd
+derived_pieces bbnnd
 ";
     let operation = request::read(s, table, kept, bytes, &mut words);
     match operation / 8 {
-        0 => request::bytes_end(&words),
+        0 => key::keep(operation, &words, bytes, kept),
         1 => {
             many::print(line, operation % 8, &words, bytes);
             kept
@@ -190,9 +211,9 @@ level_parents nnnbnbB
     }
 }
 
-// Every line of a file.
+// Every line of a file; at first there is no key.
 fn run_lines(file: &[u8]) {
-    let mut bytes = [0u8; 131072];
+    let mut bytes = [0u8; 131105];
     let mut kept: usize = 0;
     let mut line: usize = 1;
     let mut from: usize = 0;
@@ -233,6 +254,10 @@ tree/openings.txt
 tree/refusals.txt
 tree/states.txt
 tree/differences.txt
+tree/keyed_vectors.txt
+tree/derived_vectors.txt
+tree/keyed.txt
+tree/keyed_openings.txt
 tree/rust_hash.txt
 tree/rust_trees.txt
 record/levels.txt
@@ -250,6 +275,11 @@ record/wide_levels.txt
 record/wide.txt
 record/wide_large.txt
 record/wide_most.txt
+record/keyed_levels.txt
+record/keyed.txt
+record/keyed_large.txt
+record/keyed_build.txt
+record/keyed_run.txt
 record/rust_levels.txt
 record/rust_records.txt
 ",

@@ -1,7 +1,7 @@
 // Many records made of one: every byte changed, or every proper prefix; and how often each number is the answer.
 ghost use mathlib.Core.Path.{_≡_};
 ghost use lib.ListN.{length};
-use crate::level::set_of;
+use crate::key::trees_of;
 use libc::STDOUT_FILENO;
 use std::num::wrapping_add_u64;
 use std::num::wrapping_add_usize;
@@ -18,11 +18,12 @@ use test_lines::request::item;
 use test_lines::request::numbers_in;
 use test_lines::request::words_in;
 use test_lines::words::first;
+use theory_record::Trees;
 use tree_place::Place;
 
 fn query(
     s: &[u8],
-    set: usize,
+    how: Trees,
     n: usize,
     k: usize,
     position: usize,
@@ -31,7 +32,7 @@ fn query(
     record: &[u8],
 ) -> u32 {
     let place = Place::at(position);
-    record_query_check::check_query(s, set_of(set), n, k, place, a, t, record).number
+    record_query_check::check_query(s, how, n, k, place, a, t, record).number
 }
 
 // What the operation at a place is answered for a record: damaged_query, damaged_tail, prefixes_query, prefixes_tail.
@@ -41,10 +42,10 @@ fn number(place: usize, words: &[u64], bytes: &[u8], record: &[u8]) -> u32 {
     let s = bytes_in(words, bytes, 0);
     let t = bytes_in(words, bytes, 1);
     match place {
-        0 => query(s, n.1, n.2, n.3, n.4, a, t, record),
-        1 => record_tail_check::check_tail(s, set_of(n.1), n.2, n.3, t, first(a), record),
-        2 => query(s, n.0, n.1, n.2, n.3, a, t, record),
-        _ => record_tail_check::check_tail(s, set_of(n.0), n.1, n.2, t, first(a), record),
+        0 => query(s, trees_of(n.1, bytes), n.2, n.3, n.4, a, t, record),
+        1 => record_tail_check::check_tail(s, trees_of(n.1, bytes), n.2, n.3, t, first(a), record),
+        2 => query(s, trees_of(n.0, bytes), n.1, n.2, n.3, a, t, record),
+        _ => record_tail_check::check_tail(s, trees_of(n.0, bytes), n.1, n.2, t, first(a), record),
     }
 }
 

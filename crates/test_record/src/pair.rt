@@ -1,5 +1,5 @@
 // Two records compared, and the picking of messages of two chains, which a test can give a digest that has collisions.
-use crate::level::set_of;
+use crate::key::trees_of;
 use test_lines::answer::Answer;
 use test_lines::answer::no_room;
 use test_lines::answer::three;
@@ -12,7 +12,7 @@ pub fn compare(words: &[u64], bytes: &[u8], y: &mut [u8], z: &mut [u8]) -> Answe
     let n = numbers_in(words);
     let r = compare_records::compare(
         bytes_in(words, bytes, 0),
-        set_of(n.0),
+        trees_of(n.0, bytes),
         n.1,
         n.2,
         Place::at(n.3),

@@ -1,16 +1,18 @@
 // Query and tail records, checked and built: ring.rs; and their sizes.
 ghost use mathlib.Core.Path.{_≡_};
-use crate::level::set_of;
+use crate::key::set_of;
+use crate::key::trees_of;
 use test_lines::answer::Answer;
 use test_lines::answer::no_room;
 use test_lines::answer::one;
 use test_lines::answer::two;
 use test_lines::request::Numbers;
 use test_lines::words::first;
+use theory_record::Trees;
 use tree_place::Place;
 
-fn check_query(n: Numbers, a: &[u64], s: &[u8], t: &[u8], u: &[u8]) -> Answer {
-    let r = record_query_check::check_query(s, set_of(n.0), n.1, n.2, Place::at(n.3), a, t, u);
+fn check_query(how: Trees, n: Numbers, a: &[u64], s: &[u8], t: &[u8], u: &[u8]) -> Answer {
+    let r = record_query_check::check_query(s, how, n.1, n.2, Place::at(n.3), a, t, u);
     two(r.number, r.level as usize)
 }
 
@@ -41,11 +43,12 @@ pub fn answer(
     s: &[u8],
     t: &[u8],
     u: &[u8],
+    bytes: &[u8],
     y: &mut [u8],
 ) -> Answer {
     match place {
-        0 => check_query(n, a, s, t, u),
-        1 => one(record_tail_check::check_tail(s, set_of(n.0), n.1, n.2, t, first(a), u)),
+        0 => check_query(trees_of(n.0, bytes), n, a, s, t, u),
+        1 => one(record_tail_check::check_tail(s, trees_of(n.0, bytes), n.1, n.2, t, first(a), u)),
         2 => build_query(n, a, s, y),
         3 => one(record_tail_build::build_tail(y, a, s, set_of(n.0), n.1, n.2)),
         4 => sizes(n.0, n.1, n.2),

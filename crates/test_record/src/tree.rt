@@ -5,6 +5,7 @@ use test_lines::answer::no_room;
 use test_lines::answer::one;
 use test_lines::answer::two;
 use test_lines::request::Numbers;
+use theory_blake3::Mode;
 use tree_place::Group;
 use tree_place::Place;
 
@@ -29,6 +30,7 @@ fn leaf_message(count: usize, width: usize, group: usize, a: &[u64], s: &[u8]) -
 }
 
 pub fn answer(
+    mode: Mode,
     place: usize,
     n: Numbers,
     a: &[u64],
@@ -38,17 +40,20 @@ pub fn answer(
     y: &mut [u8],
 ) -> Answer {
     match place {
-        0 => digested(tree_digest::leaf_digest(s, n.0, n.1, Place::at(n.2), a), y),
-        1 => digested(tree_digest::node_digest(s, n.0, t, u), y),
-        2 => one(tree_build::build(s, n.0, n.1, a, y)),
+        0 => digested(
+            tree_digest::leaf_digest(mode, s, n.0, n.1, Place::at(n.2), a),
+            y,
+        ),
+        1 => digested(tree_digest::node_digest(mode, s, n.0, t, u), y),
+        2 => one(tree_build::build(mode, s, n.0, n.1, a, y)),
         3 => one(tree_path::open(n.0, n.1, Place::at(n.2), s, y)),
         4 => digested(
-            tree_path::root_of_path(s, n.0, n.1, Place::at(n.2), a, t),
+            tree_path::root_of_path(mode, s, n.0, n.1, Place::at(n.2), a, t),
             y,
         ),
         5 => leaf_message(n.0, n.1, n.2, a, s),
-        6 => one(tree_parts::leaves(s, n.0, n.1, n.2, a, y)),
-        7 => one(tree_parts::parents(s, n.0, t, y)),
+        6 => one(tree_parts::leaves(mode, s, n.0, n.1, n.2, a, y)),
+        7 => one(tree_parts::parents(mode, s, n.0, t, y)),
         _ => no_room(),
     }
 }

@@ -1,7 +1,7 @@
 // The whole run, on deposits of at most 16 words with k at most 2.
 ghost use mathlib.Core.Path.{_≡_};
 ghost use lib.ListN.{length};
-use crate::level::set_of;
+use crate::key::trees_of;
 use claim_whole_run::Answers;
 use field_gf128::Word;
 use test_lines::answer::Answer;
@@ -17,6 +17,7 @@ use test_lines::request::Numbers;
 use test_lines::request::bytes_in;
 use test_lines::request::numbers_in;
 use test_lines::request::words_in;
+use theory_record::Trees;
 
 // The roots, both records and both messages.
 fn put_left(
@@ -36,6 +37,7 @@ fn put_left(
 
 // A run, lent buffers of the lengths in a list.
 fn run(
+    how: Trees,
     n: Numbers,
     claim: Word,
     base: &[u8],
@@ -59,7 +61,7 @@ fn run(
     let mut one = [0xa5u8; 1032];
     let mut two = [0xa5u8; 1032];
     let r = claim_whole_run::run(
-        set_of(n.0),
+        how,
         n.1,
         n.2,
         n.3,
@@ -123,8 +125,10 @@ pub fn answer(
     }
     let mut calls = [0usize; 64];
     put(&mut calls, b);
+    let n = numbers_in(words);
     let r = run(
-        numbers_in(words),
+        trees_of(n.0, bytes),
+        n,
         test_lines::words::first(words_in(words, 3)),
         bytes_in(words, bytes, 0),
         words_in(words, 0),

@@ -2,5 +2,5 @@ pub mod Compression
 pub mod Words
 pub mod Tree
 pub mod Stack
-pub mod HashMode
+pub mod Modes
 pub mod Vector

@@ -1,5 +1,5 @@
--- The root node, its output and the modes (the specification's sections 2.3 and 2.6). A mode gives the key words and the flags; hash
--- mode takes the IV and no flag.
+-- The root node and its output (the specification's section 2.6), for key words and mode flags, and the digest of hash mode, which takes
+-- the IV and no flag (section 2.3). All modes are in Modes.
 use Prim.Native.Nat.{ℕ}
 use mathlib.Core.List.{List, map}
 use Rattle.theory_laws.specs.Lists.{flat, leBytes}

@@ -17,6 +17,16 @@ parentNode = 4
 abbrev pub rootNode : ℕ
 rootNode = 8
 
+-- KEYED_HASH, DERIVE_KEY_CONTEXT and DERIVE_KEY_MATERIAL: the modes other than hash mode
+abbrev pub keyedHash : ℕ
+keyedHash = 16
+
+abbrev pub deriveKeyContext : ℕ
+deriveKeyContext = 32
+
+abbrev pub deriveKeyMaterial : ℕ
+deriveKeyMaterial = 64
+
 -- the flag by which a chunk's block begins it, after n blocks: CHUNK_START for the first, none later
 abbrev pub startFlag : ℕ → ℕ
 startFlag zero = chunkStart

@@ -4,4 +4,5 @@ pub mod Orders
 pub mod Chunk
 pub mod Tree
 pub mod Digest
+pub mod Modes
 pub mod Stack

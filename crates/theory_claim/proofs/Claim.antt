@@ -24,10 +24,11 @@ use Rattle.theory_multilinear.proofs.Codeword.{length-encode, encode-lt, folds-
 use Rattle.theory_multilinear.proofs.Folds.{folds-first}
 use Rattle.theory_merkle.proofs.Tree.{treeOf-root}
 use Rattle.theory_blake3.specs.Digest.{hash}
-use Rattle.theory_blake3.proofs.HashMode.{length-hash}
+use Rattle.theory_blake3.specs.Modes.{under}
+use Rattle.theory_blake3.proofs.Modes.{length-under}
 use Rattle.theory_code.specs.Gammas.{gammas}
 use Rattle.theory_code.specs.Questions.{rising, foldNumber}
-use Rattle.theory_record.specs.declared.WidthSet.{WidthSet}
+use Rattle.theory_record.specs.declared.Trees.{Trees}
 use Rattle.theory_record.specs.Widths.{Widths, widthsOf, levelLength, levelWidth, levelGroups, treeLength}
 use Rattle.theory_record.specs.Domain.{levelDomain}
 use Rattle.theory_record.specs.Trees.{treeFor, rootFor, treesLent}
@@ -51,7 +52,7 @@ use Rattle.theory_record.proofs.Exactly.{query-exactly, tail-exactly}
 use Rattle.theory_compare.proofs.Found.{leaves-fit}
 use Rattle.theory_compare.proofs.Compare.{Equal, Different, compare-accepted}
 use Rattle.theory_claim.specs.Calls.{Codeword, Call, doneFolds, afterFolds, leftBy}
-use Rattle.theory_claim.specs.Claim.{Deposit, committed, left, done, levelOf, PartWay, Lent, LastLent, After, Collided, Outcome, Claim, Theorem}
+use Rattle.theory_claim.specs.Claim.{Deposit, committed, left, done, levelOf, PartWay, Lent, LastLent, After, Collided, Outcome, Claim, Theorem, Unkeyed}
 use Rattle.theory_claim.proofs.Calls.{
   left-done,
   after-list,
@@ -71,15 +72,15 @@ use Rattle.theory_claim.proofs.Levels.{fold-done, level-is, levels-lent
 use Rattle.theory_compare.specs.Compare.{messageBuffer}
 use Rattle.theory_record.specs.Scheme.{Scheme, scheme}
 
-module _ (set : WidthSet) (n k : ℕ) (base table challenges : List ℕ) (d : Deposit n k base table challenges) where
+module _ (how : Trees) (n k : ℕ) (base table challenges : List ℕ) (d : Deposit n k base table challenges) where
   abbrev S : Scheme
-  S = scheme set base n k
+  S = scheme how base n k
 
   abbrev s : Widths
-  s = widthsOf set
+  s = widthsOf (how .set)
 
   abbrev start : Codeword
-  start = committed set n k base table challenges
+  start = committed how n k base table challenges
 
   abbrev c : List ℕ
   c = start .values
@@ -140,13 +141,14 @@ module _ (set : WidthSet) (n k : ℕ) (base table challenges : List ℕ) (d : De
   tree-done : (l : ℕ) → l ≤ n
       → buildNumber (length (levelDomain base l)) (levelLength n k l) (levelWidth s n k l) (2 * levelLength n k l) (32 * treeLength s n k l) ≡ 0
   tree-done l h =
-      build-allowed s (powers set) n k l (length (levelDomain base l)) (2 * levelLength n k l) (32 * treeLength s n k l) (omega (arith, narrow set)) (sizes-small n k sizes)
+      build-allowed s (powers (how .set)) n k l (length (levelDomain base l)) (2 * levelLength n k l) (32 * treeLength s n k l)
+      (omega (arith, narrow (how .set))) (sizes-small n k sizes)
       (omega (arith, levelDomain-fits base l (d .base-short) (omega (arith, d .n-most)))) refl refl
 
   root-last : (l : ℕ) (values : List ℕ) → getD (treeFor S l values) (treeLength s n k l - 1) [] ≡ rootFor S l values
   unfolding treeFor rootFor treeLength
   root-last l values =
-      treeOf-root hash (levelDomain base l) (levelLength n k l) (levelWidth s n k l) (level-shape s n k l (powers set) .tree) values
+      treeOf-root (under (how .mode)) (levelDomain base l) (levelLength n k l) (levelWidth s n k l) (level-shape s n k l (powers (how .set)) .tree) values
 
   query-done : (ls ts out : List ℕ) (position : ℕ) → length ls ≡ 2 * levelsLength n k
       → length ts ≡ 32 * treeStart s n k (suc n) → length out ≡ querySize s n k
@@ -161,27 +163,27 @@ module _ (set : WidthSet) (n k : ℕ) (base table challenges : List ℕ) (d : De
   -- ---- 2: after any calls
   module _ (calls : List Call) where
     abbrev fs : List Fold
-    fs = done set n k base table challenges calls
+    fs = done how n k base table challenges calls
 
     abbrev m : ℕ
-    m = length (left set n k base table challenges calls .coordinates)
+    m = length (left how n k base table challenges calls .coordinates)
 
-    values-are : left set n k base table challenges calls .values ≡ foldsList fs c
+    values-are : left how n k base table challenges calls .values ≡ foldsList fs c
     values-are = ap (λ (x : Codeword). x .values) (left-done calls start)
 
-    list-is : left set n k base table challenges calls .coordinates ≡ remaining fs (allCoordinates n)
+    list-is : left how n k base table challenges calls .coordinates ≡ remaining fs (allCoordinates n)
     list-is = ap (λ (x : Codeword). x .coordinates) (left-done calls start)
 
     folds-done : Folds n m fs
     folds-done = subst (λ (i : ℕ). Folds i m fs) list-long (done-folds calls start)
 
-    values-long : length (left set n k base table challenges calls .values) ≡ 2 ^ (m + k)
+    values-long : length (left how n k base table challenges calls .values) ≡ 2 ^ (m + k)
     unfolding committedCodeword
     values-long = ap length (values-are ∙ folds-code fs k (gammas hash base n k) (words table) folds-done) ∙ length-tab (2 ^ (m + k)) _
 
     entry : (eps v : ℕ) → eps < 2 ^ k → v < 2 ^ m
-        → at (left set n k base table challenges calls .values) (eps * 2 ^ m + v)
-        ≡ block (shiftOver n k (gammas hash base n k) (left set n k base table challenges calls .coordinates) eps)
+        → at (left how n k base table challenges calls .values) (eps * 2 ^ m + v)
+        ≡ block (shiftOver n k (gammas hash base n k) (left how n k base table challenges calls .coordinates) eps)
         (folds (shifted fs (shift n k (gammas hash base n k) eps)) (at (words table))) v
     unfolding committedCodeword
     entry eps v he hv =
@@ -193,13 +195,13 @@ module _ (set : WidthSet) (n k : ℕ) (base table challenges : List ℕ) (d : De
     m-most : m ≤ 20
     m-most = omega (arith, folds-count fs folds-done, d .n-most)
 
-    list-rises : rising 0 n (left set n k base table challenges calls .coordinates) ≡ true
+    list-rises : rising 0 n (left how n k base table challenges calls .coordinates) ≡ true
     list-rises = rw list-is (rising-remaining fs 0 n (allCoordinates n) (rising-all n))
 
     next-done : (var : ℕ) → var < m
-        → foldNumber m k n var (left set n k base table challenges calls .coordinates) (2 * 2 ^ (m + k)) (2 * (2 ^ (m + k) / 2)) ≡ 0
+        → foldNumber m k n var (left how n k base table challenges calls .coordinates) (2 * 2 ^ (m + k)) (2 * (2 ^ (m + k) / 2)) ≡ 0
     next-done var h =
-        fold-lent m k n var (left set n k base table challenges calls .coordinates) (2 * 2 ^ (m + k)) (2 * (2 ^ (m + k) / 2))
+        fold-lent m k n var (left how n k base table challenges calls .coordinates) (2 * 2 ^ (m + k)) (2 * (2 ^ (m + k) / 2))
         (record {
           n-most = m-most;
           k-most = d .k-most;
@@ -211,7 +213,7 @@ module _ (set : WidthSet) (n k : ℕ) (base table challenges : List ℕ) (d : De
           below = h;
         })
 
-    part-way : PartWay set n k base table challenges calls
+    part-way : PartWay how n k base table challenges calls
     part-way =
         record {
           folds-done = folds-done;
@@ -225,14 +227,14 @@ module _ (set : WidthSet) (n k : ℕ) (base table challenges : List ℕ) (d : De
   -- after calls whose done ones are n folds at variable 0 by r
   module _ (calls : List Call) (done : doneFolds start calls ≡ atFirst (words challenges)) where
     abbrev levels : ℕ → List ℕ
-    levels = levelOf set n k base table challenges calls
+    levels = levelOf how n k base table challenges calls
 
     abbrev folded : ℕ → List ℕ
     folded = level c (words challenges)
 
     level-long : (l : ℕ) → l ≤ n → length (levels l) ≡ levelLength n k l
     level-long l h =
-        ap length (level-is set n k base table challenges (d .challenges-long) calls done l h)
+        ap length (level-is how n k base table challenges (d .challenges-long) calls done l h)
         ∙ codeword-sized n k c (words challenges) c-long (sizes-small n k sizes) c-words .long l h
 
     level-list : (l : ℕ) → l ≤ n → afterFolds start calls l .coordinates ≡ drop l (allCoordinates n)
@@ -241,42 +243,42 @@ module _ (set : WidthSet) (n k : ℕ) (base table challenges : List ℕ) (d : De
     last-left : leftBy start calls .values ≡ levels n
     last-left =
         left-level calls start (words challenges) done ∙ ap folded r-long
-        ∙ sym (level-is set n k base table challenges (d .challenges-long) calls done n (omega arith))
+        ∙ sym (level-is how n k base table challenges (d .challenges-long) calls done n (omega arith))
 
     last-entry : (eps : ℕ) → eps < 2 ^ k → at (levels n) eps ≡ mle (at (words table)) (addPoint (words challenges) (shift n k (gammas hash base n k) eps))
     unfolding committedCodeword
     last-entry eps h =
-        ap (λ (x : List ℕ). at x eps) (level-is set n k base table challenges (d .challenges-long) calls done n (omega arith))
+        ap (λ (x : List ℕ). at x eps) (level-is how n k base table challenges (d .challenges-long) calls done n (omega arith))
         ∙ last-level-at n k eps (gammas hash base n k) (words table) (words challenges) r-long h
 
-    query-record : (ls ts roots : List ℕ) → Lent set n k base table challenges calls ls ts roots → (position : ℕ) → position < 2 ^ (n + k)
+    query-record : (ls ts roots : List ℕ) → Lent how n k base table challenges calls ls ts roots → (position : ℕ) → position < 2 ^ (n + k)
         → (out : List ℕ) → length out ≡ querySize s n k
         → checkQuery S position challenges roots (buildQuery s n k ls ts position out) ≡ accepted
     query-record ls ts roots z position low out long =
-        let e : ts ≡ treesLent S folded = z .trees-are ∙ trees-lent set n k base table challenges (d .challenges-long) calls done in
+        let e : ts ≡ treesLent S folded = z .trees-are ∙ trees-lent how n k base table challenges (d .challenges-long) calls done in
         let sized = codeword-sized n k c (words challenges) c-long (sizes-small n k sizes) c-words in
-        let t : length (treesLent S folded) ≡ 32 * treeStart s n k (suc n) = length-treesLent S length-hash (powers set) folded sized in
+        let t : length (treesLent S folded) ≡ 32 * treeStart s n k (suc n) = length-treesLent S (length-under (how .mode)) (powers (how .set)) folded sized in
         let b : QueryBuild s n k ls ts position out =
         record { sizes = sizes; levels-long = z .levels-long; trees-long = ap length e ∙ t; out-long = long; position-low = low } in
-        let levels-same = levels-lent set n k base table challenges (d .challenges-long) calls done in
-        let roots-same = roots-lent set n k base table challenges (d .challenges-long) calls done in
+        let levels-same = levels-lent how n k base table challenges (d .challenges-long) calls done in
+        let roots-same = roots-lent how n k base table challenges (d .challenges-long) calls done in
         rw (build-query-done s n k ls ts position out b, z .levels-are, levels-same, e, z .roots-are, roots-same)
-        (committed-query S length-hash (powers set) (d .base-short) sizes c c-long c-words challenges (d .challenges-long) position low)
+        (committed-query S (length-under (how .mode)) (powers (how .set)) (d .base-short) sizes c c-long c-words challenges (d .challenges-long) position low)
 
-    tail-record : (last tree root : List ℕ) → LastLent set n k base table challenges calls last tree root → (out : List ℕ) → length out ≡ tailSize s n k
+    tail-record : (last tree root : List ℕ) → LastLent how n k base table challenges calls last tree root → (out : List ℕ) → length out ≡ tailSize s n k
         → (claim : ℕ) → (checkTail S root claim (buildTail s n k last tree out) ≡ 0) ↔ (claim ≡ mle (at (words table)) (words challenges))
     unfolding committedCodeword
     tail-record last tree root z out long claim =
-        let same : levels n ≡ folded n = level-is set n k base table challenges (d .challenges-long) calls done n (omega arith) in
+        let same : levels n ≡ folded n = level-is how n k base table challenges (d .challenges-long) calls done n (omega arith) in
         let t : length tree ≡ 32 * treeLength s n k n =
-        ap length (z .tree-is) ∙ length-flat 32 (treeFor S n (levels n)) (treeFor-long S length-hash n (levels n))
-        ∙ ap (λ (x : ℕ). 32 * x) (length-treeFor S n (levels n) (powers set)) in
+        ap length (z .tree-is) ∙ length-flat 32 (treeFor S n (levels n)) (treeFor-long S (length-under (how .mode)) n (levels n))
+        ∙ ap (λ (x : ℕ). 32 * x) (length-treeFor S n (levels n) (powers (how .set))) in
         let b : TailBuild s n k last tree out = record { sizes = sizes; level-long = z .level-long; tree-long = t; out-long = long } in
         let claim-is = claim-is-P n k (gammas hash base n k) (words table) challenges (d .challenges-long) in
         rw (build-tail-done s n k last tree out b, z .level-is, z .tree-is, z .root-is, same, ← claim-is)
-        (committed-tail S length-hash (powers set) (d .base-short) sizes c c-long c-words challenges (d .challenges-long) claim)
+        (committed-tail S (length-under (how .mode)) (powers (how .set)) (d .base-short) sizes c c-long c-words challenges (d .challenges-long) claim)
 
-    after : After set n k base table challenges calls
+    after : After how n k base table challenges calls
     after =
         record {
           level-long = level-long;
@@ -290,15 +292,15 @@ module _ (set : WidthSet) (n k : ℕ) (base table challenges : List ℕ) (d : De
   -- ---- 4
   two-records : (position : ℕ) (rs roots u v old old′ : List ℕ) → Bytes u → Bytes v → length old ≡ messageBuffer → length old′ ≡ messageBuffer
       → checkQuery S position rs roots u ≡ accepted → checkQuery S position rs roots v ≡ accepted
-      → Outcome set n k base table challenges position rs roots u v old old′
+      → Outcome how n k base table challenges position rs roots u v old old′
   two-records position rs roots u v old old′ bu bv e e′ au av =
       ⊎-elim
       (λ (x : Equal S position rs roots u v old old′). inl (x .gives-33, x .are-same))
       (λ (x : Different S position rs roots u v old old′). inr (collided x))
-      (compare-accepted S position rs roots u v old old′ length-hash (powers set) (leaves-fit set) bu bv e e′
+      (compare-accepted S position rs roots u v old old′ (length-under (how .mode)) (powers (how .set)) (leaves-fit (how .set)) bu bv e e′
       (ap (λ (a : Answer). a .number) au) (ap (λ (a : Answer). a .number) av))
     where
-      collided : Different S position rs roots u v old old′ → Collided set n k base table challenges position rs roots u v old old′
+      collided : Different S position rs roots u v old old′ → Collided how n k base table challenges position rs roots u v old old′
       collided x =
           record {
             gives-0 = x .gives-0;
@@ -311,10 +313,10 @@ module _ (set : WidthSet) (n k : ℕ) (base table challenges : List ℕ) (d : De
           }
 
   few-groups : levelGroups s n k n < 2 ^ 32
-  few-groups = omega (arith, groups-some s (powers set) n k n (levelGroups s n k n) (sizes-small n k sizes) refl .1)
+  few-groups = omega (arith, groups-some s (powers (how .set)) n k n (levelGroups s n k n) (sizes-small n k sizes) refl .1)
 
   -- the whole
-  parts : Claim set n k base table challenges
+  parts : Claim how n k base table challenges
   parts =
       record {
         commit-done = commit-done;
@@ -337,3 +339,6 @@ module _ (set : WidthSet) (n k : ℕ) (base table challenges : List ℕ) (d : De
 
 pub claim : Theorem
 claim = parts
+
+pub unkeyed : Unkeyed
+unkeyed how how′ n k base table challenges = (refl, λ eps. refl, λ calls. refl)

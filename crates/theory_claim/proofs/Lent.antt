@@ -12,8 +12,8 @@ use Rattle.theory_field.specs.Words.{words}
 use Rattle.theory_field.proofs.Words.{drop-words, length-words-even}
 use Rattle.theory_multilinear.specs.Folds.{atFirst}
 use Rattle.theory_multilinear.specs.Levels.{level}
-use Rattle.theory_blake3.proofs.HashMode.{length-hash}
-use Rattle.theory_record.specs.declared.WidthSet.{WidthSet}
+use Rattle.theory_blake3.proofs.Modes.{length-under}
+use Rattle.theory_record.specs.declared.Trees.{Trees}
 use Rattle.theory_record.specs.Widths.{Widths, widthsOf, levelLength, treeLength}
 use Rattle.theory_record.specs.Trees.{endToEnd, treeFor, rootFor, levelsLent, treesLent, rootsLent}
 use Rattle.theory_record.specs.Build.{levelsLength}
@@ -30,33 +30,33 @@ use Rattle.theory_claim.proofs.Claim.{claim}
 drop-last : (m : ℕ) (xs ys zs : List ℕ) → xs ≡ ys ++ zs → length zs ≡ m → drop (length xs - m) xs ≡ zs
 drop-last m xs ys zs e l = rw e (drop-at ys zs (length (ys ++ zs) - m) (omega (arith, length-append ys zs)))
 
-module _ (set : WidthSet) (n k : ℕ) (base table challenges : List ℕ) (d : Deposit n k base table challenges) (calls : List Call)
-    (done : doneFolds (committed set n k base table challenges) calls ≡ atFirst (words challenges)) (levels trees roots : List ℕ) where
+module _ (how : Trees) (n k : ℕ) (base table challenges : List ℕ) (d : Deposit n k base table challenges) (calls : List Call)
+    (done : doneFolds (committed how n k base table challenges) calls ≡ atFirst (words challenges)) (levels trees roots : List ℕ) where
   abbrev S : Scheme
-  S = scheme set base n k
+  S = scheme how base n k
 
   abbrev s : Widths
-  s = widthsOf set
+  s = widthsOf (how .set)
 
   abbrev folded : ℕ → List ℕ
-  folded = level (committed set n k base table challenges .values) (words challenges)
+  folded = level (committed how n k base table challenges .values) (words challenges)
 
-  pub folded-lent : length levels ≡ 2 * levelsLength n k → words levels ≡ levelsLent n (level (committed set n k base table challenges .values) (words challenges))
-      → trees ≡ treesLent (scheme set base n k) (level (committed set n k base table challenges .values) (words challenges))
-      → roots ≡ rootsLent (scheme set base n k) (level (committed set n k base table challenges .values) (words challenges))
-      → Lent set n k base table challenges calls levels trees roots
+  pub folded-lent : length levels ≡ 2 * levelsLength n k → words levels ≡ levelsLent n (level (committed how n k base table challenges .values) (words challenges))
+      → trees ≡ treesLent (scheme how base n k) (level (committed how n k base table challenges .values) (words challenges))
+      → roots ≡ rootsLent (scheme how base n k) (level (committed how n k base table challenges .values) (words challenges))
+      → Lent how n k base table challenges calls levels trees roots
   folded-lent long el et er =
       record {
         levels-long = long;
-        levels-are = el ∙ sym (levels-lent set n k base table challenges (d .challenges-long) calls done);
-        trees-are = et ∙ sym (trees-lent set n k base table challenges (d .challenges-long) calls done);
-        roots-are = er ∙ sym (roots-lent set n k base table challenges (d .challenges-long) calls done);
+        levels-are = el ∙ sym (levels-lent how n k base table challenges (d .challenges-long) calls done);
+        trees-are = et ∙ sym (trees-lent how n k base table challenges (d .challenges-long) calls done);
+        roots-are = er ∙ sym (roots-lent how n k base table challenges (d .challenges-long) calls done);
       }
 
   -- the last level, its tree and its root stand at the end of what is lent
-  module _ (z : Lent set n k base table challenges calls levels trees roots) where
+  module _ (z : Lent how n k base table challenges calls levels trees roots) where
     abbrev each : ℕ → List ℕ
-    each = levelOf set n k base table challenges calls
+    each = levelOf how n k base table challenges calls
 
     abbrev last : List ℕ
     last = drop (length levels - 2 * levelLength n k n) levels
@@ -68,20 +68,22 @@ module _ (set : WidthSet) (n k : ℕ) (base table challenges : List ℕ) (d : De
         let e : length levels - 2 * levelLength n k n ≡ 2 * (length (words levels) - levelLength n k n) = omega (arith, z .levels-long, m) in
         ap (λ (i : ℕ). words (drop i levels)) e ∙ drop-words (length (words levels) - levelLength n k n) levels
         ∙ drop-last (levelLength n k n) (words levels) (endToEnd n each) (each n) (z .levels-are)
-        (claim set n k base table challenges d .after-calls calls done .level-long n (omega arith))
+        (claim how n k base table challenges d .after-calls calls done .level-long n (omega arith))
 
     tree-is : drop (length trees - 32 * treeLength s n k n) trees ≡ flat (treeFor S n (each n))
     unfolding endToEnd
     tree-is =
         drop-last (32 * treeLength s n k n) trees (endToEnd n (λ l. flat (treeFor S l (each l)))) _ (z .trees-are)
-        (length-flat 32 (treeFor S n (each n)) (treeFor-long S length-hash n (each n)) ∙ ap (λ (x : ℕ). 32 * x) (length-treeFor S n (each n) (powers set)))
+        (length-flat 32 (treeFor S n (each n)) (treeFor-long S (length-under (how .mode)) n (each n))
+        ∙ ap (λ (x : ℕ). 32 * x) (length-treeFor S n (each n) (powers (how .set))))
 
     root-is : drop (length roots - 32) roots ≡ rootFor S n (each n)
     unfolding endToEnd
-    root-is = drop-last 32 roots (endToEnd n (λ l. rootFor S l (each l))) _ (z .roots-are) (length-rootFor S length-hash n (each n) (powers set))
+    root-is = drop-last 32 roots (endToEnd n (λ l. rootFor S l (each l))) _ (z .roots-are)
+        (length-rootFor S (length-under (how .mode)) n (each n) (powers (how .set)))
 
-    pub last-lent : LastLent set n k base table challenges calls (drop (length levels - 2 * levelLength n k n) levels)
-        (drop (length trees - 32 * treeLength (widthsOf set) n k n) trees) (drop (length roots - 32) roots)
+    pub last-lent : LastLent how n k base table challenges calls (drop (length levels - 2 * levelLength n k n) levels)
+        (drop (length trees - 32 * treeLength (widthsOf (how .set)) n k n) trees) (drop (length roots - 32) roots)
     last-lent =
         record {
           level-long = length-drop (length levels - 2 * levelLength n k n) levels ∙ omega (arith, z .levels-long, level-within n k n (omega arith));

@@ -14,7 +14,7 @@ use Rattle.theory_multilinear.specs.Levels.{level}
 use Rattle.theory_multilinear.specs.Codeword.{allCoordinates}
 use Rattle.theory_code.specs.Questions.{foldNumber}
 use Rattle.theory_code.proofs.Rising.{rising-behind}
-use Rattle.theory_record.specs.declared.WidthSet.{WidthSet}
+use Rattle.theory_record.specs.declared.Trees.{Trees}
 use Rattle.theory_record.specs.Widths.{levelLength}
 use Rattle.theory_record.specs.Trees.{treeFor, rootFor, levelsLent, treesLent, rootsLent}
 use Rattle.theory_record.specs.Scheme.{scheme}
@@ -41,25 +41,26 @@ fold-done n k l n-most k-most h =
       below = omega arith;
     })
 
-module _ (set : WidthSet) (n k : ℕ) (base table challenges : List ℕ) (long : length challenges ≡ 2 * n) (calls : List Call)
-    (done : doneFolds (committed set n k base table challenges) calls ≡ atFirst (words challenges)) where
+module _ (how : Trees) (n k : ℕ) (base table challenges : List ℕ) (long : length challenges ≡ 2 * n) (calls : List Call)
+    (done : doneFolds (committed how n k base table challenges) calls ≡ atFirst (words challenges)) where
   abbrev levels : ℕ → List ℕ
-  levels = levelOf set n k base table challenges calls
+  levels = levelOf how n k base table challenges calls
 
   abbrev folded : ℕ → List ℕ
-  folded = level (committed set n k base table challenges .values) (words challenges)
+  folded = level (committed how n k base table challenges .values) (words challenges)
 
   -- level l, after l done folds, is the codeword folded l times at variable 0
-  pub level-is : (l : ℕ) → l ≤ n → levelOf set n k base table challenges calls l ≡ level (committed set n k base table challenges .values) (words challenges) l
-  level-is l h = after-level calls (committed set n k base table challenges) (words challenges) done l (rw (length-words-even challenges n long) h)
+  pub level-is : (l : ℕ) → l ≤ n → levelOf how n k base table challenges calls l ≡ level (committed how n k base table challenges .values) (words challenges) l
+  level-is l h = after-level calls (committed how n k base table challenges) (words challenges) done l (rw (length-words-even challenges n long) h)
 
-  pub levels-lent : levelsLent n (levelOf set n k base table challenges calls) ≡ levelsLent n (level (committed set n k base table challenges .values) (words challenges))
+  pub levels-lent : levelsLent n (levelOf how n k base table challenges calls)
+      ≡ levelsLent n (level (committed how n k base table challenges .values) (words challenges))
   levels-lent = endToEnd-ext (suc n) levels folded (λ l h. level-is l (omega arith))
 
-  pub trees-lent : treesLent (scheme set base n k) (levelOf set n k base table challenges calls)
-      ≡ treesLent (scheme set base n k) (level (committed set n k base table challenges .values) (words challenges))
-  trees-lent = endToEnd-ext (suc n) _ _ (λ l h. ap (λ (x : List ℕ). flat (treeFor (scheme set base n k) l x)) (level-is l (omega arith)))
+  pub trees-lent : treesLent (scheme how base n k) (levelOf how n k base table challenges calls)
+      ≡ treesLent (scheme how base n k) (level (committed how n k base table challenges .values) (words challenges))
+  trees-lent = endToEnd-ext (suc n) _ _ (λ l h. ap (λ (x : List ℕ). flat (treeFor (scheme how base n k) l x)) (level-is l (omega arith)))
 
-  pub roots-lent : rootsLent (scheme set base n k) (levelOf set n k base table challenges calls)
-      ≡ rootsLent (scheme set base n k) (level (committed set n k base table challenges .values) (words challenges))
-  roots-lent = endToEnd-ext (suc n) _ _ (λ l h. ap (rootFor (scheme set base n k) l) (level-is l (omega arith)))
+  pub roots-lent : rootsLent (scheme how base n k) (levelOf how n k base table challenges calls)
+      ≡ rootsLent (scheme how base n k) (level (committed how n k base table challenges .values) (words challenges))
+  roots-lent = endToEnd-ext (suc n) _ _ (λ l h. ap (rootFor (scheme how base n k) l) (level-is l (omega arith)))

@@ -17,7 +17,7 @@ use Rattle.theory_blake3.specs.Digest.{hash}
 use Rattle.theory_code.specs.Gammas.{gammas}
 use Rattle.theory_code.specs.Questions.{shiftNumber, foldNumber}
 use Rattle.theory_merkle.specs.Numbers.{buildNumber}
-use Rattle.theory_record.specs.declared.WidthSet.{WidthSet}
+use Rattle.theory_record.specs.declared.Trees.{Trees}
 use Rattle.theory_record.specs.Widths.{levelLength, levelWidth, treeLength}
 use Rattle.theory_record.specs.Domain.{levelDomain}
 use Rattle.theory_record.specs.Trees.{treeFor, rootFor, levelsLent, treesLent, rootsLent}
@@ -41,10 +41,10 @@ pub record Deposit (n k : ℕ) (base table challenges : List ℕ) : Type 0 where
   pub table-long : length table ≡ 2 * 2 ^ n
   pub challenges-long : length challenges ≡ 2 * n
 
-module _ (set : WidthSet) (n k : ℕ) (base table challenges : List ℕ) where
+module _ (how : Trees) (n k : ℕ) (base table challenges : List ℕ) where
   -- what the deposit fixes: digest and widths of its trees, base domain, n and k
   abbrev pub S : Scheme
-  S = scheme set base n k
+  S = scheme how base n k
 
   -- P and L of the table as committed, and r
   abbrev pub P : List ℕ → ℕ
@@ -193,6 +193,13 @@ module _ (set : WidthSet) (n k : ℕ) (base table challenges : List ℕ) where
         → checkQuery S position rs roots u ≡ accepted → checkQuery S position rs roots v ≡ accepted
         → Outcome position rs roots u v old old′
 
--- The theorem, for either set of widths, one throughout: nothing is assumed but the ranges.
+-- The theorem, for either set of widths and any mode, one of each throughout: nothing is assumed but the ranges.
 abbrev pub Theorem : Type 0
-Theorem = (set : WidthSet) (n k : ℕ) (base table challenges : List ℕ) → Deposit n k base table challenges → Claim set n k base table challenges
+Theorem = (how : Trees) (n k : ℕ) (base table challenges : List ℕ) → Deposit n k base table challenges → Claim how n k base table challenges
+
+-- Gammas are unkeyed: the codeword as committed, L, and what any calls leave are the same under every mode of the trees, and either set of widths.
+abbrev pub Unkeyed : Type 0
+Unkeyed = (how how′ : Trees) (n k : ℕ) (base table challenges : List ℕ)
+    → (committed how n k base table challenges ≡ committed how′ n k base table challenges)
+    × ((eps : ℕ) → L how n k base table challenges eps ≡ L how′ n k base table challenges eps)
+    × ((calls : List Call) → left how n k base table challenges calls ≡ left how′ n k base table challenges calls)

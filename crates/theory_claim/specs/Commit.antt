@@ -13,7 +13,7 @@ use Rattle.theory_blake3.specs.Digest.{hash}
 use Rattle.theory_code.specs.Questions.{sized, lent}
 use Rattle.theory_code.specs.Gammas.{gammas}
 use Rattle.theory_record.specs.Widths.{Widths, widthsOf, treeLength}
-use Rattle.theory_record.specs.declared.WidthSet.{WidthSet}
+use Rattle.theory_record.specs.declared.Trees.{Trees}
 use Rattle.theory_record.specs.Trees.{treeFor}
 use Rattle.theory_record.specs.Scheme.{Scheme}
 use Rattle.theory_claim.specs.Calls.{Codeword}
@@ -37,9 +37,9 @@ unfoldable pub commitNumber : Widths → ℕ → ℕ → ℕ → ℕ → ℕ →
 commitNumber s n k base table gammas codeword coordinates tree = firstNo (commitQuestions s n k base table gammas codeword coordinates tree)
 
 -- the number that `commit` answers, of what it is lent
-abbrev pub commitAnswer : WidthSet → ℕ → ℕ → List ℕ → List ℕ → List ℕ → List ℕ → List ℕ → List ℕ → ℕ
-commitAnswer set n k base table gammas codeword coordinates tree =
-    commitNumber (widthsOf set) n k (length base) (length table) (length gammas) (length codeword) (length coordinates) (length tree)
+abbrev pub commitAnswer : Trees → ℕ → ℕ → List ℕ → List ℕ → List ℕ → List ℕ → List ℕ → List ℕ → ℕ
+commitAnswer how n k base table gammas codeword coordinates tree =
+    commitNumber (widthsOf (how .set)) n k (length base) (length table) (length gammas) (length codeword) (length coordinates) (length tree)
 
 -- ---- what is left in the four buffers. The gammas are those of the base domain, `gammas hash base n k`; the list is 0 to n - 1,
 -- `allCoordinates n`

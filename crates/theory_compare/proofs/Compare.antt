@@ -12,6 +12,7 @@ use lib.Seq.{take-at}
 use Rattle.theory_laws.specs.Questions.{pick}
 use Rattle.theory_laws.specs.Lists.{same}
 use Rattle.theory_laws.proofs.Lists.{Bytes, same-true, same-refl}
+use Rattle.theory_merkle.specs.Digests.{DigestsLong}
 use Rattle.theory_merkle.specs.Binding.{Found, none, pair}
 use Rattle.theory_record.specs.Query.{checkQuery}
 use Rattle.theory_record.proofs.Widths.{PowersOfTwo}
@@ -89,7 +90,7 @@ module _ (S : Scheme) (position : ℕ) (challenges roots u v old old′ : List �
   answers-0 m m′ e f = rw (e, f) (refl, (message-in-buffer m, message-in-buffer m′))
 
   -- two records that are accepted for one position, and buffers with room for the longest message
-  pub compare-accepted : ((m : List ℕ) → length (H m) ≡ 32) → PowersOfTwo s → longestLeaf s ≤ messageBuffer → Bytes u → Bytes v
+  pub compare-accepted : DigestsLong H → PowersOfTwo s → longestLeaf s ≤ messageBuffer → Bytes u → Bytes v
       → length old ≡ messageBuffer → length old′ ≡ messageBuffer
       → checkQuery S position challenges roots u .number ≡ 0 → checkQuery S position challenges roots v .number ≡ 0 → Equal ⊎ Different
   compare-accepted sized p room bu bv e e′ eu ev =

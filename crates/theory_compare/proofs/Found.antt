@@ -7,6 +7,7 @@ use mathlib.Core.List.{List, [], _∷_}
 use native.Mathlib.Omega.{arith}
 use lib.ListN.{length}
 use Rattle.theory_laws.proofs.Lists.{Bytes}
+use Rattle.theory_merkle.specs.Digests.{DigestsLong}
 use Rattle.theory_merkle.specs.Binding.{Found, none, pair, orElse, messagesOf, collision, Nearest}
 use Rattle.theory_merkle.proofs.Binding.{Says, FoundWithin, binding, collision-within}
 use Rattle.theory_record.specs.Domain.{levelDomain, domainRoom}
@@ -72,7 +73,7 @@ record Opens (s : Widths) (n k l : ℕ) (values : List ℕ) (path : List (List �
   pub deep : length path ≡ levelDepth s n k l
 
 -- a scheme whose longest leaf message has room in a buffer
-module _ (S : Scheme) (sized : (m : List ℕ) → length (S .digest m) ≡ 32) (p : PowersOfTwo (S .widths)) (room : longestLeaf (S .widths) ≤ messageBuffer)
+module _ (S : Scheme) (sized : DigestsLong (S .digest)) (p : PowersOfTwo (S .widths)) (room : longestLeaf (S .widths) ≤ messageBuffer)
     (short : length (S .base) ≤ 200) where
   open Scheme S using (digest as H, widths as s, base, n, k)
 

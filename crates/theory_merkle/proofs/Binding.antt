@@ -10,6 +10,7 @@ use Rattle.theory_laws.specs.Questions.{pick}
 use Rattle.theory_laws.specs.Lists.{same}
 use Rattle.theory_laws.proofs.Lists.{AllLong, same-true, same-refl}
 pub use Rattle.theory_merkle.specs.Binding.{Nearest}
+use Rattle.theory_merkle.specs.Digests.{DigestsLong}
 use Rattle.theory_merkle.specs.Message.{leafMessage, nodeMessage}
 use Rattle.theory_merkle.specs.Tree.{groupOf, left, right, leafDigest, nodeDigest, climb, leafOf, rootOfPath}
 use Rattle.theory_merkle.specs.Binding.{Found, none, pair, orElse, differing, lastDiffering, messages, messagesOf, collision}
@@ -78,7 +79,7 @@ so-says : (H : List ℕ → List ℕ) (ms ms′ : List (List ℕ)) (P Q : Type 0
 so-says H ms ms′ P Q none k p = k p
 so-says H ms ms′ P Q (pair x x′) k c = c
 
-module _ (H : List ℕ → List ℕ) (domain : List ℕ) (sized : (m : List ℕ) → length (H m) ≡ 32) (short : Short domain) where
+module _ (H : List ℕ → List ℕ) (domain : List ℕ) (sized : DigestsLong H) (short : Short domain) where
   -- two ways up from one number to one digest
   pub climbs-bind : (l g : ℕ) (m m′ : List ℕ) (ss ss′ : List (List ℕ)) → AllLong 32 ss → AllLong 32 ss′ → length ss ≡ length ss′
       → climb H domain l g (H m) ss ≡ climb H domain l g (H m′) ss′
@@ -161,7 +162,7 @@ lastDiffering-within n (m ∷ ms) [] a b = tt
 lastDiffering-within n (m ∷ ms) (m′ ∷ ms′) a b =
     orElse-within n (lastDiffering ms ms′) (differing m m′) (lastDiffering-within n ms ms′ (a .1) (b .1)) (differing-within n m m′ (a .0) (b .0))
 
-module _ (H : List ℕ → List ℕ) (domain : List ℕ) (sized : (m : List ℕ) → length (H m) ≡ 32) where
+module _ (H : List ℕ → List ℕ) (domain : List ℕ) (sized : DigestsLong H) where
   messages-within : (n l g : ℕ) (m : List ℕ) (ss : List (List ℕ)) → 136 + length domain ≤ n → length m ≤ n → AllLong 32 ss
       → AllWithin n (messages H domain l g m ss)
   unfolding messages

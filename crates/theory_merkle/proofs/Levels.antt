@@ -14,6 +14,7 @@ use Rattle.theory_laws.specs.Questions.{pick}
 use Rattle.theory_laws.specs.Places.{flip}
 use Rattle.theory_laws.proofs.Lists.{AllLong, getD-long, append-long, drop-long}
 use Rattle.theory_laws.proofs.Parity.{high-half}
+use Rattle.theory_merkle.specs.Digests.{DigestsLong}
 use Rattle.theory_merkle.specs.Message.{nodeMessage}
 use Rattle.theory_merkle.specs.Tree.{root, sibling, path, endToEnd, levelsOf, left, right, nodeDigest, parents, levelsFrom, climb}
 
@@ -168,7 +169,7 @@ module _ (H : List ℕ → List ℕ) (domain : List ℕ) where
       rw (take-at ds rest (2 ^ suc h) n, drop-at ds rest (2 ^ suc h) n)
       (ap (λ (ls : List (List (List ℕ))). ds ∷ ls) (levelsOf-endToEnd h (suc l) (parents H domain l ds) (length-parents l (2 ^ h) ds (omega arith))))
 
-  module _ (sized : (m : List ℕ) → length (H m) ≡ 32) where
+  module _ (sized : DigestsLong H) where
     pub parents-long : (l : ℕ) (ds : List (List ℕ)) → AllLong 32 (parents H domain l ds)
     unfolding parents nodeDigest
     parents-long l [] = tt

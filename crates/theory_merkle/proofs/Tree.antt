@@ -9,6 +9,7 @@ use lib.ListN.{length, getD}
 use lib.Seq.{take-all}
 use Rattle.theory_laws.specs.Lists.{part, runs, flat}
 use Rattle.theory_laws.proofs.Lists.{AllLong, length-runs, getD-runs, runs-of-flat, length-flat}
+use Rattle.theory_merkle.specs.Digests.{DigestsLong}
 use Rattle.theory_merkle.specs.Message.{leafMessage}
 use Rattle.theory_merkle.specs.Tree.{groupOf, log2, depthOf, treeSize, root, path, endToEnd, leafDigest, leavesFrom, leaves}
 use Rattle.theory_merkle.specs.Tree.{levelsFrom, levels, climb, leafOf, treeOf, rootOf, rootOfPath, pathOf}
@@ -49,7 +50,7 @@ module _ (H : List ℕ → List ℕ) (domain : List ℕ) (count width : ℕ) whe
       leavesFrom-at 0 g (runs width (count / width) values) (rw length-runs h)
       ∙ ap₂ (λ i vs. leafDigest H domain count width i vs) (let z : 0 + g ≡ g = omega arith in z) (getD-runs width (count / width) g values h)
 
-  module _ (sized : (m : List ℕ) → length (H m) ≡ 32) where
+  module _ (sized : DigestsLong H) where
     leavesFrom-long : (g : ℕ) (groups : List (List ℕ)) → AllLong 32 (leavesFrom H domain count width g groups)
     unfolding leavesFrom leafDigest
     leavesFrom-long g [] = tt
@@ -103,13 +104,13 @@ module _ (H : List ℕ → List ℕ) (domain : List ℕ) (count width : ℕ) whe
 -- ---- sizes in bytes
 
 -- the tree's bytes are the tree
-pub runs-tree : (H : List ℕ → List ℕ) (domain : List ℕ) (count width : ℕ) → ((m : List ℕ) → length (H m) ≡ 32) → Shape count width → (values : List ℕ)
+pub runs-tree : (H : List ℕ → List ℕ) (domain : List ℕ) (count width : ℕ) → DigestsLong H → Shape count width → (values : List ℕ)
     → runs 32 (treeSize count width) (flat (treeOf H domain count width values)) ≡ treeOf H domain count width values
 runs-tree H domain count width sized shape values =
     runs-of-flat 32 (treeSize count width) (treeOf H domain count width values) (length-treeOf H domain count width shape values)
     (treeOf-long H domain count width sized values)
 
-pub length-flat-tree : (H : List ℕ → List ℕ) (domain : List ℕ) (count width : ℕ) → ((m : List ℕ) → length (H m) ≡ 32) → Shape count width → (values : List ℕ)
+pub length-flat-tree : (H : List ℕ → List ℕ) (domain : List ℕ) (count width : ℕ) → DigestsLong H → Shape count width → (values : List ℕ)
     → length (flat (treeOf H domain count width values)) ≡ 32 * treeSize count width
 length-flat-tree H domain count width sized shape values =
     length-flat 32 (treeOf H domain count width values) (treeOf-long H domain count width sized values)
@@ -129,7 +130,7 @@ pathOf-long count width place t shape h a n =
     path-long 32 (depthOf count width) t (groupOf place width) a e (group-lt count width place shape h)
 
 -- the same law on bytes, as they are lent: build, open, and the root of a path
-pub opened-bytes-lead-to-root : (H : List ℕ → List ℕ) (domain : List ℕ) (count width : ℕ) → ((m : List ℕ) → length (H m) ≡ 32)
+pub opened-bytes-lead-to-root : (H : List ℕ → List ℕ) (domain : List ℕ) (count width : ℕ) → DigestsLong H
     → Shape count width → (values : List ℕ) (place : ℕ) → place < count
     → rootOfPath H domain count width place (groupValues width place values)
     (runs 32 (depthOf count width) (flat (pathOf count width place (runs 32 (treeSize count width) (flat (treeOf H domain count width values))))))

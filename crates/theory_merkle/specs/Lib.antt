@@ -1,5 +1,6 @@
 pub mod Message
 pub mod Tree
+pub mod Digests
 pub mod Shape
 pub mod Binding
 pub mod Questions

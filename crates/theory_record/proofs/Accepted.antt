@@ -11,6 +11,7 @@ use Rattle.theory_laws.specs.Table.{at}
 use Rattle.theory_laws.proofs.Lists.{AllLong, getD-part, getD-long}
 use Rattle.theory_field.specs.Field.{_⊗_}
 use Rattle.theory_field.specs.Words.{words}
+use Rattle.theory_merkle.specs.Digests.{DigestsLong}
 use Rattle.theory_merkle.specs.Tree.{groupOf, treeSize}
 use Rattle.theory_merkle.proofs.Tree.{length-treeOf, treeOf-long, treeOf-root, path-of-tree-leads-to-root}
 use Rattle.theory_record.specs.Trees.{groupAt, pathAt, treeFor, rootFor, leadsTo}
@@ -46,7 +47,7 @@ module _ (S : Scheme) where
   unfolding treeLength treeFor
   length-treeFor l values p = length-treeOf H (levelDomain base l) (levelLength n k l) (levelWidth s n k l) (level-shape s n k l p .tree) values
 
-  module _ (sized : (m : List ℕ) → length (H m) ≡ 32) where
+  module _ (sized : DigestsLong H) where
     pub treeFor-long : (l : ℕ) (values : List ℕ) → AllLong 32 (treeFor S l values)
     unfolding treeFor
     treeFor-long l values = treeOf-long H (levelDomain base l) (levelLength n k l) (levelWidth s n k l) sized values
@@ -136,7 +137,7 @@ module _ (S : Scheme) where
     pub long : length values ≡ levelLength n k n
     pub tree-is : digests (treeLength s n k n) 0 treeBytes ≡ treeFor S n values
 
-  module _ (sized : (m : List ℕ) → length (H m) ≡ 32) (p : PowersOfTwo s) (base-short : length base ≤ 200) (values treeBytes : List ℕ)
+  module _ (sized : DigestsLong H) (p : PowersOfTwo s) (base-short : length base ≤ 200) (values treeBytes : List ℕ)
       (z : LastLevel values treeBytes) where
     built-group-holds : (g : ℕ) → g < levelGroups s n k n → GroupHolds S (rootFor S n values) g (openGroup s n k values (treeFor S n values) g)
     unfolding openGroup

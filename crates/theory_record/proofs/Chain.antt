@@ -11,6 +11,7 @@ use Rattle.theory_laws.specs.Lists.{part, flat}
 use Rattle.theory_laws.proofs.Lists.{length-flat}
 use Rattle.theory_field.specs.Field.{_⊗_}
 use Rattle.theory_field.specs.Words.{words}
+use Rattle.theory_merkle.specs.Digests.{DigestsLong}
 use Rattle.theory_record.specs.Trees.{treeFor, rootFor, levelsLent, treesLent, rootsLent}
 use Rattle.theory_record.specs.Widths.{levelLength, treeLength}
 use Rattle.theory_record.specs.Query.{rootAt}
@@ -34,7 +35,7 @@ Folded n k levels r =
     (l q : ℕ) → l < n → q < levelLength n k (suc l)
     → at (levels l) (2 * q) ⊕ at r l ⊗ (at (levels l) (2 * q) ⊕ at (levels l) (2 * q + 1)) ≡ at (levels (suc l)) q
 
-module _ (S : Scheme) (sized : (m : List ℕ) → length (S .digest m) ≡ 32) (p : PowersOfTwo (S .widths)) (levels : ℕ → List ℕ) where
+module _ (S : Scheme) (sized : DigestsLong (S .digest)) (p : PowersOfTwo (S .widths)) (levels : ℕ → List ℕ) where
   open Scheme S using (widths as s, n, k)
 
   pub length-rootsLent : length (rootsLent S levels) ≡ 32 * (n + 1)

@@ -10,6 +10,7 @@ use Rattle.theory_laws.specs.Table.{at}
 use Rattle.theory_laws.specs.Lists.{flat}
 use Rattle.theory_field.specs.Words.{words}
 use Rattle.theory_field.proofs.Words.{length-words-even}
+use Rattle.theory_merkle.specs.Digests.{DigestsLong}
 use Rattle.theory_multilinear.specs.Multilinear.{mle}
 use Rattle.theory_multilinear.specs.Fold.{line}
 use Rattle.theory_multilinear.specs.Codeword.{encode}
@@ -47,7 +48,7 @@ module _ (n k : ℕ) (c r : List ℕ) (long : length c ≡ 2 ^ (n + k)) where
 
 -- ---- the records of a codeword of 2^(n+k) words, folded n times by the challenges
 
-module _ (S : Scheme) (sized : (m : List ℕ) → length (S .digest m) ≡ 32) (p : PowersOfTwo (S .widths)) (base-short : length (S .base) ≤ 200)
+module _ (S : Scheme) (sized : DigestsLong (S .digest)) (p : PowersOfTwo (S .widths)) (base-short : length (S .base) ≤ 200)
     (sizes : SizesFit (S .n) (S .k)) (c : List ℕ) (long : length c ≡ 2 ^ (S .n + S .k)) (all-words : Words c)
     (challenges : List ℕ) (challenges-long : length challenges ≡ 2 * S .n) where
   open Scheme S using (widths as s, base, n, k)

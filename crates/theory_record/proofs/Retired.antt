@@ -16,6 +16,7 @@ use Rattle.theory_laws.proofs.Questions.{left-out}
 use Rattle.theory_field.specs.Words.{words}
 use Rattle.theory_merkle.specs.Tree.{groupOf}
 use Rattle.theory_record.specs.declared.WidthSet.{WidthSet}
+use Rattle.theory_record.specs.declared.Trees.{Trees}
 use Rattle.theory_record.specs.Widths.{Widths, widthsOf, levelLength, levelWidth}
 use Rattle.theory_record.specs.Format.{LevelRecord, levelForm, recordItems}
 use Rattle.theory_record.specs.Query.{Answer, accepted, refused, pairOf, rootAt, pairQuestions, levelQuestions, levelNumber, checkLevels, queryNumber, checkQuery}
@@ -117,15 +118,15 @@ module _ (S : Scheme) (p : PowersOfTwo (S .widths)) (position : ℕ) (challenges
   unfolding checkQuery oldCheckQuery
   check-as-before bytes = rw (levels-as-before 0 (recordItems levelForm n bytes) (omega (arith, length-recordItems levelForm n bytes)))
 
--- for either set of widths, every record, position, challenges and roots
-module _ (set : WidthSet) (base : List ℕ) (n k position : ℕ) (challenges roots bytes : List ℕ) where
-  pub as-before : checkQuery (scheme set base n k) position challenges roots bytes ≡ oldCheckQuery (scheme set base n k) position challenges roots bytes
-  as-before = check-as-before (scheme set base n k) (powers set) position challenges roots bytes
+-- for either set of widths and every mode, every record, position, challenges and roots
+module _ (how : Trees) (base : List ℕ) (n k position : ℕ) (challenges roots bytes : List ℕ) where
+  pub as-before : checkQuery (scheme how base n k) position challenges roots bytes ≡ oldCheckQuery (scheme how base n k) position challenges roots bytes
+  as-before = check-as-before (scheme how base n k) (powers (how .set)) position challenges roots bytes
 
   -- the old check never gave 20
-  pub old-never-20 : oldCheckQuery (scheme set base n k) position challenges roots bytes .number ≡ 20 → ⊥
+  pub old-never-20 : oldCheckQuery (scheme how base n k) position challenges roots bytes .number ≡ 20 → ⊥
   old-never-20 e =
-      let answer : Answer = checkQuery (scheme set base n k) position challenges roots bytes in
+      let answer : Answer = checkQuery (scheme how base n k) position challenges roots bytes in
       let other : not (eqb (answer .number) 20) ≡ true =
-      query-passes (scheme set base n k) position challenges roots (λ x. not (eqb x 20)) refl (λ l x. refl) bytes refl in
+      query-passes (scheme how base n k) position challenges roots (λ x. not (eqb x 20)) refl (λ l x. refl) bytes refl in
       eqb-false (answer .number) 20 (not-true _ other) (ap (λ (r : Answer). r .number) as-before ∙ e)

@@ -4,12 +4,12 @@ use mathlib.Core.List.{List}
 use denote.Ref.{RefT, now}
 use denote.Triple.Both.{Both}
 use Rattle.theory_record.specs.Scheme.{Scheme, scheme}
-use Rattle.theory_record.specs.declared.WidthSet.{WidthSet}
+use Rattle.theory_record.specs.declared.Trees.{Trees}
 
 -- a slice, as a contract names it: what it holds is `now (s .entry)` and then `now (s .exit)`
 abbrev pub Slice : Type 0
 Slice = Both (RefT (List ℕ)) (RefT (List ℕ))
 
--- of a set of widths, a lent base domain, n and k
-abbrev pub schemeOf : WidthSet → Slice → ℕ → ℕ → Scheme
-schemeOf set base n k = scheme set (now (base .entry)) n k
+-- of how trees are made, a lent base domain, n and k
+abbrev pub schemeOf : Trees → Slice → ℕ → ℕ → Scheme
+schemeOf how base n k = scheme how (now (base .entry)) n k

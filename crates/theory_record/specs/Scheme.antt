@@ -2,9 +2,9 @@
 -- it: their digest is BLAKE3's hash mode, always.
 use Prim.Native.Nat.{ℕ}
 use mathlib.Core.List.{List}
-use Rattle.theory_blake3.specs.Digest.{hash}
+use Rattle.theory_blake3.specs.Modes.{under}
 use Rattle.theory_record.specs.Widths.{Widths, widthsOf, levelLength, levelWidth, levelDepth}
-use Rattle.theory_record.specs.declared.WidthSet.{WidthSet}
+use Rattle.theory_record.specs.declared.Trees.{Trees}
 use Rattle.theory_record.specs.Domain.{levelDomain}
 
 pub record Scheme : Type 0 where
@@ -14,9 +14,9 @@ pub record Scheme : Type 0 where
   pub n : ℕ
   pub k : ℕ
 
--- the scheme that every entry makes of its set of widths, base domain, n and k
-abbrev pub scheme : WidthSet → List ℕ → ℕ → ℕ → Scheme
-scheme set base n k = record { digest = hash; widths = widthsOf set; base = base; n = n; k = k }
+-- the scheme that every entry makes of how its trees are made, base domain, n and k
+abbrev pub scheme : Trees → List ℕ → ℕ → ℕ → Scheme
+scheme how base n k = record { digest = under (how .mode); widths = widthsOf (how .set); base = base; n = n; k = k }
 
 -- level l of a scheme: its length, its width and the length of its paths, and its domain
 module _ (S : Scheme) (l : ℕ) where

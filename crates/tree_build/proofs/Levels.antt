@@ -10,8 +10,7 @@ use lib.Seq.{drop-drop, length-take-le}
 use Rattle.theory_laws.specs.Lists.{part, runs, flat, stored}
 use Rattle.theory_laws.proofs.Lists.{AllLong, length-runs, runs-long, flat-runs, runs-flat, length-flat, part-same, flat-append}
 use Rattle.theory_laws.proofs.Lists.{stored-all, stored-same, stored-over, then-stored, take-stored, drop-stored, runs-same}
-use Rattle.theory_blake3.specs.Digest.{hash}
-use Rattle.theory_blake3.proofs.HashMode.{length-hash}
+use Rattle.theory_merkle.specs.Digests.{DigestsLong}
 use Rattle.theory_merkle.specs.Message.{prefixed, nodePrefix}
 use Rattle.theory_merkle.specs.Tree.{nodeDigest, parents, levelsFrom, endToEnd}
 use Rattle.theory_merkle.proofs.Message.{nodeMessage-is}
@@ -24,70 +23,72 @@ use Rattle.tree_by_fours.proofs.Walk.{put-then}
 -- ---- one level above another
 
 -- the digest of a node, by the prefix that is kept
-node-hashed : (domain : List ℕ) (level : ℕ) (l r message message′ d : List ℕ) (prefix : ℕ) → take prefix message ≡ nodePrefix domain level
-    → Hashed message prefix (prefixed l ++ prefixed r) message′ d
-    → d ≡ nodeDigest hash domain level l r
+node-hashed : (H : List ℕ → List ℕ) (domain : List ℕ) (level : ℕ) (l r message message′ d : List ℕ) (prefix : ℕ) → take prefix message ≡ nodePrefix domain level
+    → Hashed H message prefix (prefixed l ++ prefixed r) message′ d
+    → d ≡ nodeDigest H domain level l r
 unfolding nodeDigest
-node-hashed domain level l r message message′ d prefix e h = h .digest ∙ ap (λ (p : List ℕ). hash (p ++ (prefixed l ++ prefixed r))) e
-    ∙ ap hash (sym (nodeMessage-is domain level l r))
+node-hashed H domain level l r message message′ d prefix e h = h .digest ∙ ap (λ (p : List ℕ). H (p ++ (prefixed l ++ prefixed r))) e
+    ∙ ap H (sym (nodeMessage-is domain level l r))
 
-module _ (domain : List ℕ) (level half j src below : ℕ) (tree₀ : List ℕ) {tree tree′ message message′ l r d out : List ℕ} {dst k prefix : ℕ} where
+module _ (H : List ℕ → List ℕ) (domain : List ℕ) (level half j src below : ℕ) (tree₀ : List ℕ)
+    {tree tree′ message message′ l r d out : List ℕ} {dst k prefix : ℕ} where
   pub parents-step : take below tree ≡ take below tree₀ → j < half → src + 64 ≤ below → l ≡ part 32 src tree → r ≡ part 32 (src + 32) tree
       → take prefix message ≡ nodePrefix domain level
-      → Hashed message prefix (prefixed l ++ prefixed r) message′ d → Put tree dst (length d) d tree′ k
-      → stored tree dst (flat (parents hash domain level (runs 32 (2 * (half - j)) (drop src tree₀)))) ≡ out
-      → stored tree′ k (flat (parents hash domain level (runs 32 (2 * (half - (j + 1))) (drop (src + 64) tree₀)))) ≡ out
+      → Hashed H message prefix (prefixed l ++ prefixed r) message′ d → Put tree dst (length d) d tree′ k
+      → stored tree dst (flat (parents H domain level (runs 32 (2 * (half - j)) (drop src tree₀)))) ≡ out
+      → stored tree′ k (flat (parents H domain level (runs 32 (2 * (half - (j + 1))) (drop (src + 64) tree₀)))) ≡ out
   unfolding parents runs flat part
   parents-step same lt fits el er e h p f =
       let x : l ≡ take 32 (drop src tree₀) = el ∙ part-same below 32 src tree tree₀ same (omega arith) in
       let y : r ≡ take 32 (drop (src + 32) tree₀) = er ∙ part-same below 32 (src + 32) tree tree₀ same (omega arith) in
-      let z = node-hashed domain level l r message message′ d prefix e h in
+      let z = node-hashed H domain level l r message message′ d prefix e h in
       let m : 2 * (half - j) ≡ suc (suc (2 * (half - (j + 1)))) = omega arith in
       let s : src + 32 + 32 ≡ src + 64 = omega arith in
-      let rest : List ℕ = flat (parents hash domain level (runs 32 (2 * (half - (j + 1))) (drop (src + 64) tree₀))) in
+      let rest : List ℕ = flat (parents H domain level (runs 32 (2 * (half - (j + 1))) (drop (src + 64) tree₀))) in
       put-then tree dst (length d) d tree′ k rest out p
-      (ap (λ (u : List ℕ). stored tree dst (u ++ rest)) (z ∙ ap₂ (λ (a b : List ℕ). nodeDigest hash domain level a b) x y)
+      (ap (λ (u : List ℕ). stored tree dst (u ++ rest)) (z ∙ ap₂ (λ (a b : List ℕ). nodeDigest H domain level a b) x y)
       ∙ (rw (m, drop-drop 32 src tree₀, drop-drop 32 (src + 32) tree₀, s) at f))
 
 -- the parents up to one, and those from it on, are all of them
-pub parents-join : (domain : List ℕ) (level from half done : ℕ) (t t1 t2 : List ℕ) → done ≤ half → from + 96 * half ≤ length t
-    → t1 ≡ stored t (from + 64 * half) (flat (parents hash domain level (runs 32 (2 * done) (drop from t))))
-    → t2 ≡ stored t1 (from + 64 * half + 32 * done) (flat (parents hash domain level (runs 32 (2 * (half - done)) (drop (from + 64 * done) t1))))
-    → t2 ≡ stored t (from + 64 * half) (flat (parents hash domain level (runs 32 (2 * half) (drop from t))))
+pub parents-join : (H : List ℕ → List ℕ) (sized : DigestsLong H) (domain : List ℕ) (level from half done : ℕ) (t t1 t2 : List ℕ)
+    → done ≤ half → from + 96 * half ≤ length t
+    → t1 ≡ stored t (from + 64 * half) (flat (parents H domain level (runs 32 (2 * done) (drop from t))))
+    → t2 ≡ stored t1 (from + 64 * half + 32 * done) (flat (parents H domain level (runs 32 (2 * (half - done)) (drop (from + 64 * done) t1))))
+    → t2 ≡ stored t (from + 64 * half) (flat (parents H domain level (runs 32 (2 * half) (drop from t))))
 unfolding part
-parents-join domain level from half done t t1 t2 h room e f =
+parents-join H sized domain level from half done t t1 t2 h room e f =
     let rest : ℕ = half - done in
     let below : ℕ = from + 64 * half in
     let s : done + rest ≡ half = omega arith in
     let j : from + 32 * (2 * done) ≡ from + 64 * done = omega arith in
-    let a : List (List ℕ) = parents hash domain level (runs 32 (2 * done) (drop from t)) in
-    let b : List (List ℕ) = parents hash domain level (runs 32 (2 * rest) (drop (from + 64 * done) t)) in
-    let n : length (flat a) ≡ 32 * done = length-flat 32 a (parents-long hash domain length-hash level (runs 32 (2 * done) (drop from t)))
-    ∙ ap (λ k. 32 * k) (length-parents hash domain level done (runs 32 (2 * done) (drop from t)) (length-runs 32 (2 * done) (drop from t))) in
+    let a : List (List ℕ) = parents H domain level (runs 32 (2 * done) (drop from t)) in
+    let b : List (List ℕ) = parents H domain level (runs 32 (2 * rest) (drop (from + 64 * done) t)) in
+    let n : length (flat a) ≡ 32 * done = length-flat 32 a (parents-long H domain sized level (runs 32 (2 * done) (drop from t)))
+    ∙ ap (λ k. 32 * k) (length-parents H domain level done (runs 32 (2 * done) (drop from t)) (length-runs 32 (2 * done) (drop from t))) in
     let same : take below t1 ≡ take below t = ap (take below) e ∙ take-stored below t below (flat a) (omega arith) in
     let read : runs 32 (2 * rest) (drop (from + 64 * done) t1) ≡ runs 32 (2 * rest) (drop (from + 64 * done) t)
     = runs-same 32 (2 * rest) _ _ (part-same below (32 * (2 * rest)) (from + 64 * done) t1 t same (omega arith)) in
-    let split : parents hash domain level (runs 32 (2 * half) (drop from t)) ≡ a ++ b
-    = ap (λ k. parents hash domain level (runs 32 (2 * k) (drop from t))) (sym s) ∙ parents-split hash domain level 32 done rest (drop from t)
-    ∙ ap (λ (l : List ℕ). a ++ parents hash domain level (runs 32 (2 * rest) l)) (drop-drop (32 * (2 * done)) from t ∙ ap (λ k. drop k t) j) in
+    let split : parents H domain level (runs 32 (2 * half) (drop from t)) ≡ a ++ b
+    = ap (λ k. parents H domain level (runs 32 (2 * k) (drop from t))) (sym s) ∙ parents-split H domain level 32 done rest (drop from t)
+    ∙ ap (λ (l : List ℕ). a ++ parents H domain level (runs 32 (2 * rest) l)) (drop-drop (32 * (2 * done)) from t ∙ ap (λ k. drop k t) j) in
     then-stored t t1 t2 below (below + 32 * done) (flat a) (flat b) e (omega arith)
-    (f ∙ ap (λ (xs : List (List ℕ)). stored t1 (below + 32 * done) (flat (parents hash domain level xs))) read)
+    (f ∙ ap (λ (xs : List (List ℕ)). stored t1 (below + 32 * done) (flat (parents H domain level xs))) read)
     ∙ ap (stored t below) (sym (flat-append a b) ∙ ap flat (sym split))
 
 -- ---- all levels
 
-module _ (domain : List ℕ) where
+module _ (H : List ℕ → List ℕ) (sized : DigestsLong H) (domain : List ℕ) where
   abbrev above : ℕ → ℕ → List (List ℕ) → List ℕ
-  above depth level ds = flat (endToEnd (levelsFrom hash domain depth level ds))
+  above depth level ds = flat (endToEnd (levelsFrom H domain depth level ds))
 
   -- a level and those above it, in bytes
   above-length : (h l : ℕ) (ds : List (List ℕ)) → length ds ≡ 2 ^ h → AllLong 32 ds → length (above h l ds) + 32 ≡ 64 * 2 ^ h
   above-length h l ds n a =
-      let e = length-endToEnd hash domain h l ds n in
-      omega (arith, length-flat 32 (endToEnd (levelsFrom hash domain h l ds)) (endToEnd-long hash domain length-hash h l ds a))
+      let e = length-endToEnd H domain h l ds n in
+      omega (arith, length-flat 32 (endToEnd (levelsFrom H domain h l ds)) (endToEnd-long H domain sized h l ds a))
 
   pub levels-step : (t t′ r : List ℕ) (depth level from m half : ℕ) → level < depth → m ≡ 2 ^ (depth - level) → half ≡ m / 2 → from + 64 * m ≡ length t + 32
-      → t′ ≡ stored t (from + 64 * half) (flat (parents hash domain level (runs 32 (2 * half) (drop from t))))
+      → t′ ≡ stored t (from + 64 * half) (flat (parents H domain level (runs 32 (2 * half) (drop from t))))
       → stored t from (above (depth - level) level (runs 32 m (drop from t))) ≡ r
       → stored t′ (from + 64 * half) (above (depth - (level + 1)) (level + 1) (runs 32 half (drop (from + 64 * half) t′))) ≡ r
   unfolding endToEnd levelsFrom
@@ -100,9 +101,9 @@ module _ (domain : List ℕ) where
       let D : List ℕ = drop from t in
       let lD : length D ≡ length t - from = length-drop from t in
       let ds : List (List ℕ) = runs 32 (2 * half) D in
-      let ps : List (List ℕ) = parents hash domain level ds in
-      let lp : length ps ≡ half = length-parents hash domain level half ds (length-runs 32 (2 * half) D) in
-      let ap32 : AllLong 32 ps = parents-long hash domain length-hash level ds in
+      let ps : List (List ℕ) = parents H domain level ds in
+      let lp : length ps ≡ half = length-parents H domain level half ds (length-runs 32 (2 * half) D) in
+      let ap32 : AllLong 32 ps = parents-long H domain sized level ds in
       let lU : length (flat ps) ≡ 32 * half = length-flat 32 ps ap32 ∙ ap (λ i. 32 * i) lp in
       let j : ℕ = from + 64 * half in
       let W : List ℕ = above k (suc level) ps in
@@ -114,8 +115,8 @@ module _ (domain : List ℕ) where
       let q : stored t j W ≡ stored t from (take (64 * half) D ++ W)
       = then-stored t t (stored t j W) from j (take (64 * half) D) W (sym (stored-same (64 * half) from t)) (omega arith) refl in
       let z : 32 * (2 * half) ≡ 64 * half = omega arith in
-      let u : flat (ds ++ endToEnd (levelsFrom hash domain k (suc level) ps)) ≡ take (64 * half) D ++ W
-      = flat-append ds (endToEnd (levelsFrom hash domain k (suc level) ps)) ∙ ap (λ (x : List ℕ). x ++ W) (flat-runs 32 (2 * half) D ∙ ap (λ i. take i D) z) in
+      let u : flat (ds ++ endToEnd (levelsFrom H domain k (suc level) ps)) ≡ take (64 * half) D ++ W
+      = flat-append ds (endToEnd (levelsFrom H domain k (suc level) ps)) ∙ ap (λ (x : List ℕ). x ++ W) (flat-runs 32 (2 * half) D ∙ ap (λ i. take i D) z) in
       ap₂ (λ (i : ℕ) (xs : List (List ℕ)). stored t′ j (above (depth - (level + 1)) i xs)) (add-one level) rn
       ∙ ap (λ i. stored t′ j (above i (suc level) ps)) (ap (λ i. depth - i) (add-one level))
       ∙ g ∙ q ∙ ap (λ (x : List ℕ). stored t from x) (sym u) ∙ (rw (s, m2) at c)

@@ -9,7 +9,6 @@ use lib.Seq.{drop-drop, take-take}
 use Rattle.theory_laws.specs.Lists.{part, runs, flat, stored}
 use Rattle.theory_laws.proofs.Lists.{part-same, flat-append, stored-nil}
 use Rattle.theory_field.specs.Words.{words}
-use Rattle.theory_blake3.specs.Digest.{hash}
 use Rattle.theory_merkle.specs.Message.{leafPrefix, leafRest, leafMessage}
 use Rattle.theory_merkle.specs.Tree.{leafDigest, leavesFrom}
 use Rattle.bytes_numbers.specs.helpers.Put.{Put}
@@ -26,29 +25,29 @@ four-room groups width g h =
     omega (arith, e, mul-le-mul-left width h)
 
 -- no leaf by fours
-pub leaves-none : (domain : List ℕ) (count width first : ℕ) (ws out : List ℕ)
-    → out ≡ stored out 0 (flat (leavesFrom hash domain count width first (runs width 0 ws)))
+pub leaves-none : (H : List ℕ → List ℕ) (domain : List ℕ) (count width first : ℕ) (ws out : List ℕ)
+    → out ≡ stored out 0 (flat (leavesFrom H domain count width first (runs width 0 ws)))
 unfolding leavesFrom runs flat
-leaves-none domain count width first ws out = sym (stored-nil out 0)
+leaves-none H domain count width first ws out = sym (stored-nil out 0)
 
 -- the first turn, and after the last
-pub leaves-begin : (domain : List ℕ) (count width first all : ℕ) (ws out : List ℕ)
-    → stored out 0 (flat (leavesFrom hash domain count width (first + 0) (runs width (all - 0) (drop (width * 0) ws))))
-    ≡ stored out 0 (flat (leavesFrom hash domain count width first (runs width all ws)))
-leaves-begin domain count width first all ws out =
+pub leaves-begin : (H : List ℕ → List ℕ) (domain : List ℕ) (count width first all : ℕ) (ws out : List ℕ)
+    → stored out 0 (flat (leavesFrom H domain count width (first + 0) (runs width (all - 0) (drop (width * 0) ws))))
+    ≡ stored out 0 (flat (leavesFrom H domain count width first (runs width all ws)))
+leaves-begin H domain count width first all ws out =
     let f : first + 0 ≡ first = omega arith in
     let m : all - 0 ≡ all = omega arith in
     let z : width * 0 ≡ 0 = omega arith in
     rw (f, m, z)
 
-pub leaves-end : (domain : List ℕ) (count width groups g to number : ℕ) (l out r : List ℕ) → groups ≤ g
-    → stored out to (flat (leavesFrom hash domain count width number (runs width (groups - g) l))) ≡ r → out ≡ r
+pub leaves-end : (H : List ℕ → List ℕ) (domain : List ℕ) (count width groups g to number : ℕ) (l out r : List ℕ) → groups ≤ g
+    → stored out to (flat (leavesFrom H domain count width number (runs width (groups - g) l))) ≡ r → out ≡ r
 unfolding leavesFrom runs flat
-leaves-end domain count width groups g to number l out r h e = let m : groups - g ≡ 0 = omega arith in rw (m, stored-nil) at e
+leaves-end H domain count width groups g to number l out r h e = let m : groups - g ≡ 0 = omega arith in rw (m, stored-nil) at e
 
 -- ---- a turn: four groups from the g-th of them on, whose number is first + g
 
-module _ (domain : List ℕ) (count width first g : ℕ) (values : List ℕ) (from : ℕ) (begun : from ≡ 2 * (width * g)) where
+module _ (H : List ℕ → List ℕ) (domain : List ℕ) (count width first g : ℕ) (values : List ℕ) (from : ℕ) (begun : from ≡ 2 * (width * g)) where
   -- group k of the four, among those that are left
   four-groups : (k : ℕ) → k < 4 → part width (width * k) (words (take (from + 8 * width - from) (drop from values)))
       ≡ part width (width * k) (drop (width * g) (words values))
@@ -64,33 +63,33 @@ module _ (domain : List ℕ) (count width first g : ℕ) (values : List ℕ) (fr
       (filled : Each (p + (24 + 16 * width)) m′ (λ k. part p (1024 * k) m ++ leafRest width (first + g + k)
       (part width (width * k) (words (take (from + 8 * width - from) (drop from values)))))) where
     -- the digests of the four messages are those of the four groups
-    leaves-hashed : flat (four (λ k. hash (part (p + (24 + 16 * width)) (1024 * k) m′)))
-        ≡ flat (leavesFrom hash domain count width (first + g) (runs width 4 (drop (width * g) (words values))))
+    leaves-hashed : flat (four (λ k. H (part (p + (24 + 16 * width)) (1024 * k) m′)))
+        ≡ flat (leavesFrom H domain count width (first + g) (runs width 4 (drop (width * g) (words values))))
     unfolding leafDigest leafMessage
     leaves-hashed =
         let l : List ℕ = drop (width * g) (words values) in
         let rest : ℕ → List ℕ = λ k. leafRest width (first + g + k) (part width (width * k) (words (take (from + 8 * width - from) (drop from values)))) in
-        four-hashed (leafPrefix domain count width) p (24 + 16 * width) rest m m′ sized kept filled
-        ∙ ap flat (four-ext (λ k. hash (leafPrefix domain count width ++ rest k))
-        (λ k. leafDigest hash domain count width (first + g + k) (part width (width * k) l))
-        (λ k h. ap (λ (vs : List ℕ). hash (leafPrefix domain count width ++ leafRest width (first + g + k) vs)) (four-groups k h))
-        ∙ sym (four-leaves hash domain count width (first + g) l))
+        four-hashed (leafPrefix domain count width) p (24 + 16 * width) rest m m′ sized kept filled H
+        ∙ ap flat (four-ext (λ k. H (leafPrefix domain count width ++ rest k))
+        (λ k. leafDigest H domain count width (first + g + k) (part width (width * k) l))
+        (λ k h. ap (λ (vs : List ℕ). H (leafPrefix domain count width ++ leafRest width (first + g + k) vs)) (four-groups k h))
+        ∙ sym (four-leaves H domain count width (first + g) l))
 
     pub leaves-turn : (all to next : ℕ) (tree tree′ r : List ℕ) → g + 4 ≤ all
-        → Put tree to 128 (flat (four (λ k. hash (part (p + (24 + 16 * width)) (1024 * k) m′)))) tree′ next
-        → stored tree to (flat (leavesFrom hash domain count width (first + g) (runs width (all - g) (drop (width * g) (words values))))) ≡ r
-        → stored tree′ next (flat (leavesFrom hash domain count width (first + (g + 4)) (runs width (all - (g + 4)) (drop (width * (g + 4)) (words values))))) ≡ r
+        → Put tree to 128 (flat (four (λ k. H (part (p + (24 + 16 * width)) (1024 * k) m′)))) tree′ next
+        → stored tree to (flat (leavesFrom H domain count width (first + g) (runs width (all - g) (drop (width * g) (words values))))) ≡ r
+        → stored tree′ next (flat (leavesFrom H domain count width (first + (g + 4)) (runs width (all - (g + 4)) (drop (width * (g + 4)) (words values))))) ≡ r
     leaves-turn all to next tree tree′ r lt put e =
         let l : List ℕ = drop (width * g) (words values) in
         let b : ℕ = all - (g + 4) in
         let s : all - g ≡ 4 + b = omega arith in
         let z : width * g + width * 4 ≡ width * (g + 4) = omega arith in
-        let four′ : List (List ℕ) = leavesFrom hash domain count width (first + g) (runs width 4 l) in
-        let more : List (List ℕ) = leavesFrom hash domain count width (first + g + 4) (runs width b (drop (width * 4) l)) in
-        let split : flat (leavesFrom hash domain count width (first + g) (runs width (all - g) l)) ≡ flat four′ ++ flat more
-        = ap (λ i. flat (leavesFrom hash domain count width (first + g) (runs width i l))) s ∙ ap flat (leaves-split hash domain count width (first + g) 4 b l)
+        let four′ : List (List ℕ) = leavesFrom H domain count width (first + g) (runs width 4 l) in
+        let more : List (List ℕ) = leavesFrom H domain count width (first + g + 4) (runs width b (drop (width * 4) l)) in
+        let split : flat (leavesFrom H domain count width (first + g) (runs width (all - g) l)) ≡ flat four′ ++ flat more
+        = ap (λ i. flat (leavesFrom H domain count width (first + g) (runs width i l))) s ∙ ap flat (leaves-split H domain count width (first + g) 4 b l)
         ∙ flat-append four′ more in
-        ap₂ (λ (i : ℕ) (x : List ℕ). stored tree′ next (flat (leavesFrom hash domain count width i (runs width b x))))
+        ap₂ (λ (i : ℕ) (x : List ℕ). stored tree′ next (flat (leavesFrom H domain count width i (runs width b x))))
         (let y : first + (g + 4) ≡ first + g + 4 = omega arith in y)
         (ap (λ i. drop i (words values)) (sym z) ∙ sym (drop-drop (width * 4) (width * g) (words values)))
         ∙ put-then tree to 128 (flat four′) tree′ next (flat more) r (rw leaves-hashed at put) (ap (stored tree to) (sym split) ∙ e)

@@ -6,6 +6,7 @@ use native.Mathlib.Omega.{arith}
 use lib.ListN.{length, getD, drop, length-append}
 use Rattle.theory_laws.specs.Lists.{part, runs, flat}
 use Rattle.theory_laws.proofs.Lists.{length-runs, getD-runs, runs-add}
+use Rattle.theory_merkle.specs.Digests.{DigestsLong}
 use Rattle.theory_merkle.specs.Message.{leafMessage}
 use Rattle.theory_merkle.specs.Tree.{leafDigest, leavesFrom, nodeDigest, parents}
 use Rattle.theory_merkle.proofs.Levels.{parents-at}
@@ -28,7 +29,7 @@ module _ (H : List ℕ → List ℕ) (domain : List ℕ) where
       ∙ ap (λ i. leavesFrom H domain count width (suc g) xs ++ leavesFrom H domain count width i ys)
       (let e : suc g + length xs ≡ g + suc (length xs) = omega arith in e))
 
-  pub length-flat-leaves : (sized : (m : List ℕ) → length (H m) ≡ 32) (count width g : ℕ) (xs : List (List ℕ))
+  pub length-flat-leaves : (sized : DigestsLong H) (count width g : ℕ) (xs : List (List ℕ))
       → length (flat (leavesFrom H domain count width g xs)) ≡ 32 * length xs
   unfolding leavesFrom leafDigest flat
   length-flat-leaves sized count width g [] = omega arith

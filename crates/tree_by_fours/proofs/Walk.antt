@@ -10,7 +10,7 @@ use lib.ListN.{length, take}
 use Rattle.theory_laws.specs.Questions.{pick}
 use Rattle.theory_laws.specs.Lists.{part, stored}
 use Rattle.theory_laws.proofs.Lists.{stored-append}
-use Rattle.theory_blake3.specs.Compression.{iv}
+use Rattle.theory_blake3.specs.declared.Mode.{Mode}
 use Rattle.bytes_numbers.specs.helpers.Put.{Put}
 use Rattle.tree_digest.proofs.Messages.{prefix-is}
 use Rattle.tree_four_messages.specs.helpers.Strides.{firstBlocks, Each, Common}
@@ -19,9 +19,9 @@ use Rattle.tree_by_fours.specs.helpers.Fours.{byFours}
 
 -- messages that begin with P, p bytes, and have n more: h is the chaining value of P's whole blocks, and `all` of the messages, a multiple of
 -- four, are hashed by fours
-pub record Begun (P h : List ℕ) (p n all count : ℕ) : Type 0 where
+pub record Begun (mode : Mode) (P h : List ℕ) (p n all count : ℕ) : Type 0 where
   pub sized : length P ≡ p
-  pub value : h ≡ firstBlocks iv 0 (p / 64) P
+  pub value : h ≡ firstBlocks (mode .key) (mode .flags) (p / 64) P
   pub within : all ≤ count
   pub whole : all % 4 ≡ 0
   pub fits : 0 < all → p + n ≤ 1024
@@ -39,13 +39,14 @@ fours-fit size count = go (leb size 1024) refl
 pub byFours-le : (r size count : ℕ) → r ≡ byFours size count → r ≤ count
 byFours-le r size count e = rw e (fours-fit size count .0)
 
-begun : (F P h : List ℕ) (p n all count : ℕ) → F ≡ P → length P ≡ p → h ≡ firstBlocks iv 0 (length F / 64) F → all ≡ byFours (p + n) count
-    → Begun P h p n all count
-begun F P h p n all count e s v f =
+begun : (mode : Mode) (F P h : List ℕ) (p n all count : ℕ) → F ≡ P → length P ≡ p
+    → h ≡ firstBlocks (mode .key) (mode .flags) (length F / 64) F → all ≡ byFours (p + n) count
+    → Begun mode P h p n all count
+begun mode F P h p n all count e s v f =
     let q = fours-fit (p + n) count in
     record {
       sized = s;
-      value = v ∙ ap₂ (λ (i : ℕ) (l : List ℕ). firstBlocks iv 0 (i / 64) l) (ap length e ∙ s) e;
+      value = v ∙ ap₂ (λ (i : ℕ) (l : List ℕ). firstBlocks (mode .key) (mode .flags) (i / 64) l) (ap length e ∙ s) e;
       within = rw f (q .0);
       whole = rw f (q .1);
       fits = rw f (q .2);
@@ -56,8 +57,8 @@ front-sized : (o : List ℕ) (n : ℕ) (bs o1 : List ℕ) (next : ℕ) → Put o
 front-sized o n bs o1 next p = omega (arith, p .size, p .end)
 
 -- a walk before message i: `all` of the messages are hashed by fours, each stride begins with P, and the tree and the strides are as long as they were
-pub record Walk (P h : List ℕ) (p n all count i : ℕ) (tree₀ strides₀ tree strides : List ℕ) : Type 0 where
-  pub begun : Begun P h p n all count
+pub record Walk (mode : Mode) (P h : List ℕ) (p n all count i : ℕ) (tree₀ strides₀ tree strides : List ℕ) : Type 0 where
+  pub begun : Begun mode P h p n all count
   pub passed : i ≤ all
   pub fours : i % 4 ≡ 0
   pub tree-long : length tree ≡ length tree₀
@@ -65,14 +66,14 @@ pub record Walk (P h : List ℕ) (p n all count i : ℕ) (tree₀ strides₀ tre
   pub prefixes : Each p strides (λ k. P)
 
 -- it begins once P, of m bytes, is put into a buffer, and the strides and their first blocks are begun with it
-pub walk-begin : (o : List ℕ) (m : ℕ) (P o1 : List ℕ) (p : ℕ) (tree strides h : List ℕ) (n size all count : ℕ) → Put o 0 m P o1 p
-    → m ≤ length o → Each (length (take p o1)) strides (λ k. take p o1) → h ≡ firstBlocks iv 0 (length (take p o1) / 64) (take p o1)
-    → all ≡ byFours size count → size ≡ p + n → Walk P h p n all count 0 tree strides tree strides
-walk-begin o m P o1 p tree strides h n size all count put fits stand value fours same =
+pub walk-begin : (mode : Mode) (o : List ℕ) (m : ℕ) (P o1 : List ℕ) (p : ℕ) (tree strides h : List ℕ) (n size all count : ℕ) → Put o 0 m P o1 p
+    → m ≤ length o → Each (length (take p o1)) strides (λ k. take p o1) → h ≡ firstBlocks (mode .key) (mode .flags) (length (take p o1) / 64) (take p o1)
+    → all ≡ byFours size count → size ≡ p + n → Walk mode P h p n all count 0 tree strides tree strides
+walk-begin mode o m P o1 p tree strides h n size all count put fits stand value fours same =
     let e = prefix-is o m P o1 p put fits in
     let s = front-sized o m P o1 p put in
     record {
-      begun = begun (take p o1) P h p n all count e s value (fours ∙ ap (λ i. byFours i count) same);
+      begun = begun mode (take p o1) P h p n all count e s value (fours ∙ ap (λ i. byFours i count) same);
       passed = omega arith;
       fours = refl;
       tree-long = refl;
@@ -80,21 +81,21 @@ walk-begin o m P o1 p tree strides h n size all count put fits stand value fours
       prefixes = prefixes-stand (take p o1) P strides p e s stand;
     }
 
-module _ {P h : List ℕ} {p n all count i : ℕ} {tree₀ strides₀ tree strides : List ℕ}
-    (w : Walk P h p n all count i tree₀ strides₀ tree strides) (more : i < all) where
+module _ {mode : Mode} {P h : List ℕ} {p n all count i : ℕ} {tree₀ strides₀ tree strides : List ℕ}
+    (w : Walk mode P h p n all count i tree₀ strides₀ tree strides) (more : i < all) where
   -- four messages are left
   pub four-left : i + 4 ≤ all
   four-left = omega (arith, w .begun .whole, w .fours, w .passed)
 
   module _ (rest : ℕ → List ℕ) (strides′ : List ℕ) (filled : Each (p + n) strides′ (λ k. part p (1024 * k) strides ++ rest k)) where
     -- what they have in common, for their digests
-    pub walk-common : 0 < n → 4096 ≤ length strides′ → Common h (p / 64) (p + n) strides′
+    pub walk-common : 0 < n → 4096 ≤ length strides′ → Common mode h (p / 64) (p + n) strides′
     walk-common some room =
-        common P p n rest strides strides′ (w .begun .sized) (w .prefixes) filled h (w .begun .value) some (w .begun .fits (omega arith)) room
+        common P p n rest strides strides′ (w .begun .sized) (w .prefixes) filled mode h (w .begun .value) some (w .begun .fits (omega arith)) room
 
     -- a turn
     pub walk-turn : (tree′ : List ℕ) → length tree′ ≡ length tree₀ → length strides′ ≡ length strides₀
-        → Walk P h p n all count (i + 4) tree₀ strides₀ tree′ strides′
+        → Walk mode P h p n all count (i + 4) tree₀ strides₀ tree′ strides′
     walk-turn tree′ e f =
         record {
           begun = w .begun;

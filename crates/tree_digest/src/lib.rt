@@ -1,9 +1,9 @@
 // The digests of groups and of nodes, after magnetar-hash. The entries are `leaf_digest` and `node_digest`; the other functions serve the
 // crates above and require.
 use bytes_numbers::load;
-use hash_compress::iv;
 use hash_hasher::whole::Digested;
 use hash_hasher::whole::digest_of;
+use theory_blake3::Mode;
 use tree_place::Group;
 use tree_place::Place;
 use tree_place::group_of;
@@ -14,22 +14,23 @@ ghost use lib.ListN.{length};
 ghost use Rattle.theory_field.specs.Words.{words};
 ghost use Rattle.theory_merkle.specs.Message.{prefixed, leafRest};
 ghost use Rattle.theory_merkle.specs.Tree.{leafDigest, nodeDigest};
-ghost use Rattle.theory_blake3.specs.Digest.{hash};
+ghost use Rattle.theory_blake3.specs.Modes.{under};
 ghost use Rattle.tree_place.specs.Place.{index, number};
 ghost use Rattle.tree_digest.specs.Answers.{leafAnswer, nodeAnswer};
 ghost use Rattle.tree_digest.specs.helpers.Hashed.{Hashed};
 
-// The digest of a message, in hash mode.
-pub fn digest(message: &[u8]) -> [u8; 32]
+// The digest of a message under a mode.
+pub fn digest(mode: Mode, message: &[u8]) -> [u8; 32]
     requires { ⌜ length (now message) ≤ 2 ^ 24 ⌝ }
-    ensures { λ r. ⌜ r ≡ hash (now (message .entry)) ⌝ }
+    ensures { λ r. ⌜ r ≡ under mode (now (message .entry)) ⌝ }
 {
-    let key = iv();
-    digest_of(key, 0, message)
+    let key = mode.key;
+    digest_of(key, mode.flags, message)
 }
 
 // The digest of a group's leaf message, whose prefix stands in the buffer's first bytes and is kept.
 pub fn hash_group(
+    mode: Mode,
     message: &mut [u8],
     prefix: usize,
     width: usize,
@@ -37,50 +38,65 @@ pub fn hash_group(
     values: &[u64],
 ) -> [u8; 32]
     requires { ⌜ (length (now values) ≡ 2 * width) × (prefix + 24 + 16 * width ≤ length (now message)) × (length (now message) ≤ 2 ^ 24) ⌝ }
-    ensures { λ r. ⌜ Hashed (now (message .entry)) prefix (leafRest width (number group) (words (now (values .entry)))) (now (message .exit)) r ⌝ }
+    ensures { λ r. ⌜ Hashed (under mode) (now (message .entry)) prefix (leafRest width (number group) (words (now (values .entry))))
+        (now (message .exit)) r ⌝ }
 {
     let n = tree_message::leaf_rest(message, prefix, width, group, values);
-    digest(&message[..n])
+    digest(mode, &message[..n])
 }
 
 // The digest of a node message, whose prefix stands in the buffer's first bytes and is kept.
-pub fn hash_node(message: &mut [u8], prefix: usize, left: [u8; 32], right: [u8; 32]) -> [u8; 32]
+pub fn hash_node(
+    mode: Mode,
+    message: &mut [u8],
+    prefix: usize,
+    left: [u8; 32],
+    right: [u8; 32],
+) -> [u8; 32]
     requires { ⌜ (prefix + 80 ≤ length (now message)) × (length (now message) ≤ 2 ^ 24) ⌝ }
-    ensures { λ r. ⌜ Hashed (now (message .entry)) prefix (prefixed left ++ prefixed right) (now (message .exit)) r ⌝ }
+    ensures { λ r. ⌜ Hashed (under mode) (now (message .entry)) prefix (prefixed left ++ prefixed right) (now (message .exit)) r ⌝ }
 {
     let n = tree_message::node_rest(message, prefix, left, right);
-    digest(&message[..n])
+    digest(mode, &message[..n])
 }
 
 // The digest of a group, by its number.
-pub fn leaf_of(domain: &[u8], count: usize, width: usize, group: Group, values: &[u64]) -> [u8; 32]
+pub fn leaf_of(
+    mode: Mode,
+    domain: &[u8],
+    count: usize,
+    width: usize,
+    group: Group,
+    values: &[u64],
+) -> [u8; 32]
     requires { ⌜ (length (now domain) ≤ 255) × (width ≤ 512) × (length (now values) ≡ 2 * width) ⌝ }
-    ensures { λ r. ⌜ r ≡ leafDigest hash (now (domain .entry)) count width (number group) (words (now (values .entry))) ⌝ }
+    ensures { λ r. ⌜ r ≡ leafDigest (under mode) (now (domain .entry)) count width (number group) (words (now (values .entry))) ⌝ }
 {
     let mut message = [0u8; tree_message::LEAF_MESSAGE];
     let prefix = tree_message::leaf_prefix(&mut message, domain, count, width);
-    hash_group(&mut message, prefix, width, group, values)
+    hash_group(mode, &mut message, prefix, width, group, values)
 }
 
 // The digest of a node.
-pub fn node_of(domain: &[u8], level: usize, left: [u8; 32], right: [u8; 32]) -> [u8; 32]
+pub fn node_of(mode: Mode, domain: &[u8], level: usize, left: [u8; 32], right: [u8; 32]) -> [u8; 32]
     requires { ⌜ length (now domain) ≤ 255 ⌝ }
-    ensures { λ r. ⌜ r ≡ nodeDigest hash (now (domain .entry)) level left right ⌝ }
+    ensures { λ r. ⌜ r ≡ nodeDigest (under mode) (now (domain .entry)) level left right ⌝ }
 {
     let mut message = [0u8; tree_message::NODE_MESSAGE];
     let prefix = tree_message::node_prefix(&mut message, domain, level);
-    hash_node(&mut message, prefix, left, right)
+    hash_node(mode, &mut message, prefix, left, right)
 }
 
 // The leaf digest of the group of a place.
 pub fn leaf_digest(
+    mode: Mode,
     domain: &[u8],
     count: usize,
     width: usize,
     place: Place,
     values: &[u64],
 ) -> Digested
-    ensures { λ r. ⌜ r ≡ leafAnswer (now (domain .entry)) count width (index place) (now (values .entry)) ⌝ }
+    ensures { λ r. ⌜ r ≡ leafAnswer mode (now (domain .entry)) count width (index place) (now (values .entry)) ⌝ }
 {
     let q = tree_place::leaf_number(domain.len(), count, width, place, values.len());
     if q != 0 {
@@ -89,7 +105,7 @@ pub fn leaf_digest(
             bytes: [0u8; 32],
         };
     }
-    let d = leaf_of(domain, count, width, group_of(place, width), values);
+    let d = leaf_of(mode, domain, count, width, group_of(place, width), values);
     Digested {
         number: 0,
         bytes: d,
@@ -97,8 +113,8 @@ pub fn leaf_digest(
 }
 
 // The node digest of two digests.
-pub fn node_digest(domain: &[u8], level: usize, left: &[u8], right: &[u8]) -> Digested
-    ensures { λ r. ⌜ r ≡ nodeAnswer (now (domain .entry)) level (now (left .entry)) (now (right .entry)) ⌝ }
+pub fn node_digest(mode: Mode, domain: &[u8], level: usize, left: &[u8], right: &[u8]) -> Digested
+    ensures { λ r. ⌜ r ≡ nodeAnswer mode (now (domain .entry)) level (now (left .entry)) (now (right .entry)) ⌝ }
 {
     let q = tree_place::node_number(domain.len(), left.len(), right.len());
     if q != 0 {
@@ -107,7 +123,7 @@ pub fn node_digest(domain: &[u8], level: usize, left: &[u8], right: &[u8]) -> Di
             bytes: [0u8; 32],
         };
     }
-    let d = node_of(domain, level, load(left, 0), load(right, 0));
+    let d = node_of(mode, domain, level, load(left, 0), load(right, 0));
     Digested {
         number: 0,
         bytes: d,

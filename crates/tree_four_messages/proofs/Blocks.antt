@@ -8,9 +8,9 @@ use lib.ListN.{length, take, drop, length-drop}
 use lib.Seq.{drop-drop, take-append-le, drop-append-le}
 use Rattle.theory_laws.specs.Lists.{part}
 use Rattle.theory_blake3.specs.Flags.{startFlag, rootNode}
-use Rattle.theory_blake3.specs.Compression.{cv, iv}
+use Rattle.theory_blake3.specs.Compression.{cv}
 use Rattle.theory_blake3.specs.Chunk.{next, chunkFrom, chunk}
-use Rattle.theory_blake3.specs.Digest.{bytesOfWords32, root, digest, hash}
+use Rattle.theory_blake3.specs.Digest.{bytesOfWords32, root, digest}
 use Rattle.theory_blake3.proofs.Tree.{tree-one}
 use Rattle.hash_chunk.proofs.Chunk.{chunk-step}
 use Rattle.tree_four_messages.specs.helpers.Strides.{blocksFrom, firstBlocks}
@@ -53,15 +53,15 @@ chunk-blocks d (suc n) i h bs x le lt =
     (drop-drop (64 * n) 64 bs ∙ ap (λ (m : ℕ). drop m bs) u)
 
 -- the digest of a message of at most a chunk
-pub hash-after : (n : ℕ) (h bs : List ℕ) → h ≡ firstBlocks iv 0 n bs → 64 * n < length bs → length bs ≤ 1024
-    → bytesOfWords32 (cv (chunkFrom 0 (15 - n) h (startFlag n) 0 (drop (64 * n) bs) 8)) ≡ hash bs
-unfolding hash digest root chunk firstBlocks
-hash-after n h bs e lt le =
+pub digest-after : (key : List ℕ) (d n : ℕ) (h bs : List ℕ) → h ≡ firstBlocks key d n bs → 64 * n < length bs → length bs ≤ 1024
+    → bytesOfWords32 (cv (chunkFrom d (15 - n) h (startFlag n) 0 (drop (64 * n) bs) 8)) ≡ digest key d bs
+unfolding digest root chunk firstBlocks
+digest-after key d n h bs e lt le =
     let z : n + 0 ≡ n = omega arith in
     ap (λ (w : List ℕ). bytesOfWords32 (cv w))
-    (ap (λ (v : List ℕ). chunkFrom 0 (15 - n) v (startFlag n) 0 (drop (64 * n) bs) 8) e
-    ∙ sym (rw z at (chunk-blocks 0 n 0 iv bs 8 (omega arith) lt))
-    ∙ sym (tree-one iv 0 0 bs rootNode le))
+    (ap (λ (v : List ℕ). chunkFrom d (15 - n) v (startFlag n) 0 (drop (64 * n) bs) 8) e
+    ∙ sym (rw z at (chunk-blocks d n 0 key bs 8 (omega arith) lt))
+    ∙ sym (tree-one key d 0 bs rootNode le))
 
 -- the blocks of a beginning
 blocksFrom-append : (d n i : ℕ) (h p r : List ℕ) → 64 * n ≤ length p → blocksFrom d n i h (p ++ r) ≡ blocksFrom d n i h p

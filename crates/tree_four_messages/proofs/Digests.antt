@@ -12,14 +12,16 @@ use Rattle.theory_laws.proofs.Lists.{take-drop, length-part, length-stored}
 use Rattle.theory_blake3.specs.Flags.{startFlag}
 use Rattle.theory_blake3.specs.Compression.{cv}
 use Rattle.theory_blake3.specs.Chunk.{chunkFrom}
-use Rattle.theory_blake3.specs.Digest.{bytesOfWords32, hash}
+use Rattle.theory_blake3.specs.Digest.{bytesOfWords32}
+use Rattle.theory_blake3.specs.declared.Mode.{Mode}
+use Rattle.theory_blake3.specs.Modes.{under}
 use Rattle.theory_blake3.proofs.Words.{length-bytesOfWords32}
 use Rattle.hash_four_lanes.specs.helpers.Lane.{lane}
 use Rattle.hash_four_chunks.specs.helpers.FourChunks.{which}
 use Rattle.bytes_numbers.specs.helpers.Put.{Put}
 use Rattle.bytes_numbers.proofs.Stores.{then-put, same-put}
 use Rattle.tree_four_messages.specs.helpers.Strides.{four, Common}
-use Rattle.tree_four_messages.proofs.Blocks.{hash-after}
+use Rattle.tree_four_messages.proofs.Blocks.{digest-after}
 
 -- what follows the blocks of message k, as it is lent
 lent-rest : (i f n s e : ℕ) (l : List ℕ) → s ≡ i + f → e ≡ i + n → f ≤ n → take (e - s) (drop s l) ≡ drop f (part n i l)
@@ -29,25 +31,26 @@ lent-rest i f n s e l es ee h =
     let y : f + (n - f) ≡ n = omega arith in
     rw (x, es) (ap (take (n - f)) (sym (drop-drop f i l)) ∙ take-drop (n - f) f (drop i l) ∙ ap (λ (j : ℕ). drop f (take j (drop i l))) y)
 
-module _ (h : List ℕ) (blocks n : ℕ) (m r : List ℕ) (c : Common h blocks n m) where
+module _ (mode : Mode) (h : List ℕ) (blocks n : ℕ) (m r : List ℕ) (c : Common mode h blocks n m) where
   lane-hashed : (k s e : ℕ) (w : List ℕ) → k < 4 → s ≡ 1024 * k + 64 * blocks → e ≡ 1024 * k + n
-      → w ≡ cv (chunkFrom 0 (15 - blocks) h (startFlag blocks) 0 (take (e - s) (drop s m)) 8)
-      → bytesOfWords32 w ≡ hash (part n (1024 * k) m)
+      → w ≡ cv (chunkFrom (mode .flags) (15 - blocks) h (startFlag blocks) 0 (take (e - s) (drop s m)) 8)
+      → bytesOfWords32 w ≡ under mode (part n (1024 * k) m)
+  unfolding under
   lane-hashed k s e w lt es ee g =
       let bs : List ℕ = part n (1024 * k) m in
       let l : length bs ≡ n = length-part n (1024 * k) m (omega (arith, c .chunk, c .room)) in
       ap bytesOfWords32 g
-      ∙ ap (λ (x : List ℕ). bytesOfWords32 (cv (chunkFrom 0 (15 - blocks) h (startFlag blocks) 0 x 8)))
+      ∙ ap (λ (x : List ℕ). bytesOfWords32 (cv (chunkFrom (mode .flags) (15 - blocks) h (startFlag blocks) 0 x 8)))
       (lent-rest (1024 * k) (64 * blocks) n s e m es ee (omega (arith, c .followed)))
-      ∙ hash-after blocks h bs (c .value k lt) (omega (arith, c .followed)) (omega (arith, c .chunk))
+      ∙ digest-after (mode .key) (mode .flags) blocks h bs (c .value k lt) (omega (arith, c .followed)) (omega (arith, c .chunk))
 
   -- the lanes that `batch::chunks` gives
   pub lanes-hashed : ((k : ℕ) → k < 4 → lane 8 r k
-      ≡ cv (chunkFrom 0 (15 - blocks) h (startFlag blocks) (at (0 ∷ 0 ∷ 0 ∷ 0 ∷ []) k)
+      ≡ cv (chunkFrom (mode .flags) (15 - blocks) h (startFlag blocks) (at (0 ∷ 0 ∷ 0 ∷ 0 ∷ []) k)
       (which (take (n - 64 * blocks) (drop (64 * blocks) m)) (take (1024 + n - (1024 + 64 * blocks)) (drop (1024 + 64 * blocks) m))
       (take (2048 + n - (2048 + 64 * blocks)) (drop (2048 + 64 * blocks) m))
       (take (3072 + n - (3072 + 64 * blocks)) (drop (3072 + 64 * blocks) m)) k) 8))
-      → (k : ℕ) → k < 4 → bytesOfWords32 (lane 8 r k) ≡ hash (part n (1024 * k) m)
+      → (k : ℕ) → k < 4 → bytesOfWords32 (lane 8 r k) ≡ under mode (part n (1024 * k) m)
   unfolding which
   lanes-hashed g zero b = lane-hashed 0 (64 * blocks) n (lane 8 r 0) b (omega arith) (omega arith) (g 0 b)
   lanes-hashed g (suc zero) b = lane-hashed 1 (1024 + 64 * blocks) (1024 + n) (lane 8 r 1) b (omega arith) (omega arith) (g 1 b)
@@ -63,6 +66,24 @@ put-length o from n bs o1 next p = ap length (p .bytes) ∙ length-stored o from
 pub lane-length : (d v : List ℕ) (k : ℕ) → d ≡ bytesOfWords32 (lane 8 v k) → length d ≡ 32
 unfolding lane
 lane-length d v k e = ap length e ∙ length-bytesOfWords32 (lane 8 v k) ∙ ap (λ n. 4 * n) (length-tab 8 (λ i. at v (4 * i + k)))
+
+-- after three digests there is room for the fourth
+pub fourth-fits : (v : List ℕ) {o d0 o1 d1 o2 d2 o3 d3 : List ℕ} {to a b c : ℕ} → to + 128 ≤ length o
+    → d0 ≡ bytesOfWords32 (lane 8 v 0) → d1 ≡ bytesOfWords32 (lane 8 v 1) → d2 ≡ bytesOfWords32 (lane 8 v 2) → d3 ≡ bytesOfWords32 (lane 8 v 3)
+    → Put o to (length d0) d0 o1 a → Put o1 a (length d1) d1 o2 b → Put o2 b (length d2) d2 o3 c → c + length d3 ≤ length o3
+fourth-fits v {o} {d0} {o1} {d1} {o2} {d2} {o3} {d3} {to} {a} {b} {c} room e0 e1 e2 e3 p0 p1 p2 = omega (
+  arith,
+  p0 .end,
+  p1 .end,
+  p2 .end,
+  put-length _ _ _ _ _ _ p0,
+  put-length _ _ _ _ _ _ p1,
+  put-length _ _ _ _ _ _ p2,
+  lane-length d0 v 0 e0,
+  lane-length d1 v 1 e1,
+  lane-length d2 v 2 e2,
+  lane-length d3 v 3 e3,
+)
 
 -- four digests put one after the other
 pub four-put : (f : ℕ → List ℕ) (v : List ℕ) {o d0 o1 d1 o2 d2 o3 d3 o4 : List ℕ} {to a b c r : ℕ}

@@ -6,8 +6,7 @@ use native.Mathlib.Omega.{arith}
 use lib.ListN.{length, take, drop}
 use lib.Seq.{take-at, take-take}
 use Rattle.theory_laws.specs.Lists.{part, flat}
-use Rattle.theory_blake3.specs.Compression.{iv}
-use Rattle.theory_blake3.specs.Digest.{hash}
+use Rattle.theory_blake3.specs.declared.Mode.{Mode}
 use Rattle.tree_four_messages.specs.helpers.Strides.{firstBlocks, four, Each, Common}
 use Rattle.tree_four_messages.proofs.Blocks.{firstBlocks-append}
 
@@ -36,15 +35,17 @@ module _ (P : List ℕ) (p n : ℕ) (rest : ℕ → List ℕ) (m m′ : List ℕ
   kept-whole k h = part-front p n (1024 * k) m′ ∙ ap (take p) (whole k h) ∙ take-at P (rest k) p sized
 
   -- and its blocks are the messages'
-  pub common : (h : List ℕ) → h ≡ firstBlocks iv 0 (p / 64) P → 0 < n → p + n ≤ 1024 → 4096 ≤ length m′ → Common h (p / 64) (p + n) m′
-  common h e some fits room =
+  pub common : (mode : Mode) (h : List ℕ) → h ≡ firstBlocks (mode .key) (mode .flags) (p / 64) P → 0 < n → p + n ≤ 1024 → 4096 ≤ length m′
+      → Common mode h (p / 64) (p + n) m′
+  common mode h e some fits room =
       record {
         chunk = fits;
         followed = omega arith;
         room = room;
-        value = λ k b. e ∙ sym (firstBlocks-append iv 0 (p / 64) P (rest k) (omega arith)) ∙ ap (firstBlocks iv 0 (p / 64)) (sym (whole k b));
+        value = λ k b. e ∙ sym (firstBlocks-append (mode .key) (mode .flags) (p / 64) P (rest k) (omega arith))
+            ∙ ap (firstBlocks (mode .key) (mode .flags) (p / 64)) (sym (whole k b));
       }
 
   -- their digests
-  pub four-hashed : flat (four (λ k. hash (part (p + n) (1024 * k) m′))) ≡ flat (four (λ k. hash (P ++ rest k)))
-  four-hashed = ap flat (four-ext (λ k. hash (part (p + n) (1024 * k) m′)) (λ k. hash (P ++ rest k)) (λ k b. ap hash (whole k b)))
+  pub four-hashed : (H : List ℕ → List ℕ) → flat (four (λ k. H (part (p + n) (1024 * k) m′))) ≡ flat (four (λ k. H (P ++ rest k)))
+  four-hashed H = ap flat (four-ext (λ k. H (part (p + n) (1024 * k) m′)) (λ k. H (P ++ rest k)) (λ k b. ap H (whole k b)))

@@ -3,17 +3,17 @@
 // of the buffer's other bytes.
 use bytes_numbers::load;
 use hash_compress::compress;
-use hash_compress::iv;
 use hash_node::first_eight;
 use hash_node::start_flag;
 use hash_node::words_at;
+use theory_blake3::Mode;
 use tree_place::Group;
 ghost use mathlib.Core.Path.{_≡_};
 ghost use Prim.Native.Nat.{ℕ, _+_, _*_, _/_, _<_, _≤_};
 ghost use lib.ListN.{length};
 ghost use Rattle.theory_laws.specs.Lists.{part, flat};
-ghost use Rattle.theory_blake3.specs.Compression as C;
-ghost use Rattle.theory_blake3.specs.Digest.{bytesOfWords32, hash};
+ghost use Rattle.theory_blake3.specs.Digest.{bytesOfWords32};
+ghost use Rattle.theory_blake3.specs.Modes.{under};
 ghost use Rattle.hash_four_lanes.specs.helpers.Lane.{lane};
 ghost use Rattle.bytes_numbers.specs.helpers.Put.{Put};
 ghost use Rattle.tree_place.specs.Place.{number};
@@ -47,17 +47,17 @@ fn first_blocks(key: [u32; 8], flags: u32, message: &[u8], blocks: usize) -> [u3
     h
 }
 
-// The digests of the four messages of n bytes, whose first blocks are the same and have the chaining value h: message k's in lane k.
-fn digests_of(h: [u32; 8], blocks: usize, messages: &[u8], n: usize) -> [u32; 32]
-    requires { ⌜ Common h blocks n (now messages) ⌝ }
-    ensures { λ r. ⌜ ((k : ℕ) → k < 4 → bytesOfWords32 (lane 8 r k) ≡ hash (part n (stride * k) (now (messages .entry)))) ⌝ }
+// The digests under a mode of the four messages of n bytes, whose first blocks are the same and have the chaining value h: message k's in lane k.
+fn digests_of(mode: Mode, h: [u32; 8], blocks: usize, messages: &[u8], n: usize) -> [u32; 32]
+    requires { ⌜ Common mode h blocks n (now messages) ⌝ }
+    ensures { λ r. ⌜ ((k : ℕ) → k < 4 → bytesOfWords32 (lane 8 r k) ≡ under mode (part n (stride * k) (now (messages .entry)))) ⌝ }
 {
     let counters = [0u64, 0, 0, 0];
     let from = 64 * blocks;
     hash_four_chunks::chunks(
         h,
         blocks,
-        0,
+        mode.flags,
         &counters,
         &messages[from..n],
         &messages[STRIDE + from..STRIDE + n],
@@ -69,6 +69,7 @@ fn digests_of(h: [u32; 8], blocks: usize, messages: &[u8], n: usize) -> [u32; 32
 
 // The same digests, one after the other in a buffer.
 pub fn put_digests(
+    mode: Mode,
     out: &mut [u8],
     to: usize,
     h: [u32; 8],
@@ -76,10 +77,10 @@ pub fn put_digests(
     messages: &[u8],
     n: usize,
 ) -> usize
-    requires { ⌜ (Common h blocks n (now messages)) × (to + 128 ≤ length (now out)) ⌝ }
-    ensures { λ r. ⌜ Put (now (out .entry)) to 128 (flat (four (λ k. hash (part n (stride * k) (now (messages .entry)))))) (now (out .exit)) r ⌝ }
+    requires { ⌜ (Common mode h blocks n (now messages)) × (to + 128 ≤ length (now out)) ⌝ }
+    ensures { λ r. ⌜ Put (now (out .entry)) to 128 (flat (four (λ k. under mode (part n (stride * k) (now (messages .entry)))))) (now (out .exit)) r ⌝ }
 {
-    let v = digests_of(h, blocks, messages, n);
+    let v = digests_of(mode, h, blocks, messages, n);
     let a = bytes_numbers::put(out, to, &hash_four_chunks::lane_bytes(&v, 0));
     let b = bytes_numbers::put(out, a, &hash_four_chunks::lane_bytes(&v, 1));
     let c = bytes_numbers::put(out, b, &hash_four_chunks::lane_bytes(&v, 2));
@@ -101,14 +102,14 @@ fn put_prefixes(messages: &mut [u8], prefix: &[u8])
 }
 
 // Four messages begun: what they have in common at the front of each stride, and the chaining value of its whole blocks.
-pub fn begin(messages: &mut [u8], prefix: &[u8]) -> [u32; 8]
+pub fn begin(mode: Mode, messages: &mut [u8], prefix: &[u8]) -> [u32; 8]
     requires { ⌜ (length (now prefix) ≤ stride) × (4 * stride ≤ length (now messages)) ⌝ }
     ensures { λ _. ⌜ Each (length (now (prefix .entry))) (now (messages .exit)) (λ k. now (prefix .entry)) ⌝ }
-    ensures { λ r. ⌜ r ≡ firstBlocks C.iv 0 (length (now (prefix .entry)) / 64) (now (prefix .entry)) ⌝ }
+    ensures { λ r. ⌜ r ≡ firstBlocks (mode .key) (mode .flags) (length (now (prefix .entry)) / 64) (now (prefix .entry)) ⌝ }
 {
     put_prefixes(messages, prefix);
-    let key = iv();
-    first_blocks(key, 0, prefix, prefix.len() / 64)
+    let key = mode.key;
+    first_blocks(key, mode.flags, prefix, prefix.len() / 64)
 }
 
 // What the leaf messages of four groups, of which the first is given, have after the prefix.

@@ -5,7 +5,8 @@ use lib.ListN.{length}
 use Rattle.theory_laws.specs.Questions.{onDone}
 use Rattle.theory_laws.specs.Lists.{runs, flat}
 use Rattle.theory_field.specs.Words.{words}
-use Rattle.theory_blake3.specs.Digest.{hash}
+use Rattle.theory_blake3.specs.declared.Mode.{Mode}
+use Rattle.theory_blake3.specs.Modes.{under}
 use Rattle.theory_merkle.specs.Tree.{depthOf, treeSize, pathOf, rootOfPath}
 use Rattle.theory_merkle.specs.Numbers.{openNumber, rootNumber}
 use Rattle.hash_hasher.specs.declared.whole.Digested.{Digested}
@@ -17,7 +18,7 @@ openedInto count width place tree path =
     onDone (openNumber count width place (length tree) (length path)) (flat (pathOf count width place (runs 32 (treeSize count width) tree))) path
 
 -- the root that the lent words of the group of a place and a lent path lead to, or a number and zeros
-abbrev pub rootAnswer : List ℕ → ℕ → ℕ → ℕ → List ℕ → List ℕ → Digested
-rootAnswer domain count width place values path =
+abbrev pub rootAnswer : Mode → List ℕ → ℕ → ℕ → ℕ → List ℕ → List ℕ → Digested
+rootAnswer mode domain count width place values path =
     answered (rootNumber (length domain) count width place (length values) (length path))
-    (rootOfPath hash domain count width place (words values) (runs 32 (depthOf count width) path))
+    (rootOfPath (under mode) domain count width place (words values) (runs 32 (depthOf count width) path))

@@ -1,6 +1,7 @@
 // Authentication paths, after magnetar-hash: the path of a place, read off a lent tree, and the root that a group and a path lead to. The
 // entries are `open` and `root_of_path`.
 use hash_hasher::whole::Digested;
+use theory_blake3::Mode;
 use tree_digest::leaf_of;
 use tree_place::Place;
 use tree_place::group_of;
@@ -29,6 +30,7 @@ pub fn open(count: usize, width: usize, place: Place, tree: &[u8], path: &mut [u
 
 // The root that the group of a place and a path lead to.
 pub fn root_of_path(
+    mode: Mode,
     domain: &[u8],
     count: usize,
     width: usize,
@@ -36,7 +38,7 @@ pub fn root_of_path(
     values: &[u64],
     path: &[u8],
 ) -> Digested
-    ensures { λ r. ⌜ r ≡ rootAnswer (now (domain .entry)) count width (index place) (now (values .entry)) (now (path .entry)) ⌝ }
+    ensures { λ r. ⌜ r ≡ rootAnswer mode (now (domain .entry)) count width (index place) (now (values .entry)) (now (path .entry)) ⌝ }
 {
     let q = tree_place::root_number(domain.len(), count, width, place, values.len(), path.len());
     if q != 0 {
@@ -47,8 +49,8 @@ pub fn root_of_path(
     }
     let depth = tree_place::depth_of(count, width);
     let g = group_of(place, width);
-    let leaf = leaf_of(domain, count, width, g, values);
-    let d = climb_path(domain, g, leaf, path, 0, depth);
+    let leaf = leaf_of(mode, domain, count, width, g, values);
+    let d = climb_path(mode, domain, g, leaf, path, 0, depth);
     Digested {
         number: 0,
         bytes: d,

@@ -3,13 +3,14 @@
 use bytes_numbers::load;
 use bytes_numbers::put;
 use bytes_reader::digest_at;
+use theory_blake3::Mode;
 use tree_digest::node_of;
 use tree_place::Group;
 ghost use mathlib.Core.Path.{_≡_};
 ghost use Prim.Native.Nat.{_+_, _*_, _≤_, _<_};
 ghost use lib.ListN.{length, drop};
 ghost use Rattle.theory_laws.specs.Lists.{runs, flat};
-ghost use Rattle.theory_blake3.specs.Digest.{hash};
+ghost use Rattle.theory_blake3.specs.Modes.{under};
 ghost use Rattle.theory_merkle.specs.Tree.{left, right, nodeDigest, climb};
 ghost use Rattle.bytes_numbers.specs.helpers.Put.{Put};
 ghost use Rattle.tree_place.specs.Place.{number};
@@ -38,18 +39,26 @@ pub fn children(g: Group, d: [u8; 32], other: [u8; 32]) -> Siblings
 }
 
 // The parent of a digest, by its number on its level, and its sibling.
-pub fn parent_of(domain: &[u8], level: usize, g: Group, d: [u8; 32], other: [u8; 32]) -> [u8; 32]
+pub fn parent_of(
+    mode: Mode,
+    domain: &[u8],
+    level: usize,
+    g: Group,
+    d: [u8; 32],
+    other: [u8; 32],
+) -> [u8; 32]
     requires { ⌜ length (now domain) ≤ 255 ⌝ }
-    ensures { λ r. ⌜ r ≡ nodeDigest hash (now (domain .entry)) level (left (number g) d other) (right (number g) d other) ⌝ }
+    ensures { λ r. ⌜ r ≡ nodeDigest (under mode) (now (domain .entry)) level (left (number g) d other) (right (number g) d other) ⌝ }
 {
     let c = children(g, d, other);
     let l = c.left;
     let r = c.right;
-    node_of(domain, level, l, r)
+    node_of(mode, domain, level, l, r)
 }
 
 // Where a leaf digest, by its group, and the digests that stand from a byte on lead to.
 pub fn climb_path(
+    mode: Mode,
     domain: &[u8],
     group: Group,
     leaf: [u8; 32],
@@ -58,14 +67,14 @@ pub fn climb_path(
     depth: usize,
 ) -> [u8; 32]
     requires { ⌜ (length (now domain) ≤ 255) × (from + 32 * depth ≤ length (now s)) ⌝ }
-    ensures { λ r. ⌜ r ≡ climb hash (now (domain .entry)) 0 (number group) leaf (runs 32 depth (drop from (now (s .entry)))) ⌝ }
+    ensures { λ r. ⌜ r ≡ climb (under mode) (now (domain .entry)) 0 (number group) leaf (runs 32 depth (drop from (now (s .entry)))) ⌝ }
 {
     let mut d = leaf;
     let mut g = group;
     let mut l: usize = 0;
     while l < depth {
         let e = digest_at(s, from + 32 * l);
-        let p = parent_of(domain, l, g, d, e);
+        let p = parent_of(mode, domain, l, g, d, e);
         d = p;
         g = g.parent();
         l += 1;

@@ -79,7 +79,7 @@ returns c =
     let bytes = length-take-le _ _ (tree-fits (start .pre) _ eb) ∙ eb in
     let e = done .commit .ensures in
     let kept = done .commit .kept in
-    let z = commit-allowed (a .set) (a .base .now) (a .table .now) (start .pre) _ _ size bytes in
+    let z = commit-allowed (a .how) (a .base .now) (a .table .now) (start .pre) _ _ size bytes in
     let front = kept .1 .1 .1 .1 .1 .1 .0 ∙ size in
     record {
       gammas-are = made _ _ _ _ _ (e .0) z (e .1 .0);
@@ -88,7 +88,7 @@ returns c =
       list-is = made _ _ _ _ _ (e .0) z (e .1 .1 .1 .0);
       tree-is =
           take-at (done .commit .last .1 .1 .1 .1 .1 .1 .1 .1 .0) _ _ (kept .1 .1 .1 .1 .1 .1 .1 .1 .0 ∙ bytes)
-          ∙ tree-left (a .set) (a .base .now) (a .table .now) (start .pre) (made _ _ _ _ _ (e .0) z (e .1 .1 .1 .1));
+          ∙ tree-left (a .how) (a .base .now) (a .table .now) (start .pre) (made _ _ _ _ _ (e .0) z (e .1 .1 .1 .1));
     }
 
 pub commit-first-spec : {M : Type 1} → statement M

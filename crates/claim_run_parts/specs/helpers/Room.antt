@@ -8,7 +8,7 @@ use Rattle.theory_field.specs.Words.{words}
 use Rattle.theory_multilinear.specs.Codeword.{allCoordinates}
 use Rattle.theory_blake3.specs.Digest.{hash}
 use Rattle.theory_code.specs.Gammas.{gammas}
-use Rattle.theory_record.specs.declared.WidthSet.{WidthSet}
+use Rattle.theory_record.specs.declared.Trees.{Trees}
 use Rattle.theory_record.specs.Widths.{Widths, widthsOf, levelLength, treeLength}
 use Rattle.theory_record.specs.Accepted.{SizesFit}
 use Rattle.theory_record.specs.Sizes.{querySize, tailSize}
@@ -59,39 +59,39 @@ pub record LastRoom (s : Widths) (n k levels trees roots : ℕ) : Type 0 where
 abbrev pub Ref : Type 0
 Ref = RefT (List ℕ)
 
-abbrev pub CommitLent : WidthSet → ℕ → ℕ → Ref → Ref → Ref → Ref → Ref → Ref → Type 0
-CommitLent set n k base table gammas levels coordinates trees =
-    CommitRoom (widthsOf set) n k (length (now base)) (length (now table)) (length (now gammas)) (length (now levels)) (length (now coordinates))
+abbrev pub CommitLent : Trees → ℕ → ℕ → Ref → Ref → Ref → Ref → Ref → Ref → Type 0
+CommitLent how n k base table gammas levels coordinates trees =
+    CommitRoom (widthsOf (how .set)) n k (length (now base)) (length (now table)) (length (now gammas)) (length (now levels)) (length (now coordinates))
     (length (now trees))
 
-abbrev pub DepositLent : WidthSet → ℕ → ℕ → Ref → Ref → Ref → Ref → Ref → Ref → Ref → Ref → Ref → Ref → Ref → Type 0
-DepositLent set n k base table calls challenges gammas levels coordinates half kept trees roots =
-    Room (widthsOf set) n k (length (now base)) (length (now table)) (length (now calls)) (length (now challenges)) (length (now gammas))
+abbrev pub DepositLent : Trees → ℕ → ℕ → Ref → Ref → Ref → Ref → Ref → Ref → Ref → Ref → Ref → Ref → Ref → Type 0
+DepositLent how n k base table calls challenges gammas levels coordinates half kept trees roots =
+    Room (widthsOf (how .set)) n k (length (now base)) (length (now table)) (length (now calls)) (length (now challenges)) (length (now gammas))
     (length (now levels)) (length (now coordinates)) (length (now half)) (length (now kept)) (length (now trees)) (length (now roots))
 
-abbrev pub RecordLent : WidthSet → ℕ → ℕ → ℕ → Ref → Ref → Ref → Ref → Type 0
-RecordLent set n k position query tail one two =
-    RecordRoom (widthsOf set) n k position (length (now query)) (length (now tail)) (length (now one)) (length (now two))
+abbrev pub RecordLent : Trees → ℕ → ℕ → ℕ → Ref → Ref → Ref → Ref → Type 0
+RecordLent how n k position query tail one two =
+    RecordRoom (widthsOf (how .set)) n k position (length (now query)) (length (now tail)) (length (now one)) (length (now two))
 
 -- what committing leaves: the gammas, level 0 at the front of the levels, its list and its tree at the front of the trees, and what was behind level 0
-pub record Committed (set : WidthSet) (n k : ℕ) (base table old gammas′ levels coordinates trees : List ℕ) : Type 0 where
+pub record Committed (how : Trees) (n k : ℕ) (base table old gammas′ levels coordinates trees : List ℕ) : Type 0 where
   pub gammas-are : words gammas′ ≡ gammas hash base n k
   pub level-is : levelValues n k (words levels) 0 ≡ committedCodeword base n k (words table)
   pub behind : drop (levelLength n k 0) (words levels) ≡ drop (levelLength n k 0) (words old)
   pub list-is : coordinates ≡ allCoordinates n
-  pub tree-is : take (32 * treeLength (widthsOf set) n k 0) trees ≡ flat (treeFor (scheme set base n k) 0 (committedCodeword base n k (words table)))
+  pub tree-is : take (32 * treeLength (widthsOf (how .set)) n k 0) trees ≡ flat (treeFor (scheme how base n k) 0 (committedCodeword base n k (words table)))
 
-abbrev pub CommitLeft : WidthSet → ℕ → ℕ → Slice → Slice → Slice → Slice → Slice → Slice → Type 0
-CommitLeft set n k base table gammas levels coordinates trees =
-    Committed set n k (now (base .entry)) (now (table .entry)) (now (levels .entry)) (now (gammas .exit)) (now (levels .exit)) (now (coordinates .exit))
+abbrev pub CommitLeft : Trees → ℕ → ℕ → Slice → Slice → Slice → Slice → Slice → Slice → Type 0
+CommitLeft how n k base table gammas levels coordinates trees =
+    Committed how n k (now (base .entry)) (now (table .entry)) (now (levels .entry)) (now (gammas .exit)) (now (levels .exit)) (now (coordinates .exit))
     (now (trees .exit))
 
-abbrev pub DepositLeft : WidthSet → ℕ → ℕ → Slice → Slice → Slice → Slice → Slice → Slice → Slice → Slice → Slice → Slice → ℕ → Type 0
-DepositLeft set n k base table calls challenges gammas levels coordinates kept trees roots done =
-    Deposited set n k (now (base .entry)) (now (table .entry)) (now (calls .entry)) (now (challenges .entry)) (now (levels .entry)) (now (kept .entry))
+abbrev pub DepositLeft : Trees → ℕ → ℕ → Slice → Slice → Slice → Slice → Slice → Slice → Slice → Slice → Slice → Slice → ℕ → Type 0
+DepositLeft how n k base table calls challenges gammas levels coordinates kept trees roots done =
+    Deposited how n k (now (base .entry)) (now (table .entry)) (now (calls .entry)) (now (challenges .entry)) (now (levels .entry)) (now (kept .entry))
     (now (gammas .exit)) (now (levels .exit)) (now (coordinates .exit)) (now (kept .exit)) (now (trees .exit)) (now (roots .exit)) done
 
 -- a buffer after the tail record of the last level and its tree was built into it
-abbrev pub tailLent : WidthSet → ℕ → ℕ → Slice → Slice → Slice → List ℕ
-tailLent set n k levels trees out =
-    buildTail (widthsOf set) n k (lastLevel n k (now (levels .entry))) (lastTree (widthsOf set) n k (now (trees .entry))) (now (out .entry))
+abbrev pub tailLent : Trees → ℕ → ℕ → Slice → Slice → Slice → List ℕ
+tailLent how n k levels trees out =
+    buildTail (widthsOf (how .set)) n k (lastLevel n k (now (levels .entry))) (lastTree (widthsOf (how .set)) n k (now (trees .entry))) (now (out .entry))

@@ -49,7 +49,7 @@ returns c =
     let made : tie.After-leaves = search in
     let y = start .pre in
     let a = start .args in
-    leaves-built (a .set) (a .base .now) (words (a .values .now)) (a .out .now) y
+    leaves-built (a .how) (a .base .now) (words (a .values .now)) (a .out .now) y
     (domain-is _ _ (y .base-le) (omega arith) (domain .level-domain .ensures) (search needs)) (count .level-length .ensures)
     (width .level-width .ensures) (made .leaves .ensures .1)
 

@@ -40,7 +40,7 @@ returns c =
     let made : tie.After-parents = search in
     let y = start .pre in
     let a = start .args in
-    parents-built (a .height) (a .base .now) (a .children .now) (a .out .now) y
+    parents-built _ (a .height) (a .base .now) (a .children .now) (a .out .now) y
     (domain-is _ _ (y .base-le) (omega arith) (domain .level-domain .ensures) (search needs))
     (made .parents .ensures .1)
 

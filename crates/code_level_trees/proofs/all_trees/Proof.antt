@@ -12,7 +12,7 @@ use Rattle.code_level_trees.proofs.put_tree.Reads as put-tree-reads
 put-tree-requires : tie.Need-put-tree-requires
 put-tree-requires c κs =
     let start : tie.Start = search in
-    let starts = first-starts (start .args .set) (start .args .n) (start .args .k) in
+    let starts = first-starts (start .args .how .set) (start .args .n) (start .args .k) in
     record { room = start .pre .0; within = omega arith; from= = starts .0; at= = starts .1 }
 
 level-trees-requires : tie.Need-level-trees-requires

@@ -17,11 +17,11 @@ use Rattle.code_level.proofs.level_length.Reads as level-length-reads
 use Rattle.code_commit.proofs.trees.tree_bytes.Reads as tree-bytes-reads
 
 abbrev Inv-loop : tie.InvT-loop
-Inv-loop set n k base levels trees₀ roots₀ from₀ at₀ place₀ l₀ trees roots from at place l =
-    Grown set base n k (levelValues n k (words levels)) l from at place trees roots
+Inv-loop how n k base levels trees₀ roots₀ set from₀ at₀ place₀ l₀ trees roots from at place l =
+    Grown how base n k (levelValues n k (words levels)) l from at place trees roots
 
 abbrev μ-loop : tie.MeasureT-loop
-μ-loop set n k base levels trees₀ roots₀ from₀ at₀ place₀ l₀ trees roots from at place l = n + 1 - l
+μ-loop how n k base levels trees₀ roots₀ set from₀ at₀ place₀ l₀ trees roots from at place l = n + 1 - l
 
 level-length-requires : tie.Need-level-length-requires Inv-loop μ-loop
 level-length-requires c κs =

@@ -29,7 +29,7 @@ returns : tie.Need-returns
 returns c =
     let group : tie.After-group-of = search in
     let leaf : tie.After-put-leaf = search in
-    chain-stored _ _ _ _ _ _ _ _ _ _ _ _ (group .group-of .ensures) (leaf .put-leaf .ensures) (c .before .before .put-nodes .ensures)
+    chain-stored _ _ _ _ _ _ _ _ _ _ _ _ _ (group .group-of .ensures) (leaf .put-leaf .ensures) (c .before .before .put-nodes .ensures)
 
 pub put-chain-spec : {M : Type 1} → statement M
 put-chain-spec =

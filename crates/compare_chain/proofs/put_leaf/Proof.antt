@@ -49,7 +49,7 @@ returns c =
     let values : tie.After-group-values = search in
     let prefix : tie.After-leaf-prefix = search in
     let rest = c .before .before .before .before in
-    leaf-noted _ _ _ _ _ _ _ _ _ _ _ _ (prefix .leaf-prefix .ensures) (rest .leaf-rest .ensures) (omega arith) (values .group-values .ensures)
+    leaf-noted _ _ _ _ _ _ _ _ _ _ _ _ _ (prefix .leaf-prefix .ensures) (rest .leaf-rest .ensures) (omega arith) (values .group-values .ensures)
     (c .digest .ensures)
 
 pub put-leaf-spec : {M : Type 1} → statement M

@@ -73,7 +73,7 @@ returns c =
     let both = prefix .before .before .before .before in
     let start = both .before .before .before in
     let a = start .args in
-    children-noted _ _ _ (number (a .g)) (a .d) (a .sibling) _ _ _ _ _ _ _ _ _ _ _ (both .children .ensures) (prefix .node-prefix .ensures)
+    children-noted _ _ _ _ (number (a .g)) (a .d) (a .sibling) _ _ _ _ _ _ _ _ _ _ _ (both .children .ensures) (prefix .node-prefix .ensures)
     (rest .node-rest .ensures) (omega (arith, start .pre .0)) (put .put .ensures) (c .digest .ensures)
 
 pub put-node-spec : {M : Type 1} → statement M

@@ -4,6 +4,7 @@ use mathlib.Core.Path.{_≡_, refl}
 use native.Mathlib.Omega.{arith}
 use lib.ListN.{length, drop}
 use Rattle.theory_laws.specs.Lists.{runs, flat, stored}
+use Rattle.theory_blake3.specs.Modes.{under}
 use Rattle.tree_place.specs.Place.{number}
 use Rattle.compare_chain.specs.helpers.Nodes.{nodesOf}
 use Rattle.compare_chain.proofs.Nodes.{nodesLeft, nodes-begin, nodes-step, nodes-end, room-begin, one-more}
@@ -12,17 +13,18 @@ use Rattle.compare_chain.proofs.put_nodes.Statement.{statement}
 use Rattle.compare_chain.proofs.put_nodes.Tie as tie
 
 abbrev Inv-loop : tie.InvT-loop
-Inv-loop out₀ from domain s path depth at₀ d₀ g₀ l₀ out at d g l =
+Inv-loop mode out₀ from domain s path depth at₀ d₀ g₀ l₀ out at d g l =
     (l ≤ depth) × (length out ≡ length out₀) × (at + (136 + length domain) * (depth - l) ≤ length out)
-    × (nodesLeft out at domain l (number g) d s path depth ≡ stored out₀ from (flat (nodesOf domain 0 (number g₀) d₀ (runs 32 depth (drop path s)))))
+    × (nodesLeft (under mode) out at domain l (number g) d s path depth
+    ≡ stored out₀ from (flat (nodesOf (under mode) domain 0 (number g₀) d₀ (runs 32 depth (drop path s)))))
 
 abbrev μ-loop : tie.MeasureT-loop
-μ-loop out₀ from domain s path depth at₀ d₀ g₀ l₀ out at d g l = depth - l
+μ-loop mode out₀ from domain s path depth at₀ d₀ g₀ l₀ out at d g l = depth - l
 
 loop-holds : tie.Need-loop-holds Inv-loop μ-loop
 loop-holds c =
     let start : tie.Start Inv-loop μ-loop = search in
-    (search needs, refl, room-begin _ _ _ _ (start .pre .2), nodes-begin _ _ _ _ _ _ _ _)
+    (search needs, refl, room-begin _ _ _ _ (start .pre .2), nodes-begin _ _ _ _ _ _ _ _ _)
 
 mul-digest-at : tie.Need-mul-digest-at Inv-loop μ-loop
 mul-digest-at c = search needs
@@ -71,14 +73,14 @@ loop-again c =
       search needs,
       search needs,
       omega arith,
-      nodes-step _ _ _ _ _ _ _ _ _ _ (turn .before .loop .inv .3) _ _ _ _ t (read .digest-at .ensures) (put .put-node .ensures) (up .parent .ensures),
+      nodes-step _ _ _ _ _ _ _ _ _ _ _ (turn .before .loop .inv .3) _ _ _ _ t (read .digest-at .ensures) (put .put-node .ensures) (up .parent .ensures),
     )
 
 same-length : tie.Need-same-length Inv-loop μ-loop
 same-length c = search needs
 
 returns : tie.Need-returns Inv-loop μ-loop
-returns c = nodes-end _ _ _ _ _ _ _ _ _ _ (c .before .loop .inv .3) (c .loop-test .left)
+returns c = nodes-end _ _ _ _ _ _ _ _ _ _ _ (c .before .loop .inv .3) (c .loop-test .left)
 
 pub put-nodes-spec : {M : Type 1} → statement M
 put-nodes-spec =

@@ -13,13 +13,13 @@ use Rattle.compare_levels.proofs.pick_levels.Tie as tie
 use Rattle.theory_record.specs.Scheme.{scheme}
 
 abbrev Inv-loop : tie.InvT-loop
-Inv-loop base set n k position s t first₀ second₀ l₀ i₀ j₀ first second l i j =
-    let S = scheme set base n k in
+Inv-loop base how n k position s t first₀ second₀ l₀ i₀ j₀ first second l i j =
+    let S = scheme how base n k in
     (l ≤ n) × (Rest S (index position) l s i) × (Rest S (index position) l t j) × (length first ≡ length first₀) × (length second ≡ length second₀)
     × (NoneBelow S (index position) l s i t j (recordsFound S (index position) s t) first₀ second₀ first second)
 
 abbrev μ-loop : tie.MeasureT-loop
-μ-loop base set n k position s t first₀ second₀ l₀ i₀ j₀ first second l i j = n - l
+μ-loop base how n k position s t first₀ second₀ l₀ i₀ j₀ first second l i j = n - l
 
 loop-holds : tie.Need-loop-holds Inv-loop μ-loop
 loop-holds c =

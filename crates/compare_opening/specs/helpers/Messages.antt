@@ -8,7 +8,7 @@ use denote.Ref.{now}
 use lib.ListN.{length}
 use Rattle.theory_laws.specs.Lists.{flat}
 use Rattle.theory_merkle.specs.Binding.{Found, messagesOf}
-use Rattle.theory_record.specs.declared.WidthSet.{WidthSet}
+use Rattle.theory_record.specs.declared.Trees.{Trees}
 use Rattle.theory_record.specs.Widths.{widest}
 use Rattle.theory_record.specs.Domain.{domainRoom}
 use Rattle.theory_record.specs.Scheme.{Scheme, scheme, lengthAt, widthAt, domainAt}
@@ -34,12 +34,12 @@ foundAt S l place s sgroup spath t tgroup tpath =
     openingFound S l place (valuesAt s sgroup) (digestsAt s spath) (valuesAt t tgroup) (digestsAt t tpath)
 
 -- the same, of records and a base domain that are lent
-abbrev pub chainLent : Slice → WidthSet → ℕ → ℕ → ℕ → ℕ → Slice → ℕ → ℕ → List ℕ
-chainLent base set n k l place s group path = chainAt (scheme set (now (base .entry)) n k) l place (now (s .entry)) group path
+abbrev pub chainLent : Slice → Trees → ℕ → ℕ → ℕ → ℕ → Slice → ℕ → ℕ → List ℕ
+chainLent base how n k l place s group path = chainAt (scheme how (now (base .entry)) n k) l place (now (s .entry)) group path
 
-abbrev pub foundLent : Slice → WidthSet → ℕ → ℕ → ℕ → ℕ → Slice → ℕ → ℕ → Slice → ℕ → ℕ → Found
-foundLent base set n k l place s sgroup spath t tgroup tpath =
-    foundAt (scheme set (now (base .entry)) n k) l place (now (s .entry)) sgroup spath (now (t .entry)) tgroup tpath
+abbrev pub foundLent : Slice → Trees → ℕ → ℕ → ℕ → ℕ → Slice → ℕ → ℕ → Slice → ℕ → ℕ → Found
+foundLent base how n k l place s sgroup spath t tgroup tpath =
+    foundAt (scheme how (now (base .entry)) n k) l place (now (s .entry)) sgroup spath (now (t .entry)) tgroup tpath
 
 -- the groups and the paths are there, of the level's width and depth, and so is room for a message of each
 pub record BothSized (S : Scheme) (l : ℕ) (s : List ℕ) (sgroup spath : ℕ) (t : List ℕ) (tgroup tpath : ℕ) (first second : List ℕ) : Type 0 where

@@ -15,7 +15,7 @@ lent-number-requires c κs = search needs
 returns : tie.Need-returns
 returns c =
     let start : tie.Start = search in
-    let a = lent-refused _ (start .args .set) _ _ _ _ _ _ _ _ _ (c .before .lent-number .ensures) (c .if1 .taken) in
+    let a = lent-refused _ (start .args .how) _ _ _ _ _ _ _ _ _ (c .before .lent-number .ensures) (c .if1 .taken) in
     (a .answer-is, (a .first-is, a .second-is))
 
 records-number-requires : tie.Need-records-number-requires

@@ -6,7 +6,7 @@ use denote.Ref.{now}
 use lib.Dec.{leb, ltb, eqb}
 use Rattle.theory_laws.specs.Questions.{Question, _asks_, firstNo}
 use Rattle.theory_laws.specs.Lists.{same}
-use Rattle.theory_record.specs.declared.WidthSet.{WidthSet}
+use Rattle.theory_record.specs.declared.Trees.{Trees}
 use Rattle.theory_record.specs.Query.{sizeQuestions}
 use Rattle.theory_compare.specs.Lent.{Slice}
 use Rattle.theory_compare.specs.Compare.{accepts, messageBuffer}
@@ -28,17 +28,17 @@ unfoldable pub lentNumber : ℕ → ℕ → ℕ → ℕ → ℕ → ℕ → ℕ 
 lentNumber base n k position challenges roots first second = firstNo (sizeQuestions n k ++ lengthQuestions base n k position challenges roots first second)
 
 -- 32 and 33
-abbrev pub recordQuestions : List ℕ → WidthSet → ℕ → ℕ → ℕ → List ℕ → List ℕ → List ℕ → List ℕ → List Question
-recordQuestions base set n k position challenges roots first second =
-    (32 asks accepts (scheme set base n k) position challenges roots first) ∷
-    (32 asks accepts (scheme set base n k) position challenges roots second) ∷
+abbrev pub recordQuestions : List ℕ → Trees → ℕ → ℕ → ℕ → List ℕ → List ℕ → List ℕ → List ℕ → List Question
+recordQuestions base how n k position challenges roots first second =
+    (32 asks accepts (scheme how base n k) position challenges roots first) ∷
+    (32 asks accepts (scheme how base n k) position challenges roots second) ∷
     (33 asks not (same first second)) ∷
     []
 
-unfoldable pub recordsNumber : List ℕ → WidthSet → ℕ → ℕ → ℕ → List ℕ → List ℕ → List ℕ → List ℕ → ℕ
-recordsNumber base set n k position challenges roots first second = firstNo (recordQuestions base set n k position challenges roots first second)
+unfoldable pub recordsNumber : List ℕ → Trees → ℕ → ℕ → ℕ → List ℕ → List ℕ → List ℕ → List ℕ → ℕ
+recordsNumber base how n k position challenges roots first second = firstNo (recordQuestions base how n k position challenges roots first second)
 
 -- the same, of what is lent
-abbrev pub recordsLent : Slice → WidthSet → ℕ → ℕ → ℕ → Slice → Slice → Slice → Slice → ℕ
-recordsLent base set n k position challenges roots first second =
-    recordsNumber (now (base .entry)) set n k position (now (challenges .entry)) (now (roots .entry)) (now (first .entry)) (now (second .entry))
+abbrev pub recordsLent : Slice → Trees → ℕ → ℕ → ℕ → Slice → Slice → Slice → Slice → ℕ
+recordsLent base how n k position challenges roots first second =
+    recordsNumber (now (base .entry)) how n k position (now (challenges .entry)) (now (roots .entry)) (now (first .entry)) (now (second .entry))

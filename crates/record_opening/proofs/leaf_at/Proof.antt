@@ -34,7 +34,7 @@ returns : tie.Need-returns
 returns c =
     let read : tie.After-group-values = search in
     let begun : tie.After-leaf-prefix = search in
-    leaf-of-values _ _ _ _ _ _ _ (leaf-hashed _ _ _ _ _ _ _ _ _ _ (begun .leaf-prefix .ensures) (omega arith) (c .before .hash-group .ensures))
+    leaf-of-values _ _ _ _ _ _ _ _ (leaf-hashed _ _ _ _ _ _ _ _ _ _ _ (begun .leaf-prefix .ensures) (omega arith) (c .before .hash-group .ensures))
     (read .group-values .ensures)
 
 pub leaf-at-spec : {M : Type 1} → statement M

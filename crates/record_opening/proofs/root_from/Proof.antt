@@ -17,7 +17,7 @@ climb-path-requires : tie.Need-climb-path-requires
 climb-path-requires c κs = search needs
 
 returns : tie.Need-returns
-returns c = root-by-path _ _ _ _ _ _ _ _ _ (c .before .before .group-of .ensures) (c .before .leaf-at .ensures) (c .climb-path .ensures)
+returns c = root-by-path _ _ _ _ _ _ _ _ _ _ (c .before .before .group-of .ensures) (c .before .leaf-at .ensures) (c .climb-path .ensures)
 
 pub root-from-spec : {M : Type 1} → statement M
 root-from-spec =

@@ -8,7 +8,6 @@ use lib.Dec.{eqb}
 use lib.ListN.{length, drop}
 use Rattle.theory_laws.specs.Questions.{Question, _asks_, firstNo}
 use Rattle.theory_laws.specs.Lists.{runs, same, leValue}
-use Rattle.theory_blake3.specs.Digest.{hash}
 use Rattle.theory_merkle.specs.Tree.{rootOfPath}
 use Rattle.theory_record.specs.Trees.{leadsTo}
 use Rattle.theory_record.specs.Format.{runCount, runFits, runItems}
@@ -28,8 +27,8 @@ unfoldable pub digestsAt : List ℕ → ℕ → List (List ℕ)
 digestsAt s i = runItems 32 (drop i s)
 
 -- the root that the group of a place, whose values stand from one byte of s on, and the digests from another lead to
-abbrev pub rootFrom : List ℕ → ℕ → ℕ → ℕ → List ℕ → ℕ → ℕ → ℕ → List ℕ
-rootFrom domain count width place s from path depth = rootOfPath hash domain count width place (valuesFrom s from width) (runs 32 depth (drop path s))
+abbrev pub rootFrom : (List ℕ → List ℕ) → List ℕ → ℕ → ℕ → ℕ → List ℕ → ℕ → ℕ → ℕ → List ℕ
+rootFrom H domain count width place s from path depth = rootOfPath H domain count width place (valuesFrom s from width) (runs 32 depth (drop path s))
 
 -- both are all there, of a domain and an s so long
 abbrev pub WayThere : ℕ → ℕ → ℕ → ℕ → ℕ → ℕ → Type 0

@@ -24,13 +24,13 @@ use Rattle.record_reader.proofs.level_at.Reads as level-at-reads
 use Rattle.theory_record.specs.Scheme.{scheme}
 
 abbrev Inv-loop : tie.InvT-loop
-Inv-loop base set n k position challenges roots s l₀ at₀ old₀ l at old =
+Inv-loop base how n k position challenges roots s l₀ at₀ old₀ l at old =
     (l ≤ n) × (at ≤ length s) × (wholeItems levelForm (n - l) (drop at s) ≡ true)
-    × (checkFrom (scheme set base n k) (index position) challenges roots s at l ≡ allAsked (scheme set base n k) (index position) challenges roots s)
-    × (l < n → Known (scheme set base n k) l (2 * pairOf (index position) l) s old (rootAt roots l))
+    × (checkFrom (scheme how base n k) (index position) challenges roots s at l ≡ allAsked (scheme how base n k) (index position) challenges roots s)
+    × (l < n → Known (scheme how base n k) l (2 * pairOf (index position) l) s old (rootAt roots l))
 
 abbrev μ-loop : tie.MeasureT-loop
-μ-loop base set n k position challenges roots s l₀ at₀ old₀ l at old = n - l
+μ-loop base how n k position challenges roots s l₀ at₀ old₀ l at old = n - l
 
 loop-holds : tie.Need-loop-holds Inv-loop μ-loop
 loop-holds c =

@@ -28,7 +28,7 @@ asked-c c = c .before .before .before .before
 abbrev number : tie.Start → ℕ
 number start =
     let a = start .args in
-    levelAsked (scheme (a .set) (now (a .base)) (a .n) (a .k)) (index (a .position)) (now (a .challenges)) (now (a .roots)) (a .l) (now (a .s)) (a .at)
+    levelAsked (scheme (a .how) (now (a .base)) (a .n) (a .k)) (index (a .position)) (now (a .challenges)) (now (a .roots)) (a .l) (now (a .s)) (a .at)
 
 -- ---- what is asked of the code
 
@@ -40,8 +40,7 @@ word-at-requires c κs = search needs
 
 add-word-at : tie.Need-add-word-at
 add-word-at c =
-    let start : tie.Start = search in
-    let h = room-there (start .pre) in
+    let h = (let start : tie.Start = search in room-there (start .pre)) in
     search needs
 
 word-at-requires-2 : tie.Need-word-at-requires-2
@@ -49,8 +48,7 @@ word-at-requires-2 c κs = search needs
 
 add-word-at-2 : tie.Need-add-word-at-2
 add-word-at-2 c =
-    let start : tie.Start = search in
-    let h = room-there (start .pre) in
+    let h = (let start : tie.Start = search in room-there (start .pre)) in
     search needs
 
 word-at-requires-3 : tie.Need-word-at-requires-3

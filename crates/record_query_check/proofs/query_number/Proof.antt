@@ -15,13 +15,13 @@ size-number-requires : tie.Need-size-number-requires
 size-number-requires c κs = search needs
 
 returns : tie.Need-returns
-returns c = λ set. search wrong-size
+returns c = λ how. search wrong-size
 
 mul-if2 : tie.Need-mul-if2
 mul-if2 c = let h = sizes-said _ _ _ (c .before .size-number .ensures) (c .if1 .left) in search needs
 
 returns-2 : tie.Need-returns-2
-returns-2 c = λ set. search wrong-challenges
+returns-2 c = λ how. search wrong-challenges
 
 add-if3 : tie.Need-add-if3
 add-if3 c = let h = sizes-said _ _ _ (c .before .before .size-number .ensures) (c .before .if1 .left) in search needs
@@ -30,10 +30,10 @@ mul-if3 : tie.Need-mul-if3
 mul-if3 c = let h = sizes-said _ _ _ (c .before .before .size-number .ensures) (c .before .if1 .left) in search needs
 
 returns-3 : tie.Need-returns-3
-returns-3 c = λ set. search wrong-roots
+returns-3 c = λ how. search wrong-roots
 
 returns-4 : tie.Need-returns-4
-returns-4 c = λ set. search long-base
+returns-4 c = λ how. search long-base
 
 index-requires : tie.Need-index-requires
 index-requires c κs = search needs
@@ -46,22 +46,22 @@ level-length-requires c κs =
     search needs
 
 returns-5 : tie.Need-returns-5
-returns-5 c = λ set. search high-position
+returns-5 c = λ how. search high-position
 
 query-whole-requires : tie.Need-query-whole-requires
 query-whole-requires c κs = search needs
 
 returns-6 : tie.Need-returns-6
-returns-6 c = λ set. search not-whole
+returns-6 c = λ how. search not-whole
 
 count-at-requires : tie.Need-count-at-requires
 count-at-requires c κs = search needs
 
 returns-7 : tie.Need-returns-7
-returns-7 c = λ set. search other-count
+returns-7 c = λ how. search other-count
 
 returns-8 : tie.Need-returns-8
-returns-8 c = λ set. search none-says-no
+returns-8 c = λ how. search none-says-no
 
 pub query-number-spec : {M : Type 1} → statement M
 query-number-spec =

@@ -13,12 +13,12 @@ use Rattle.record_reader.specs.declared.Level.{Level}
 use Rattle.record_reader.specs.helpers.Places.{levelAt}
 use Rattle.record_opening.specs.declared.Opened.{Opened}
 use Rattle.record_opening.specs.helpers.Opening.{valuesAt, digestsAt, openingQuestions, Readable, Known}
-use Rattle.theory_record.specs.declared.WidthSet.{WidthSet}
+use Rattle.theory_record.specs.declared.Trees.{Trees}
 use Rattle.theory_record.specs.Scheme.{Scheme, scheme, widthAt}
 
 -- r is the number of 4, 5, 7, 11, 14 and 15, whatever the set of widths
 abbrev pub BeforeLevels : List ℕ → ℕ → ℕ → ℕ → List ℕ → List ℕ → List ℕ → ℕ → Type 0
-BeforeLevels base n k position challenges roots s r = (set : WidthSet) → r ≡ queryNumber (scheme set base n k) position challenges roots s
+BeforeLevels base n k position challenges roots s r = (how : Trees) → r ≡ queryNumber (scheme how base n k) position challenges roots s
 
 -- 19 and 21
 abbrev pub pairHeld : ℕ → ℕ → List ℕ → ℕ → ℕ → List Question

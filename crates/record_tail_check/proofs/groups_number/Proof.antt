@@ -15,12 +15,12 @@ use Rattle.record_tail_check.proofs.groups_number.Statement.{statement}
 use Rattle.record_tail_check.proofs.groups_number.Tie as tie
 
 abbrev Inv-loop : tie.InvT-loop
-Inv-loop base set n k root claim s groups width g₀ at₀ g at =
+Inv-loop base how n k root claim s groups width g₀ at₀ g at =
     (g ≤ groups) × (at ≤ length s) × (wholeItems tailForm (groups - g) (drop at s) ≡ true)
-    × (groupsLeft base set n k root (word claim) s groups at g ≡ groupsNumber base set n k root (word claim) s)
+    × (groupsLeft base how n k root (word claim) s groups at g ≡ groupsNumber base how n k root (word claim) s)
 
 abbrev μ-loop : tie.MeasureT-loop
-μ-loop base set n k root claim s groups width g₀ at₀ g at = groups - g
+μ-loop base how n k root claim s groups width g₀ at₀ g at = groups - g
 
 level-groups-requires : tie.Need-level-groups-requires Inv-loop μ-loop
 level-groups-requires c κs = search needs

@@ -2,6 +2,7 @@
 use Prim.Native.Nat.{_^_}
 use mathlib.Core.Path.{refl, sym, _∙_, ap}
 use Rattle.theory_laws.proofs.Questions.{yes-zero, no-zero, zero-said}
+use Rattle.theory_blake3.proofs.Modes.{length-under}
 use Rattle.tree_place.proofs.Yes.{build-yes}
 use Rattle.theory_merkle.proofs.Sizes.{tree-fits}
 use Rattle.tree_build.proofs.Built.{all-groups, built}
@@ -55,7 +56,7 @@ returns-2 c =
     let y = build-yes _ _ _ _ _ _ (after-build-number .build-number .ensures) (else1 .if1 .left) in (
       zero-said _ _ (after-build-number .build-number .ensures) (else1 .if1 .left),
       yes-zero _ _ _ _ _ (after-build-number .build-number .ensures) (else1 .if1 .left)
-          (built _ _ _ (y .shaped .shape) _ _ _ (y .tree-is) (after-put-leaves .put-leaves .ensures) _ _
+          (built _ (length-under _) _ _ _ (y .shaped .shape) _ _ _ (y .tree-is) (after-put-leaves .put-leaves .ensures) _ _
           (c .before .before .before .depth-of .ensures) (c .before .before .put-levels .ensures)),
     )
 

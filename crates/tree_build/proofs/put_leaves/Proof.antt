@@ -1,4 +1,5 @@
 -- `tree_build::put_leaves` meets its contract.
+use Rattle.theory_blake3.proofs.Modes.{length-under}
 use Rattle.tree_by_fours.proofs.Walk.{byFours-le}
 use Rattle.tree_build.proofs.Leaves.{leaves-join}
 use native.Mathlib.Omega.{arith}
@@ -34,7 +35,7 @@ same-length c = search needs
 returns : tie.Need-returns
 returns c =
     let after-put-leaves : tie.After-put-leaves = search in
-    leaves-join _ _ _ _ _ _ _ _ _ _ (byFours-le _ _ _ (after-put-leaves .put-leaves .ensures .0)) (after-put-leaves .put-leaves .ensures .1)
+    leaves-join _ (length-under _) _ _ _ _ _ _ _ _ _ _ (byFours-le _ _ _ (after-put-leaves .put-leaves .ensures .0)) (after-put-leaves .put-leaves .ensures .1)
     (c .before .before .before .put-leaves-from .ensures)
 
 pub put-leaves-spec : {M : Type 1} → statement M

@@ -7,7 +7,7 @@ use native.Mathlib.Nat.{mul-le-mul-left}
 use lib.ListN.{length, take, drop}
 use Rattle.theory_laws.specs.Lists.{runs, flat, stored}
 use Rattle.theory_field.specs.Words.{words}
-use Rattle.theory_blake3.specs.Digest.{hash}
+use Rattle.theory_blake3.specs.Modes.{under}
 use Rattle.theory_merkle.specs.Message.{leafPrefix}
 use Rattle.theory_merkle.specs.Tree.{leavesFrom}
 use Rattle.tree_digest.proofs.Messages.{prefix-is}
@@ -20,14 +20,14 @@ use Rattle.tree_build.proofs.put_leaves_from.Statement.{statement}
 use Rattle.tree_build.proofs.put_leaves_from.Tie as tie
 
 abbrev Inv-loop : tie.InvT-loop
-Inv-loop out₀ message₀ domain count width first groups done values prefix from₀ to₀ g₀ out message from to g =
+Inv-loop mode out₀ message₀ domain count width first groups done values prefix from₀ to₀ g₀ out message from to g =
     (g ≤ groups) × (from ≡ 2 * (width * g)) × (to ≡ 32 * g) × (length out ≡ length out₀) × (length message ≡ length message₀)
     × (take prefix message ≡ leafPrefix domain count width)
-    × (stored out to (flat (leavesFrom hash domain count width (first + g) (runs width (groups - g) (drop (width * g) (words values)))))
-    ≡ stored out₀ to₀ (flat (leavesFrom hash domain count width (first + done) (runs width (groups - done) (drop (width * done) (words values))))))
+    × (stored out to (flat (leavesFrom (under mode) domain count width (first + g) (runs width (groups - g) (drop (width * g) (words values)))))
+    ≡ stored out₀ to₀ (flat (leavesFrom (under mode) domain count width (first + done) (runs width (groups - done) (drop (width * done) (words values))))))
 
 abbrev μ-loop : tie.MeasureT-loop
-μ-loop out₀ message₀ domain count width first groups done values prefix from₀ to₀ g₀ out message from to g = groups - g
+μ-loop mode out₀ message₀ domain count width first groups done values prefix from₀ to₀ g₀ out message from to g = groups - g
 
 leaf-prefix-requires : tie.Need-leaf-prefix-requires Inv-loop μ-loop
 leaf-prefix-requires c κs = search needs
@@ -138,7 +138,7 @@ loop-again c =
       search needs,
       search needs,
       (h .kept) ∙ (q .inv .5),
-      leaves-step _ _ _ _ _ _ _ (in-loop .loop-test .taken) (q .inv .1) (q .inv .5) (rw (after-numbered .numbered .ensures) at h) p (q .inv .6),
+      leaves-step _ _ _ _ _ _ _ _ (in-loop .loop-test .taken) (q .inv .1) (q .inv .5) (rw (after-numbered .numbered .ensures) at h) p (q .inv .6),
     )
 
 same-length : tie.Need-same-length Inv-loop μ-loop
@@ -148,7 +148,7 @@ same-length-2 : tie.Need-same-length-2 Inv-loop μ-loop
 same-length-2 c = search needs
 
 returns : tie.Need-returns Inv-loop μ-loop
-returns c = leaves-end _ _ _ _ _ _ _ _ _ _ (c .loop-test .left) (c .before .loop .inv .6)
+returns c = leaves-end _ _ _ _ _ _ _ _ _ _ _ (c .loop-test .left) (c .before .loop .inv .6)
 
 pub put-leaves-from-spec : {M : Type 1} → statement M
 put-leaves-from-spec =

@@ -3,7 +3,8 @@ use Prim.Native.Nat.{_≤_, _-_, _+_, _*_, _^_}
 use mathlib.Core.Path.{_≡_, refl}
 use lib.ListN.{length, drop}
 use Rattle.theory_laws.specs.Lists.{runs, flat, stored}
-use Rattle.theory_blake3.specs.Digest.{hash}
+use Rattle.theory_blake3.proofs.Modes.{length-under}
+use Rattle.theory_blake3.specs.Modes.{under}
 use Rattle.theory_merkle.specs.Tree.{levelsFrom, endToEnd}
 use Rattle.tree_build.proofs.Levels.{levels-step, levels-end, levels-begin}
 use Rattle.theory_merkle.proofs.Sizes.{next-power, half-even, half-some, power-begin}
@@ -13,13 +14,13 @@ use Rattle.tree_build.proofs.put_levels.Statement.{statement}
 use Rattle.tree_build.proofs.put_levels.Tie as tie
 
 abbrev Inv-loop : tie.InvT-loop
-Inv-loop tree₀ domain depth groups from₀ m₀ level₀ tree from m level =
+Inv-loop mode tree₀ domain depth groups from₀ m₀ level₀ tree from m level =
     (level ≤ depth) × (m ≡ 2 ^ (depth - level)) × (from + 64 * m ≡ length tree + 32) × (length tree ≡ length tree₀)
-    × (stored tree from (flat (endToEnd (levelsFrom hash domain (depth - level) level (runs 32 m (drop from tree)))))
-    ≡ flat (endToEnd (levelsFrom hash domain depth 0 (runs 32 groups tree₀))))
+    × (stored tree from (flat (endToEnd (levelsFrom (under mode) domain (depth - level) level (runs 32 m (drop from tree)))))
+    ≡ flat (endToEnd (levelsFrom (under mode) domain depth 0 (runs 32 groups tree₀))))
 
 abbrev μ-loop : tie.MeasureT-loop
-μ-loop tree₀ domain depth groups from₀ m₀ level₀ tree from m level = depth - level
+μ-loop mode tree₀ domain depth groups from₀ m₀ level₀ tree from m level = depth - level
 
 loop-holds : tie.Need-loop-holds Inv-loop μ-loop
 loop-holds c = (
@@ -27,7 +28,7 @@ loop-holds c = (
   power-begin _ _ (c .before .before .pre .1),
   search needs,
   refl,
-  levels-begin _ _ _ _ (c .before .before .pre .1) (c .before .before .pre .2),
+  levels-begin _ (length-under _) _ _ _ _ (c .before .before .pre .1) (c .before .before .pre .2),
 )
 
 put-parents-requires : tie.Need-put-parents-requires Inv-loop μ-loop
@@ -66,14 +67,14 @@ loop-again c =
       next-power _ _ _ (w .loop-test .taken) (q .inv .1),
       omega arith,
       search needs,
-      levels-step _ _ _ _ _ _ _ _ _ (w .loop-test .taken) (q .inv .1) refl (q .inv .2) (c .before .before .put-parents .ensures) (q .inv .4),
+      levels-step _ (length-under _) _ _ _ _ _ _ _ _ _ (w .loop-test .taken) (q .inv .1) refl (q .inv .2) (c .before .before .put-parents .ensures) (q .inv .4),
     )
 
 same-length : tie.Need-same-length Inv-loop μ-loop
 same-length c = search needs
 
 returns : tie.Need-returns Inv-loop μ-loop
-returns c = levels-end _ _ _ _ _ _ _ (c .loop-test .left) (c .before .loop .inv .1) (c .before .loop .inv .4)
+returns c = levels-end _ (length-under _) _ _ _ _ _ _ _ (c .loop-test .left) (c .before .loop .inv .1) (c .before .loop .inv .4)
 
 pub put-levels-spec : {M : Type 1} → statement M
 put-levels-spec =

@@ -1,4 +1,5 @@
 -- `tree_build::put_parents` meets its contract.
+use Rattle.theory_blake3.proofs.Modes.{length-under}
 use Rattle.tree_by_fours.proofs.Walk.{byFours-le}
 use Rattle.tree_build.proofs.Levels.{parents-join}
 use native.Mathlib.Omega.{arith}
@@ -33,7 +34,7 @@ returns : tie.Need-returns
 returns c =
     let start : tie.Start = search in
     let after-put-parents : tie.After-put-parents = search in
-    parents-join _ _ _ _ _ _ _ _ (byFours-le _ _ _ (after-put-parents .put-parents .ensures .0)) (start .pre .1)
+    parents-join _ (length-under _) _ _ _ _ _ _ _ _ (byFours-le _ _ _ (after-put-parents .put-parents .ensures .0)) (start .pre .1)
     (after-put-parents .put-parents .ensures .1) (c .before .before .before .put-parents-from .ensures)
 
 pub put-parents-spec : {M : Type 1} → statement M

@@ -4,7 +4,7 @@ use Prim.Native.Nat.{ℕ, _≤_, _-_, _+_, _*_}
 use mathlib.Core.Path.{_≡_, refl, _∙_}
 use lib.ListN.{length, take, drop}
 use Rattle.theory_laws.specs.Lists.{runs, flat, stored}
-use Rattle.theory_blake3.specs.Digest.{hash}
+use Rattle.theory_blake3.specs.Modes.{under}
 use Rattle.theory_merkle.specs.Message.{nodePrefix}
 use Rattle.theory_merkle.specs.Tree.{parents}
 use Rattle.tree_digest.proofs.Messages.{prefix-is}
@@ -16,15 +16,15 @@ use Rattle.tree_build.proofs.put_parents_from.Statement.{statement}
 use Rattle.tree_build.proofs.put_parents_from.Tie as tie
 
 abbrev Inv-loop : tie.InvT-loop
-Inv-loop tree₀ message₀ domain level from half first prefix src₀ dst₀ j₀ tree message src dst j =
+Inv-loop mode tree₀ message₀ domain level from half first prefix src₀ dst₀ j₀ tree message src dst j =
     (j ≤ half) × (src ≡ from + 64 * j) × (dst ≡ from + 64 * half + 32 * j) × (length tree ≡ length tree₀) × (length message ≡ length message₀)
     × (take prefix message ≡ nodePrefix domain level)
     × (take (from + 64 * half) tree ≡ take (from + 64 * half) tree₀)
-    × (stored tree dst (flat (parents hash domain level (runs 32 (2 * (half - j)) (drop src tree₀))))
-    ≡ stored tree₀ dst₀ (flat (parents hash domain level (runs 32 (2 * (half - first)) (drop src₀ tree₀)))))
+    × (stored tree dst (flat (parents (under mode) domain level (runs 32 (2 * (half - j)) (drop src tree₀))))
+    ≡ stored tree₀ dst₀ (flat (parents (under mode) domain level (runs 32 (2 * (half - first)) (drop src₀ tree₀)))))
 
 abbrev μ-loop : tie.MeasureT-loop
-μ-loop tree₀ message₀ domain level from half first prefix src₀ dst₀ j₀ tree message src dst j = half - j
+μ-loop mode tree₀ message₀ domain level from half first prefix src₀ dst₀ j₀ tree message src dst j = half - j
 
 node-prefix-requires : tie.Need-node-prefix-requires Inv-loop μ-loop
 node-prefix-requires c κs = search needs
@@ -97,7 +97,7 @@ loop-again c =
       search needs,
       (h .kept) ∙ (q .inv .5),
       below-kept below _ _ _ _ _ _ _ (q .inv .6) (omega arith) p,
-      parents-step _ _ _ _ _ below _ (q .inv .6) (in-loop .loop-test .taken) (omega arith) (after-load .load .ensures)
+      parents-step _ _ _ _ _ _ below _ (q .inv .6) (in-loop .loop-test .taken) (omega arith) (after-load .load .ensures)
           (after-load2 .load2 .ensures) (q .inv .5) h p (q .inv .7),
     )
 
@@ -108,7 +108,7 @@ same-length-2 : tie.Need-same-length-2 Inv-loop μ-loop
 same-length-2 c = search needs
 
 returns : tie.Need-returns Inv-loop μ-loop
-returns c = parents-end _ _ _ _ _ _ _ _ (c .loop-test .left) (c .before .loop .inv .7)
+returns c = parents-end _ _ _ _ _ _ _ _ _ (c .loop-test .left) (c .before .loop .inv .7)
 
 pub put-parents-from-spec : {M : Type 1} → statement M
 put-parents-from-spec =

@@ -5,7 +5,6 @@ use mathlib.Core.List.{List}
 use lib.ListN.{drop}
 use Rattle.theory_laws.specs.Lists.{runs, flat, stored}
 use Rattle.theory_field.specs.Words.{words}
-use Rattle.theory_blake3.specs.Digest.{hash}
 use Rattle.theory_merkle.specs.Tree.{leavesFrom, parents}
 use Rattle.tree_message.specs.helpers.Buffers.{leafBuffer}
 use Rattle.tree_four_messages.specs.helpers.Strides.{stride}
@@ -18,10 +17,10 @@ pub record LeavesFit (domain count width first groups values out done message : 
   pub work : message ≡ leafBuffer
 
 -- these leaves, each at its place
-abbrev pub laterLeaves : List ℕ → List ℕ → ℕ → ℕ → ℕ → ℕ → ℕ → List ℕ → List ℕ
-laterLeaves out domain count width first groups done values =
+abbrev pub laterLeaves : (List ℕ → List ℕ) → List ℕ → List ℕ → ℕ → ℕ → ℕ → ℕ → ℕ → List ℕ → List ℕ
+laterLeaves H out domain count width first groups done values =
     stored out (32 * done)
-    (flat (leavesFrom hash domain count width (first + done) (runs width (groups - done) (drop (width * done) (words values)))))
+    (flat (leavesFrom H domain count width (first + done) (runs width (groups - done) (drop (width * done) (words values)))))
 
 -- parents of a level's 2 × half digests, which start at byte `from`, can be put right after them, from parent `first` on
 pub record ParentsFit (domain tree from half first message : ℕ) : Type 0 where
@@ -31,6 +30,6 @@ pub record ParentsFit (domain tree from half first message : ℕ) : Type 0 where
   pub work : message ≡ 4 * stride
 
 -- these parents, from parent `first` on, each at its place
-abbrev pub laterParents : List ℕ → List ℕ → ℕ → ℕ → ℕ → ℕ → List ℕ
-laterParents tree domain level from half first =
-    stored tree (from + 64 * half + 32 * first) (flat (parents hash domain level (runs 32 (2 * (half - first)) (drop (from + 64 * first) tree))))
+abbrev pub laterParents : (List ℕ → List ℕ) → List ℕ → List ℕ → ℕ → ℕ → ℕ → ℕ → List ℕ
+laterParents H tree domain level from half first =
+    stored tree (from + 64 * half + 32 * first) (flat (parents H domain level (runs 32 (2 * (half - first)) (drop (from + 64 * first) tree))))

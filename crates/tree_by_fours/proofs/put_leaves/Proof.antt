@@ -8,7 +8,7 @@ use lib.ListN.{drop}
 use borrow.Author.Needs.{needs}
 use Rattle.theory_laws.specs.Lists.{runs, flat, stored}
 use Rattle.theory_field.specs.Words.{words}
-use Rattle.theory_blake3.specs.Digest.{hash}
+use Rattle.theory_blake3.specs.Modes.{under}
 use Rattle.theory_merkle.specs.Message.{leafPrefix}
 use Rattle.theory_merkle.specs.Tree.{leavesFrom}
 use Rattle.tree_digest.proofs.Messages.{message-length}
@@ -19,14 +19,14 @@ use Rattle.tree_by_fours.proofs.put_leaves.Statement.{statement}
 use Rattle.tree_by_fours.proofs.put_leaves.Tie as tie
 
 abbrev Inv-loop : tie.InvT-loop
-Inv-loop out₀ messages₀ domain count width first groups values all prefix h blocks size from₀ to₀ g₀ out messages from to g =
+Inv-loop mode out₀ messages₀ domain count width first groups values all prefix h blocks size from₀ to₀ g₀ out messages from to g =
     (from ≡ 2 * (width * g)) × (to ≡ 32 * g)
-    × Walk (leafPrefix domain count width) h prefix (24 + 16 * width) all groups g out₀ messages₀ out messages
-    × (stored out to (flat (leavesFrom hash domain count width (first + g) (runs width (all - g) (drop (width * g) (words values)))))
-    ≡ stored out₀ 0 (flat (leavesFrom hash domain count width first (runs width all (words values)))))
+    × Walk mode (leafPrefix domain count width) h prefix (24 + 16 * width) all groups g out₀ messages₀ out messages
+    × (stored out to (flat (leavesFrom (under mode) domain count width (first + g) (runs width (all - g) (drop (width * g) (words values)))))
+    ≡ stored out₀ 0 (flat (leavesFrom (under mode) domain count width first (runs width all (words values)))))
 
 abbrev μ-loop : tie.MeasureT-loop
-μ-loop out₀ messages₀ domain count width first groups values all prefix h blocks size from₀ to₀ g₀ out messages from to g = all - g
+μ-loop mode out₀ messages₀ domain count width first groups values all prefix h blocks size from₀ to₀ g₀ out messages from to g = all - g
 
 -- where the function began, seen from a turn
 abbrev start-of : tie.In-loop Inv-loop μ-loop → tie.Start Inv-loop μ-loop
@@ -51,7 +51,7 @@ by-fours-requires : tie.Need-by-fours-requires Inv-loop μ-loop
 by-fours-requires c κs = search needs
 
 returns : tie.Need-returns Inv-loop μ-loop
-returns c = (sym (c .if1 .taken) ∙ c .before .by-fours .ensures, leaves-none _ _ _ _ _ _)
+returns c = (sym (c .if1 .taken) ∙ c .before .by-fours .ensures, leaves-none _ _ _ _ _ _ _)
 
 slice-aggregate-leaf-prefix : tie.Need-slice-aggregate-leaf-prefix Inv-loop μ-loop
 slice-aggregate-leaf-prefix c = search needs
@@ -85,9 +85,9 @@ loop-holds c =
     let p = after-leaf-prefix .leaf-prefix .ensures in (
       search needs,
       search needs,
-      walk-begin _ _ _ _ _ _ _ _ _ _ _ _ p (omega arith) (after-begin .begin .ensures .0) (after-begin .begin .ensures .1)
+      walk-begin _ _ _ _ _ _ _ _ _ _ _ _ _ p (omega arith) (after-begin .begin .ensures .0) (after-begin .begin .ensures .1)
           (after-by-fours .by-fours .ensures) (omega (arith, p .end)),
-      leaves-begin _ _ _ _ _ _ _,
+      leaves-begin _ _ _ _ _ _ _ _,
     )
 
 mul-end : tie.Need-mul-end Inv-loop μ-loop
@@ -173,7 +173,7 @@ loop-again c =
       omega arith,
       omega (arith, p .end),
       walk-turn walk more _ _ f _ (search needs) (search needs),
-      leaves-turn _ _ _ _ _ _ _ (inv .0) _ _ _ (walk .begun .sized) (walk .prefixes) f _ _ _ _ _ _ (four-left walk more) p (inv .3),
+      leaves-turn _ _ _ _ _ _ _ _ (inv .0) _ _ _ (walk .begun .sized) (walk .prefixes) f _ _ _ _ _ _ (four-left walk more) p (inv .3),
     )
 
 same-length : tie.Need-same-length Inv-loop μ-loop
@@ -185,7 +185,7 @@ same-length-2 c = search needs
 returns-2 : tie.Need-returns-2 Inv-loop μ-loop
 returns-2 c =
     let after-by-fours : tie.After-by-fours Inv-loop μ-loop = search in
-    (after-by-fours .by-fours .ensures, leaves-end _ _ _ _ _ _ _ _ _ _ (c .loop-test .left) (c .before .loop .inv .3))
+    (after-by-fours .by-fours .ensures, leaves-end _ _ _ _ _ _ _ _ _ _ _ (c .loop-test .left) (c .before .loop .inv .3))
 
 pub put-leaves-spec : {M : Type 1} → statement M
 put-leaves-spec =

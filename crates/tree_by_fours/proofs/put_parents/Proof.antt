@@ -6,7 +6,7 @@ use native.Mathlib.Omega.{arith}
 use lib.ListN.{take, drop}
 use borrow.Author.Needs.{needs}
 use Rattle.theory_laws.specs.Lists.{runs, flat, stored}
-use Rattle.theory_blake3.specs.Digest.{hash}
+use Rattle.theory_blake3.specs.Modes.{under}
 use Rattle.theory_merkle.specs.Message.{nodePrefix}
 use Rattle.theory_merkle.specs.Tree.{parents}
 use Rattle.tree_digest.proofs.Messages.{message-length}
@@ -16,14 +16,14 @@ use Rattle.tree_by_fours.proofs.put_parents.Statement.{statement}
 use Rattle.tree_by_fours.proofs.put_parents.Tie as tie
 
 abbrev Inv-loop : tie.InvT-loop
-Inv-loop tree₀ messages₀ domain level from half all prefix h blocks size src₀ dst₀ j₀ tree messages src dst j =
-    (src ≡ from + 64 * j) × (dst ≡ from + 64 * half + 32 * j) × Walk (nodePrefix domain level) h prefix 80 all half j tree₀ messages₀ tree messages
+Inv-loop mode tree₀ messages₀ domain level from half all prefix h blocks size src₀ dst₀ j₀ tree messages src dst j =
+    (src ≡ from + 64 * j) × (dst ≡ from + 64 * half + 32 * j) × Walk mode (nodePrefix domain level) h prefix 80 all half j tree₀ messages₀ tree messages
     × (take (from + 64 * half) tree ≡ take (from + 64 * half) tree₀)
-    × (stored tree dst (flat (parents hash domain level (runs 32 (2 * (all - j)) (drop src tree₀))))
-    ≡ stored tree₀ (from + 64 * half) (flat (parents hash domain level (runs 32 (2 * all) (drop from tree₀)))))
+    × (stored tree dst (flat (parents (under mode) domain level (runs 32 (2 * (all - j)) (drop src tree₀))))
+    ≡ stored tree₀ (from + 64 * half) (flat (parents (under mode) domain level (runs 32 (2 * all) (drop from tree₀)))))
 
 abbrev μ-loop : tie.MeasureT-loop
-μ-loop tree₀ messages₀ domain level from half all prefix h blocks size src₀ dst₀ j₀ tree messages src dst j = all - j
+μ-loop mode tree₀ messages₀ domain level from half all prefix h blocks size src₀ dst₀ j₀ tree messages src dst j = all - j
 
 add-by-fours : tie.Need-add-by-fours Inv-loop μ-loop
 add-by-fours c = search needs
@@ -32,7 +32,7 @@ by-fours-requires : tie.Need-by-fours-requires Inv-loop μ-loop
 by-fours-requires c κs = search needs
 
 returns : tie.Need-returns Inv-loop μ-loop
-returns c = (sym (c .if1 .taken) ∙ c .before .by-fours .ensures, parents-none _ _ _ _ _)
+returns c = (sym (c .if1 .taken) ∙ c .before .by-fours .ensures, parents-none _ _ _ _ _ _)
 
 slice-aggregate-node-prefix : tie.Need-slice-aggregate-node-prefix Inv-loop μ-loop
 slice-aggregate-node-prefix c = search needs
@@ -66,10 +66,10 @@ loop-holds c =
     let p = after-node-prefix .node-prefix .ensures in (
       search needs,
       search needs,
-      walk-begin _ _ _ _ _ _ _ _ _ _ _ _ p (omega arith) (after-begin .begin .ensures .0) (after-begin .begin .ensures .1)
+      walk-begin _ _ _ _ _ _ _ _ _ _ _ _ _ p (omega arith) (after-begin .begin .ensures .0) (after-begin .begin .ensures .1)
           (after-by-fours .by-fours .ensures) (omega (arith, p .end)),
       refl,
-      parents-begin _ _ _ _ _ _,
+      parents-begin _ _ _ _ _ _ _,
     )
 
 put-node-rests-requires : tie.Need-put-node-rests-requires Inv-loop μ-loop
@@ -122,7 +122,7 @@ loop-again c =
       omega (arith, p .end),
       walk-turn walk more _ _ f _ (search needs) (search needs),
       below-kept below _ _ _ _ _ _ _ (inv .3) (omega arith) p,
-      parents-turn _ _ _ below _ _ (inv .3) (omega (arith, four-left walk more, walk .begun .within)) _ _ _ (walk .begun .sized) (walk .prefixes) f
+      parents-turn _ _ _ _ below _ _ (inv .3) (omega (arith, four-left walk more, walk .begun .within)) _ _ _ (walk .begun .sized) (walk .prefixes) f
           _ _ _ _ _ _ (four-left walk more) p (inv .4),
     )
 
@@ -135,7 +135,7 @@ same-length-2 c = search needs
 returns-2 : tie.Need-returns-2 Inv-loop μ-loop
 returns-2 c =
     let after-by-fours : tie.After-by-fours Inv-loop μ-loop = search in
-    (after-by-fours .by-fours .ensures, parents-end _ _ _ _ _ _ _ _ (c .loop-test .left) (c .before .loop .inv .4))
+    (after-by-fours .by-fours .ensures, parents-end _ _ _ _ _ _ _ _ _ (c .loop-test .left) (c .before .loop .inv .4))
 
 pub put-parents-spec : {M : Type 1} → statement M
 put-parents-spec =

@@ -6,7 +6,6 @@ use lib.Dec.{leb}
 use lib.ListN.{drop}
 use Rattle.theory_laws.specs.Lists.{runs, flat, stored}
 use Rattle.theory_field.specs.Words.{words}
-use Rattle.theory_blake3.specs.Digest.{hash}
 use Rattle.theory_merkle.specs.Shape.{Bounded}
 use Rattle.theory_merkle.specs.Tree.{leavesFrom, parents}
 use Rattle.theory_laws.specs.Questions.{pick}
@@ -29,9 +28,9 @@ abbrev pub FoursFit : ℕ → ℕ → ℕ → ℕ → ℕ → ℕ → ℕ → �
 FoursFit domain count width first groups values out messages = GroupsFit domain count width first groups values out × (4 * stride ≤ messages)
 
 -- the buffer with the leaves of the first n of them at its front
-abbrev pub firstLeaves : List ℕ → List ℕ → ℕ → ℕ → ℕ → List ℕ → ℕ → List ℕ
-firstLeaves out domain count width first values n = stored out 0 (flat (leavesFrom hash domain count width first (runs width n (words values))))
+abbrev pub firstLeaves : (List ℕ → List ℕ) → List ℕ → List ℕ → ℕ → ℕ → ℕ → List ℕ → ℕ → List ℕ
+firstLeaves H out domain count width first values n = stored out 0 (flat (leavesFrom H domain count width first (runs width n (words values))))
 
 -- the buffer with the first n parents of a level's 2 × half digests, which start at byte `from`, right after them
-abbrev pub firstParents : List ℕ → List ℕ → ℕ → ℕ → ℕ → ℕ → List ℕ
-firstParents tree domain level from half n = stored tree (from + 64 * half) (flat (parents hash domain level (runs 32 (2 * n) (drop from tree))))
+abbrev pub firstParents : (List ℕ → List ℕ) → List ℕ → List ℕ → ℕ → ℕ → ℕ → ℕ → List ℕ
+firstParents H tree domain level from half n = stored tree (from + 64 * half) (flat (parents H domain level (runs 32 (2 * n) (drop from tree))))

@@ -21,7 +21,7 @@ same-length : tie.Need-same-length
 same-length c = search needs
 
 returns : tie.Need-returns
-returns c = message-hashed _ _ _ _ _ _ (c .before .before .before .before .leaf-rest .ensures) (omega arith) _ (c .digest .ensures)
+returns c = message-hashed _ _ _ _ _ _ (c .before .before .before .before .leaf-rest .ensures) (omega arith) _ _ (c .digest .ensures)
 
 pub hash-group-spec : {M : Type 1} → statement M
 hash-group-spec =

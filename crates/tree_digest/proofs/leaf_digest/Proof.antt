@@ -26,7 +26,7 @@ returns-2 c =
     let group = c .before in
     let asked = group .before in
     done-digest _ _ _ _ (asked .before .leaf-number .ensures) (asked .if1 .left)
-    (leaf-of-place _ _ _ _ _ _ _ (group .group-of .ensures) (c .leaf-of .ensures))
+    (leaf-of-place _ _ _ _ _ _ _ _ (group .group-of .ensures) (c .leaf-of .ensures))
 
 pub leaf-digest-spec : {M : Type 1} → statement M
 leaf-digest-spec =

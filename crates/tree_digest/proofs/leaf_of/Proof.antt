@@ -18,7 +18,7 @@ hash-group-requires : tie.Need-hash-group-requires
 hash-group-requires c κs = search needs
 
 returns : tie.Need-returns
-returns c = leaf-hashed _ _ _ _ _ _ _ _ _ _ (c .before .before .before .before .leaf-prefix .ensures) (omega arith) (c .before .hash-group .ensures)
+returns c = leaf-hashed _ _ _ _ _ _ _ _ _ _ _ (c .before .before .before .before .leaf-prefix .ensures) (omega arith) (c .before .hash-group .ensures)
 
 pub leaf-of-spec : {M : Type 1} → statement M
 leaf-of-spec =

@@ -25,7 +25,7 @@ returns-2 : tie.Need-returns-2
 returns-2 c =
     let y = node-yes _ _ _ _ (c .before .before .before .before .node-number .ensures) (c .before .before .before .if1 .left) in
     done-digest _ _ _ _ (c .before .before .before .before .node-number .ensures) (c .before .before .before .if1 .left)
-    (node-of-slices _ _ _ _ _ _ _ (y .left-is) (y .right-is) (c .before .before .load .ensures) (c .before .load2 .ensures) (c .node-of .ensures))
+    (node-of-slices _ _ _ _ _ _ _ _ (y .left-is) (y .right-is) (c .before .before .load .ensures) (c .before .load2 .ensures) (c .node-of .ensures))
 
 pub node-digest-spec : {M : Type 1} → statement M
 node-digest-spec =

@@ -18,7 +18,7 @@ hash-node-requires : tie.Need-hash-node-requires
 hash-node-requires c κs = search needs
 
 returns : tie.Need-returns
-returns c = node-hashed _ _ _ _ _ _ _ _ _ (c .before .before .before .before .node-prefix .ensures) (omega arith) (c .before .hash-node .ensures)
+returns c = node-hashed _ _ _ _ _ _ _ _ _ _ (c .before .before .before .before .node-prefix .ensures) (omega arith) (c .before .hash-node .ensures)
 
 pub node-of-spec : {M : Type 1} → statement M
 node-of-spec =

@@ -69,7 +69,7 @@ returns : tie.Need-returns
 returns c =
     let start : tie.Start = search in
     let a = start .args in
-    lanes-hashed (a .h) (a .blocks) (a .n) (now (a .messages)) (c .chunks .result) (start .pre) (c .chunks .ensures)
+    lanes-hashed (a .mode) (a .h) (a .blocks) (a .n) (now (a .messages)) (c .chunks .result) (start .pre) (c .chunks .ensures)
 
 pub digests-of-spec : {M : Type 1} → statement M
 digests-of-spec =

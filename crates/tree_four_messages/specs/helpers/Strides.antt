@@ -5,7 +5,7 @@ use mathlib.Core.List.{List, [], _∷_, _++_}
 use lib.ListN.{length, take, drop}
 use Rattle.theory_laws.specs.Lists.{part}
 use Rattle.theory_blake3.specs.Flags.{startFlag}
-use Rattle.theory_blake3.specs.Compression.{iv}
+use Rattle.theory_blake3.specs.declared.Mode.{Mode}
 use Rattle.theory_blake3.specs.Chunk.{next}
 use Rattle.theory_field.specs.Words.{words}
 use Rattle.theory_merkle.specs.Message.{prefixed, leafRest}
@@ -54,9 +54,9 @@ abbrev pub NodeRests : ℕ → List ℕ → List ℕ → ℕ → List ℕ → Ty
 NodeRests prefix l tree src m =
     Each (prefix + 80) m (λ k. part prefix (stride * k) l ++ (prefixed (part 32 (src + 64 * k) tree) ++ prefixed (part 32 (src + 64 * k + 32) tree)))
 
--- four messages of n bytes, at most a chunk, whose first blocks have the chaining value h in hash mode, and are followed by something
-pub record Common (h : List ℕ) (blocks n : ℕ) (l : List ℕ) : Type 0 where
+-- four messages of n bytes, at most a chunk, whose first blocks have the chaining value h under a mode, and are followed by something
+pub record Common (mode : Mode) (h : List ℕ) (blocks n : ℕ) (l : List ℕ) : Type 0 where
   pub chunk : n ≤ stride
   pub followed : 64 * blocks < n
   pub room : 4 * stride ≤ length l
-  pub value : (k : ℕ) → k < 4 → h ≡ firstBlocks iv 0 blocks (part n (stride * k) l)
+  pub value : (k : ℕ) → k < 4 → h ≡ firstBlocks (mode .key) (mode .flags) blocks (part n (stride * k) l)

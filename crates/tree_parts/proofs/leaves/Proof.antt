@@ -6,6 +6,7 @@ use borrow.Author.Needs.{needs}
 use lib.ListN.{length}
 use Rattle.theory_laws.proofs.Lists.{length-lent}
 use Rattle.theory_laws.proofs.Questions.{yes-zero, no-zero, zero-said}
+use Rattle.theory_blake3.proofs.Modes.{length-under}
 use Rattle.tree_place.specs.helpers.Yes.{LeavesYes}
 use Rattle.tree_place.proofs.Yes.{leaves-yes}
 use Rattle.tree_parts.proofs.LeavesPart.{run-room, leaves-made}
@@ -84,7 +85,7 @@ returns-2 c =
     let y = yes else1 in (
       zero-said _ _ (else1 .before .leaves-number .ensures) (else1 .if1 .left),
       yes-zero _ _ _ _ _ (else1 .before .leaves-number .ensures) (else1 .if1 .left)
-          (leaves-made (a .domain .now) (a .count) (a .width) (a .first) (a .values .now) (a .out .now) _ (y .within) (y .whole)
+          (leaves-made _ (length-under _) (a .domain .now) (a .count) (a .width) (a .first) (a .values .now) (a .out .now) _ (y .within) (y .whole)
           (after-put-leaves .put-leaves .ensures)),
     )
 

@@ -6,6 +6,8 @@ use borrow.Author.Needs.{needs}
 use lib.ListN.{length, drop}
 use Rattle.theory_laws.specs.Lists.{stored}
 use Rattle.theory_laws.proofs.Lists.{length-lent}
+use Rattle.theory_blake3.specs.Modes.{under}
+use Rattle.theory_blake3.proofs.Modes.{length-under}
 use Rattle.tree_by_fours.proofs.Parents.{parents-begin}
 use Rattle.tree_parts.specs.helpers.Some.{someParents}
 use Rattle.tree_parts.proofs.SomeParents.{parents-turn, parents-made}
@@ -13,15 +15,15 @@ use Rattle.tree_parts.proofs.put_parents.Statement.{statement}
 use Rattle.tree_parts.proofs.put_parents.Tie as tie
 
 abbrev Inv-loop : tie.InvT-loop
-Inv-loop out₀ domain level children all from₀ to₀ done₀ out from to done =
+Inv-loop mode out₀ domain level children all from₀ to₀ done₀ out from to done =
     (done ≤ all) × (from ≡ 64 * done) × (to ≡ 32 * done) × (length out ≡ length out₀)
-    × (stored out to (someParents domain level (all - done) (drop from children)) ≡ stored out₀ 0 (someParents domain level all children))
+    × (stored out to (someParents (under mode) domain level (all - done) (drop from children)) ≡ stored out₀ 0 (someParents (under mode) domain level all children))
 
 abbrev μ-loop : tie.MeasureT-loop
-μ-loop out₀ domain level children all from₀ to₀ done₀ out from to done = all - done
+μ-loop mode out₀ domain level children all from₀ to₀ done₀ out from to done = all - done
 
 loop-holds : tie.Need-loop-holds Inv-loop μ-loop
-loop-holds c = (omega arith, refl, refl, refl, parents-begin _ _ _ _ _ _)
+loop-holds c = (omega arith, refl, refl, refl, parents-begin _ _ _ _ _ _ _)
 
 sub-at-most-some : tie.Need-sub-at-most-some Inv-loop μ-loop
 sub-at-most-some c = search needs
@@ -87,7 +89,7 @@ loop-again c =
       omega arith,
       omega (arith, p .end),
       search needs,
-      parents-turn (a .domain .now) (a .level) _ (q .done) (some .result) (q .from) (q .to) _ (a .children .now) (q .out) _ _
+      parents-turn _ (length-under _) (a .domain .now) (a .level) _ (q .done) (some .result) (q .from) (q .to) _ (a .children .now) (q .out) _ _
           (omega (arith, some .ensures .0)) p (q .inv .4),
     )
 
@@ -99,7 +101,7 @@ returns c =
     let start : tie.Start Inv-loop μ-loop = search in
     let q = c .before .loop in
     let a = start .args in
-    parents-made (a .domain .now) (a .level) _ (q .done) (q .to) (a .children .now) (q .out) (a .out .now) _ (c .loop-test .left) refl
+    parents-made _ (length-under _) (a .domain .now) (a .level) _ (q .done) (q .to) (a .children .now) (q .out) (a .out .now) _ (c .loop-test .left) refl
     (start .pre .pairs) (start .pre .out-is) (q .inv .4)
 
 pub put-parents-spec : {M : Type 1} → statement M

@@ -1,6 +1,7 @@
 -- `tree_parts::some_parents` meets its contract.
 use native.Mathlib.Omega.{arith}
 use borrow.Author.Needs.{needs}
+use Rattle.theory_blake3.proofs.Modes.{length-under}
 use Rattle.tree_parts.proofs.SomeParents.{length-some, some-made}
 use Rattle.tree_parts.proofs.some_parents.Statement.{statement}
 use Rattle.tree_parts.proofs.some_parents.Tie as tie
@@ -48,9 +49,9 @@ returns c =
     let after-put-parents : tie.After-put-parents = search in
     let after-put : tie.After-put = search in
     let a = start .args in
-    let made = some-made (a .domain .now) (a .level) (a .some) (a .children .now) _ _ _ (start .pre .pairs) (omega (arith, start .pre .few))
+    let made = some-made _ (length-under _) (a .domain .now) (a .level) (a .some) (a .children .now) _ _ _ (start .pre .pairs) (omega (arith, start .pre .few))
     (after-put .put .ensures .bytes) (after-put-parents .put-parents .ensures) in
-    rw (made, length-some (a .domain .now) (a .level) (a .some) (a .children .now)) at (after-put2 .put2 .ensures)
+    rw (made, length-some _ (length-under _) (a .domain .now) (a .level) (a .some) (a .children .now)) at (after-put2 .put2 .ensures)
 
 pub some-parents-spec : {M : Type 1} → statement M
 some-parents-spec =

@@ -43,7 +43,7 @@ returns-2 c =
     let depth = group .before in
     let asked = depth .before in
     done-digest _ _ _ _ (asked .before .root-number .ensures) (asked .if1 .left)
-    (root-of-place _ _ _ _ _ _ _ _ _ _ (group .group-of .ensures) (depth .depth-of .ensures) (leaf .leaf-of .ensures) (c .climb-path .ensures))
+    (root-of-place _ _ _ _ _ _ _ _ _ _ _ (group .group-of .ensures) (depth .depth-of .ensures) (leaf .leaf-of .ensures) (c .climb-path .ensures))
 
 pub root-of-path-spec : {M : Type 1} → statement M
 root-of-path-spec =

@@ -3,7 +3,7 @@ use Prim.Native.Nat.{_≤_, _-_}
 use mathlib.Core.Path.{_≡_}
 use lib.ListN.{drop}
 use Rattle.theory_laws.specs.Lists.{runs}
-use Rattle.theory_blake3.specs.Digest.{hash}
+use Rattle.theory_blake3.specs.Modes.{under}
 use Rattle.theory_merkle.specs.Tree.{climb}
 use Rattle.tree_place.specs.Place.{number}
 use Rattle.tree_walk.proofs.Climb.{climbFrom, climb-begin, climb-step, climb-end}
@@ -12,14 +12,14 @@ use Rattle.tree_walk.proofs.climb_path.Statement.{statement}
 use Rattle.tree_walk.proofs.climb_path.Tie as tie
 
 abbrev Inv-loop : tie.InvT-loop
-Inv-loop domain s from depth d₀ g₀ l₀ d g l =
-    (l ≤ depth) × (climbFrom domain s from depth l (number g) d ≡ climb hash domain 0 (number g₀) d₀ (runs 32 depth (drop from s)))
+Inv-loop mode domain s from depth d₀ g₀ l₀ d g l =
+    (l ≤ depth) × (climbFrom (under mode) domain s from depth l (number g) d ≡ climb (under mode) domain 0 (number g₀) d₀ (runs 32 depth (drop from s)))
 
 abbrev μ-loop : tie.MeasureT-loop
-μ-loop domain s from depth d₀ g₀ l₀ d g l = depth - l
+μ-loop mode domain s from depth d₀ g₀ l₀ d g l = depth - l
 
 loop-holds : tie.Need-loop-holds Inv-loop μ-loop
-loop-holds c = (search needs, climb-begin _ _ _ _ _ _)
+loop-holds c = (search needs, climb-begin _ _ _ _ _ _ _)
 
 mul-digest-at : tie.Need-mul-digest-at Inv-loop μ-loop
 mul-digest-at c = search needs
@@ -47,12 +47,12 @@ loop-again c =
     let node = c .before in
     let turn = node .before .before in (
       search needs,
-      climb-step _ _ _ _ _ _ _ _ _ _ _ (turn .before .loop .inv .1) (node .parent-of .ensures) (node .before .digest-at .ensures)
+      climb-step _ _ _ _ _ _ _ _ _ _ _ _ (turn .before .loop .inv .1) (node .parent-of .ensures) (node .before .digest-at .ensures)
           (turn .loop-test .taken) (c .parent .ensures),
     )
 
 returns : tie.Need-returns Inv-loop μ-loop
-returns c = climb-end _ _ _ _ _ _ _ _ (c .before .loop .inv .1) (c .loop-test .left)
+returns c = climb-end _ _ _ _ _ _ _ _ _ (c .before .loop .inv .1) (c .loop-test .left)
 
 pub climb-path-spec : {M : Type 1} → statement M
 climb-path-spec =

@@ -25,7 +25,7 @@ level-width-requires c κs = search needs
 
 array-share-prefix-domain : tie.Need-array-share-prefix-domain
 array-share-prefix-domain c =
-    let y = (let domain = c .before .before .before in let lent = domain .before .before in let start = lent .before .before .before in start .pre) in
+    let y = (let domain = c .before .before .before in let lent = domain .before .before in let start = lent .before .before .before .before in start .pre) in
     let h = domain-ends _ _ (y .base-le) (omega arith) (c .before .before .before .level-domain .ensures) (search needs) in
     search needs
 
@@ -33,7 +33,7 @@ slice-aggregate-build : tie.Need-slice-aggregate-build
 slice-aggregate-build c =
     let domain = c .before .before .before .before in
     let lent = domain .before .before in
-    let start = lent .before .before .before in
+    let start = lent .before .before .before .before in
     let y = start .pre in
     domain-long _ _ (y .base-le) (omega arith) (domain .level-domain .ensures) (search needs)
 
@@ -50,7 +50,7 @@ returns c =
     let count = width .before in
     let domain = count .before .before in
     let lent = domain .before .before in
-    let start = lent .before .before .before in
+    let start = lent .before .before .before .before in
     let y = start .pre in
     level-built _ _ _ _ y (domain-is _ _ (y .base-le) (omega arith) (domain .level-domain .ensures) (search needs)) (count .level-length .ensures)
     (width .level-width .ensures) (built .build .ensures .1)

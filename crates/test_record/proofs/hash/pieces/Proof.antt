@@ -11,9 +11,6 @@ Inv-loop input first step b s₀ i₀ k₀ s i k = (i ≤ length input) × (k < 
 abbrev μ-loop : tie.MeasureT-loop
 μ-loop input first step b s₀ i₀ k₀ s i k = length input - i
 
-new-requires : tie.Need-new-requires Inv-loop μ-loop
-new-requires c κs = search needs
-
 loop-holds : tie.Need-loop-holds Inv-loop μ-loop
 loop-holds c = search needs
 
@@ -62,7 +59,6 @@ pieces-spec =
     (tie.spec
     Inv-loop
     μ-loop
-    new-requires
     loop-holds
     size-at-requires
     sub-piece
