@@ -118,9 +118,9 @@ def manifest(text):
 
 def check_file(asked):
     """Prints the answer for the manifest, and then those for the records. The exit status."""
+    checkers_own(asked)
     mode, base, widths, n, k, root = read_seal(Path(asked.seal), asked.older, asked.key_file)
     shown = Path(asked.OPENING) / "manifest.txt"
-    checkers_own(asked)
     if not Path(asked.OPENING).is_dir():
         raise CannotCheck(f"there is no opening {asked.OPENING}")
     text = content(shown, PART) if shown.is_file() and not shown.is_symlink() else b""

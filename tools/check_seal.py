@@ -425,16 +425,23 @@ YES, NO, ON_LEVEL_0 = 0, 1, 3
 VERDICTS = {YES: "yes", NO: "no", ON_LEVEL_0: "yes on level 0 alone: no roots were kept, so neither the tail nor the claim is accepted"}
 
 
+def leads_through(path, folder):
+    """Whether a path leads into a folder, or through it by a name that stands there, as a link in it does that leads out again."""
+    path, folder = Path(path), Path(os.path.realpath(folder))
+    places = [Path(os.path.realpath(step.parent)) / step.name for step in (path, *path.parents) if step.name not in ("", "..")]
+    target = Path(os.path.realpath(path))
+    return target == folder or any(folder in place.parents for place in (target, *places))
+
+
 def checkers_own(asked):
-    """Refuses a file of the opening in the place of one of the checker's."""
-    for path in filter(None, (asked.challenges, asked.roots, asked.key_file)):
-        if Path(asked.OPENING).resolve() in Path(path).resolve().parents:
+    """Refuses a file or folder of the opening in the place of one of the checker's."""
+    for path in (asked.seal, asked.challenges, asked.roots, asked.key_file):
+        if path is not None and leads_through(path, asked.OPENING):
             raise CannotCheck(f"{path} lies in the opening, so it is the holder's")
 
 
 def brought(asked, n, k, root):
     """The challenges that the checker brings, and the roots, where it kept them."""
-    checkers_own(asked)
     challenges = [word(asked.challenges, line.strip(BLANKS)) for line in lines(asked.challenges, most_bytes(max(n, 20), 32), linked=True)]
     kept = digests(asked.roots, n + 1, linked=True) if asked.roots else None
     try:
@@ -569,6 +576,7 @@ def main():
             status = YES if try_this_file() else NO
         else:
             asked = parser.parse_args()
+            checkers_own(asked)
             seal = Path(asked.seal)
             if os.path.lexists(seal / "manifest.txt"):
                 raise CannotCheck(f"{seal} is a project's: check_project.py checks a file of it")

@@ -5,7 +5,7 @@ use crate::key::told;
 use crate::lines::{items, most_bytes};
 use crate::options::Options;
 use crate::outcome::Failure;
-use crate::reading::{lies_in, named_text};
+use crate::reading::{leads_through, named_text};
 use crate::seal::Seal;
 use crate::shape::Shape;
 use crate::shown::Shown;
@@ -79,16 +79,25 @@ fn kept_roots(path: &Path, seal: &Seal) -> Result<Roots, Failure> {
     Ok(Roots { all, kept: true })
 }
 
-/// Fails where a file that must be the checker's own is one of the opening's.
+/// Fails where a file or folder that must be the checker's own is one of the opening's, or where a link of the opening leads to it.
 pub fn checker_s_own(options: &Options, opening: &Path) -> Result<(), Failure> {
-    for name in [
-        "--asked",
-        "--challenges",
-        "--positions",
-        "--roots",
-        "--key-file",
-    ] {
-        if let Some(path) = options.path(name).filter(|path| lies_in(path, opening)) {
+    none_in(
+        options,
+        opening,
+        &["--asked", "--challenges", "--positions", "--roots"],
+    )?;
+    checker_s_seal(options, opening)
+}
+
+/// The same of the seal and its key alone, where challenges and roots are the opening's own in any case.
+pub fn checker_s_seal(options: &Options, opening: &Path) -> Result<(), Failure> {
+    none_in(options, opening, &["--key-file", "--seal"])
+}
+
+fn none_in(options: &Options, opening: &Path, names: &[&str]) -> Result<(), Failure> {
+    for name in names {
+        let path = options.path(name);
+        if let Some(path) = path.filter(|path| leads_through(path, opening)) {
             return Err(Failure(format!(
                 "{} lies in the opening, so it is the holder's; {name} takes the checker's own",
                 path.display()

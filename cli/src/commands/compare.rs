@@ -13,7 +13,7 @@ use crate::questions::challenges;
 use crate::reading::named;
 use crate::shape::{Shape, PARAMETERS};
 use crate::shown::{Own, Shown, Use};
-use crate::statement::{statement, Brought};
+use crate::statement::{checker_s_seal, statement, Brought};
 use crate::writing::{beside, Target};
 use dequmlo::{Collision, QueryRecord, Refusal, Statement, Widths};
 use std::path::{Path, PathBuf};
@@ -45,6 +45,7 @@ pub fn run(options: &Options) -> Result<Outcome, Failure> {
         "--opening",
         "the folder that names the challenges and the roots",
     )?;
+    checker_s_seal(options, &opening)?;
     let seal = match asked_seal(options, Some(&opening))? {
         Ok(seal) => seal,
         Err(refused) => return Ok(refused.outcome()),

@@ -11,6 +11,7 @@ use crate::outcome::{Failure, Outcome, Verdict};
 use crate::progress::Progress;
 use crate::seal::{Seal, SEAL_FOLDER};
 use crate::shape::Shape;
+use crate::statement::checker_s_seal;
 use crate::table::{read_table, room_for, Table};
 use dequmlo::{Deposit, Threads, Word};
 use std::collections::BTreeMap;
@@ -30,6 +31,9 @@ pub fn run(options: &Options) -> Result<Outcome, Failure> {
     let file = &options.operands[0];
     let folder = options.needed_path("--seal", SEAL_FOLDER)?;
     let threads = options.threads()?;
+    if let Some(opening) = options.path("--opening") {
+        checker_s_seal(options, &opening)?;
+    }
     let seal = Seal::read(&folder, options.has("--older"))?.with_key(&folder, options)?;
     if file.is_dir() {
         if options.given("--opening") {
