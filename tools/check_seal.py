@@ -575,6 +575,13 @@ class Once(argparse.Action):
         setattr(asked, self.dest, value)
 
 
+def key_s_file(text):
+    """The name of a key's file; a key in its place is not said again, since what is printed may be kept."""
+    if re.fullmatch("[0-9a-fA-F]{64}", text) and not os.path.lexists(text):
+        raise argparse.ArgumentTypeError("the value is no file's name; a key is never given on the command line")
+    return text
+
+
 def command_line(about):
     """A reader of a command line, with the options of both files: each whole and once, as the program has them."""
     parser = argparse.ArgumentParser(description=about, formatter_class=argparse.RawDescriptionHelpFormatter, allow_abbrev=False)
@@ -582,7 +589,8 @@ def command_line(about):
     parser.add_argument("--older", action="store_true")
     for name in ("--seal", "--challenges"):
         parser.add_argument(name, required=True, action=Once)
-    for name in ("--key-file", "--roots", "--claim"):
+    parser.add_argument("--key-file", action=Once, type=key_s_file)
+    for name in ("--roots", "--claim"):
         parser.add_argument(name, action=Once)
     return parser
 

@@ -149,11 +149,7 @@ pub fn another_shape(seal: &Seal, shown: &Shown) -> Option<String> {
             "the opening says that it was made under the {} set of widths, and the seal is of the {} one: it was made for another seal",
             shape.widths, seal.shape.widths
         )),
-        Ok(shape) if another_key(shape, &seal.shape) => Some(format!(
-            "the opening says that it was made {}, and the seal was made {}: the opening was made for another seal",
-            told(shape.key),
-            told(seal.shape.key)
-        )),
+        Ok(shape) if another_key(shape, &seal.shape) => key_note(seal, shape),
         Ok(_) if seal.assumed.is_some() => Some(
             "the opening names another n, k or base domain than the seal is read under".into(),
         ),
@@ -162,6 +158,22 @@ pub fn another_shape(seal: &Seal, shown: &Shown) -> Option<String> {
             "the opening does not say for which n, k, base domain and widths it was made: {what}"
         )),
     }
+}
+
+/// Where an opening of this shape names another key than the seal, or one of the two none. What that line says decides nothing: it may be all that was changed.
+fn key_note(seal: &Seal, shape: &Shape) -> Option<String> {
+    (shape.key != seal.shape.key).then(|| {
+        format!(
+            "the opening says that it was made {}, and the seal was made {}: its key line is not the seal's",
+            told(shape.key),
+            told(seal.shape.key)
+        )
+    })
+}
+
+/// The same of an opening of which nothing else is said. One that does not name its shape says nothing of a key.
+pub fn another_key_in(seal: &Seal, opening: &Path) -> Option<String> {
+    key_note(seal, &Shape::read(opening).ok()?.shape)
 }
 
 /// Whether two shapes differ in the set of widths and in nothing else.
