@@ -7,13 +7,13 @@ It commits the manifest that the opening shows, compares its root with the proje
 check_seal.py does. `manifest: no` or a later `no` says which of the two failed. Committing takes some minutes where the manifest has megabytes.
 Exit status: 0 yes, 1 no, 2 nothing could be checked, 3 yes on level 0 alone, as no roots were kept.
 """
-import argparse
 import os
 import re
 import sys
 from pathlib import Path
 
-from check_seal import NO, VERDICTS, CannotCheck, Level, check_opening, checkers_own, content, digest, leaf_message, node_message, numbers, part, read_seal, u64
+from check_seal import NO, VERDICTS, CannotCheck, Level, Once, check_opening, checkers_own, command_line
+from check_seal import content, digest, leaf_message, node_message, numbers, part, read_seal, u64
 
 PART = 16_777_200
 
@@ -72,9 +72,13 @@ def codeword(base, n, k, table):
     return [word.to_bytes(16, "little") for word in words]
 
 
-def root_of(mode, base, widths, k, data):
-    """n and the root of level 0 of these bytes as a file (SPECIFICATION 15.1, 5.4)."""
-    n = max(1, ((len(data) + 15) // 16).bit_length())
+def variables(size):
+    """n of a file of so many bytes (SPECIFICATION 15.1)."""
+    return max(1, ((size + 15) // 16).bit_length())
+
+
+def root_of(mode, base, widths, n, k, data):
+    """The root of level 0 of these bytes as a file of this n (SPECIFICATION 15.1, 5.4)."""
     table = [int.from_bytes(data[at : at + 16], "little") for at in range(0, 2 ** n * 16, 16)]
     table[-1] = len(data)
     level, words = Level(mode, base, widths, n, k, 0), codeword(base, n, k, table)
@@ -83,7 +87,7 @@ def root_of(mode, base, widths, k, data):
     digests = [fresh(leaf_message(level.domain, level.count, level.width, g, values), mode) for g, values in enumerate(groups)]
     for height in range(level.depth):
         digests = [fresh(node_message(level.domain, height, left, right), mode) for left, right in zip(digests[::2], digests[1::2])]
-    return n, digests[0]
+    return digests[0]
 
 
 # 16. Projects.
@@ -118,13 +122,15 @@ def manifest(text):
 
 def check_file(asked):
     """Prints the answer for the manifest, and then those for the records. The exit status."""
+    checkers_own(asked)
     mode, base, widths, n, k, root = read_seal(Path(asked.seal), asked.older, asked.key_file)
     shown = Path(asked.OPENING) / "manifest.txt"
-    checkers_own(asked)
     if not Path(asked.OPENING).is_dir():
         raise CannotCheck(f"there is no opening {asked.OPENING}")
     text = content(shown, PART) if shown.is_file() and not shown.is_symlink() else b""
-    files = manifest(text) if len(text) <= PART and root_of(mode, base, widths, k, text) == (n, root) else None
+    # A text of another size is not committed: how long that takes would be the holder's to choose.
+    fits = len(text) <= PART and variables(len(text)) == n and root_of(mode, base, widths, n, k, text) == root
+    files = manifest(text) if fits else None
     if files is None:
         print("manifest: no: what the opening shows is not the project's manifest")
         return NO
@@ -135,19 +141,13 @@ def check_file(asked):
     index = asked.offset[0] // PART
     in_part = min(PART, size - PART * index)
     asked.at = sorted({offset % PART // 16 for offset in asked.offset})
-    return check_opening(asked, mode, base, widths, max(1, ((in_part + 15) // 16).bit_length()), k, roots[index])
+    return check_opening(asked, mode, base, widths, variables(in_part), k, roots[index])
 
 
 def main():
-    parser = argparse.ArgumentParser(description=__doc__, formatter_class=argparse.RawDescriptionHelpFormatter)
-    parser.add_argument("OPENING")
-    for name in ("--seal", "--challenges", "--file"):
-        parser.add_argument(name, required=True)
-    parser.add_argument("--older", action="store_true")
-    parser.add_argument("--key-file")
-    parser.add_argument("--offset", required=True, type=numbers)
-    parser.add_argument("--roots")
-    parser.add_argument("--claim")
+    parser = command_line(__doc__)
+    parser.add_argument("--file", required=True, action=Once)
+    parser.add_argument("--offset", required=True, action=Once, type=numbers)
     try:
         status = check_file(parser.parse_args())
     except (CannotCheck, OSError) as why:

@@ -333,7 +333,7 @@ def word(path, text):
 
 def digests(path, count, linked=False):
     """The digests of a text that has so many at the most."""
-    return [hexadecimal(path, line.strip(BLANKS), 32) for line in lines(path, most_bytes(count, 64), linked)]
+    return [hexadecimal(path, line, 32) for line in lines(path, most_bytes(count, 64), linked)]
 
 
 def one(path, values):
@@ -346,7 +346,7 @@ def one(path, values):
 def parameters(path, older):
     """The key's check value, the base domain, the set of widths, n and k. Where n is named without k and the base domain, these two are those of SPECIFICATION
     6.10; a set that is not named is the present one, and without a check value there is no key (15.3)."""
-    form = r"n (0|[1-9][0-9]?)(?:\nk ([0-9])\n(?:domain ([!-~]+)|domain-hex ?((?:[0-9a-f]{2})*)))?(?:\nwidths (.+))?(?:\nkey ([0-9a-f]{32}))?"
+    form = r"n (0|[1-9][0-9]?)(?:\nk ([0-9])\n(?:domain ([!-~]+)|domain-hex(?: ((?:[0-9a-f]{2})+))?))?(?:\nwidths (.+))?(?:\nkey ([0-9a-f]{32}))?"
     found = re.fullmatch(form, "\n".join(lines(path, 1024)))
     if not found:
         raise CannotCheck(f"{path} does not have its lines n, k, domain, widths and perhaps key, nor those without k and domain")
@@ -357,6 +357,8 @@ def parameters(path, older):
         base, k = DEFAULT_DOMAIN, FIRST_DEFAULT_K if older else DEFAULT_K
     else:
         base = text.encode() if text else bytes.fromhex(digits)
+        if not text and re.fullmatch(rb"[!-~]+", base):
+            raise CannotCheck(f"{path} has digits for the base domain `{base.decode()}`, which is written as it is, behind `domain`")
     return bytes.fromhex(value), base, widths or "present", int(n), int(k)
 
 
@@ -378,11 +380,11 @@ def read_key(path):
 
 def mode_of(value, key_file):
     """The mode of a seal's trees: that of the key in the file, whose check value must be the seal's; hash mode where there is neither."""
-    if not value and not key_file:
+    if not value and key_file is None:
         return HASH
     if not value:
         raise CannotCheck("the seal is not keyed, and --key-file is given")
-    if not key_file:
+    if key_file is None:
         raise CannotCheck(f"the seal is keyed, under the key with the check value {value.hex()}, and no --key-file is given")
     key = read_key(key_file)
     own = derived(CHECK_CONTEXT, key)[:16]
@@ -413,7 +415,8 @@ def read_seal(folder, older, key_file):
         raise CannotCheck(f"the seal is damaged: {check} is not a list of digests")
     then = None if listed is None else {line.group(2): line.group(1).lower() for line in listed}
     for name in ("parameters.txt", "root.txt"):
-        text = "".join(line + "\n" for line in written(folder / name))
+        # The line of an empty base domain is written with its blank.
+        text = "".join(line + (" \n" if line == "domain-hex" else "\n") for line in written(folder / name))
         if then is not None and digest((text.lower() if name == "root.txt" else text).encode()).hex() != then.get(name):
             raise CannotCheck(f"the seal is damaged: {name} and its line in check.txt do not agree")
     value, *shape = parameters(folder / "parameters.txt", older)
@@ -425,18 +428,25 @@ YES, NO, ON_LEVEL_0 = 0, 1, 3
 VERDICTS = {YES: "yes", NO: "no", ON_LEVEL_0: "yes on level 0 alone: no roots were kept, so neither the tail nor the claim is accepted"}
 
 
+def leads_through(path, folder):
+    """Whether a path leads into a folder, or through it by a name that stands there, as a link in it does that leads out again."""
+    path, folder = Path(path), Path(os.path.realpath(folder))
+    places = [Path(os.path.realpath(step.parent)) / step.name for step in (path, *path.parents) if step.name not in ("", "..")]
+    target = Path(os.path.realpath(path))
+    return target == folder or any(folder in place.parents for place in (target, *places))
+
+
 def checkers_own(asked):
-    """Refuses a file of the opening in the place of one of the checker's."""
-    for path in filter(None, (asked.challenges, asked.roots, asked.key_file)):
-        if Path(asked.OPENING).resolve() in Path(path).resolve().parents:
+    """Refuses a file or folder of the opening in the place of one of the checker's."""
+    for path in (asked.seal, asked.challenges, asked.roots, asked.key_file):
+        if path is not None and leads_through(path, asked.OPENING):
             raise CannotCheck(f"{path} lies in the opening, so it is the holder's")
 
 
 def brought(asked, n, k, root):
     """The challenges that the checker brings, and the roots, where it kept them."""
-    checkers_own(asked)
-    challenges = [word(asked.challenges, line.strip(BLANKS)) for line in lines(asked.challenges, most_bytes(max(n, 20), 32), linked=True)]
-    kept = digests(asked.roots, n + 1, linked=True) if asked.roots else None
+    challenges = [word(asked.challenges, line) for line in lines(asked.challenges, most_bytes(max(n, 20), 32), linked=True)]
+    kept = digests(asked.roots, n + 1, linked=True) if asked.roots is not None else None
     try:
         ask(4, 1 <= n <= 20 and k <= 4)
         ask(5, len(challenges) == n and (kept is None or len(kept) == n + 1 and kept[0] == root))
@@ -477,7 +487,7 @@ def check_record(asked, opening, position, size, given):
         return False
     mode, base, widths, n, k, challenges, roots = given
     given = (mode, base, widths, n, k, position, challenges, roots, record)
-    return answered(f"position {position}", check_query, *given, yes="yes" if asked.roots else "yes on level 0")
+    return answered(f"position {position}", check_query, *given, yes="yes" if asked.roots is not None else "yes on level 0")
 
 
 def check_opening(asked, mode, base, widths, n, k, root):
@@ -487,7 +497,7 @@ def check_opening(asked, mode, base, widths, n, k, root):
     if not opening.is_dir():
         raise CannotCheck(f"there is no opening {opening}")
     challenges, kept = brought(asked, n, k, root)
-    expected = word("the claim", asked.claim) if asked.claim else None
+    expected = word("the claim", asked.claim) if asked.claim is not None else None
     try:
         roots = roots_of(opening, asked, n, kept)
     except CannotCheck as why:
@@ -505,14 +515,14 @@ def check_opening(asked, mode, base, widths, n, k, root):
         yes &= check_record(asked, opening, position, query_bytes, (mode, base, widths, n, k, challenges, roots))
     try:
         shown = opening / "claim.txt"
-        claim = expected or word(shown, one(shown, lines(shown, most_bytes(1, 32))).strip(BLANKS))
+        claim = expected if expected is not None else word(shown, one(shown, lines(shown, most_bytes(1, 32))))
         tail = content(opening / "tail.record", tail_bytes)
     except CannotCheck as why:
         print(f"tail: no: {why}")
         return NO
     given = (mode, base, widths, n, k, b"".join(roots[n : n + 1]), claim, tail)
-    yes &= answered("tail", check_tail, *given, yes="yes" if asked.roots else "not accepted: it fits the opening's own roots, which nobody kept")
-    return NO if not yes else YES if asked.roots else ON_LEVEL_0
+    yes &= answered("tail", check_tail, *given, yes="yes" if kept is not None else "not accepted: it fits the opening's own roots, which nobody kept")
+    return NO if not yes else YES if kept is not None else ON_LEVEL_0
 
 
 # 12. Values on which this file can be tried.
@@ -554,21 +564,46 @@ def numbers(text):
     return [int(number.group(1)) for number in found]
 
 
-def main():
-    parser = argparse.ArgumentParser(description=__doc__, formatter_class=argparse.RawDescriptionHelpFormatter)
+class Once(argparse.Action):
+    """The value of an option that is given once at the most."""
+
+    def __call__(self, parser, asked, value, option=None):
+        if getattr(asked, self.dest) is not None:
+            parser.error(f"{option} is given twice")
+        if value == "":
+            parser.error(f"{option} needs a value")
+        setattr(asked, self.dest, value)
+
+
+def key_s_file(text):
+    """The name of a key's file; a key in its place is not said again, since what is printed may be kept."""
+    if re.fullmatch("[0-9a-fA-F]{64}", text) and not os.path.lexists(text):
+        raise argparse.ArgumentTypeError("the value is no file's name; a key is never given on the command line")
+    return text
+
+
+def command_line(about):
+    """A reader of a command line, with the options of both files: each whole and once, as the program has them."""
+    parser = argparse.ArgumentParser(description=about, formatter_class=argparse.RawDescriptionHelpFormatter, allow_abbrev=False)
     parser.add_argument("OPENING")
-    parser.add_argument("--seal", required=True)
     parser.add_argument("--older", action="store_true")
-    parser.add_argument("--key-file")
-    parser.add_argument("--challenges", required=True)
-    parser.add_argument("--at", required=True, type=lambda text: sorted(set(numbers(",".join(text.replace(",", " ").split())))))
-    parser.add_argument("--roots")
-    parser.add_argument("--claim")
+    for name in ("--seal", "--challenges"):
+        parser.add_argument(name, required=True, action=Once)
+    parser.add_argument("--key-file", action=Once, type=key_s_file)
+    for name in ("--roots", "--claim"):
+        parser.add_argument(name, action=Once)
+    return parser
+
+
+def main():
+    parser = command_line(__doc__)
+    parser.add_argument("--at", required=True, action=Once, type=lambda text: sorted(set(numbers(",".join(text.replace(",", " ").split())))))
     try:
         if sys.argv[1:] == ["--try"]:
             status = YES if try_this_file() else NO
         else:
             asked = parser.parse_args()
+            checkers_own(asked)
             seal = Path(asked.seal)
             if os.path.lexists(seal / "manifest.txt"):
                 raise CannotCheck(f"{seal} is a project's: check_project.py checks a file of it")

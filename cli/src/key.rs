@@ -8,9 +8,11 @@ use crate::outcome::{Failure, Outcome};
 use crate::reading::{named_file, reason, shown_path, unreadable};
 use crate::system::overwrite;
 use dequmlo::Key;
+use std::ffi::OsStr;
 use std::fmt;
 use std::fs::{self, File, OpenOptions};
 use std::io::{ErrorKind, Read, Write};
+use std::os::unix::ffi::OsStrExt;
 use std::os::unix::fs::{OpenOptionsExt, PermissionsExt};
 use std::path::{Path, PathBuf};
 
@@ -143,9 +145,10 @@ pub fn secret_in(path: &Path, most: usize) -> Result<Passing, Failure> {
     let mode = found.permissions().mode();
     if mode & OTHERS != 0 {
         complain(&format!(
-            "seal: {0} can be read or changed by others than its owner (its mode is {1:03o}); `chmod 600 {0}` keeps it to the owner\n",
+            "seal: {} can be read or changed by others than its owner (its mode is {:03o}); {} to the owner\n",
             shown_path(path),
-            mode & 0o777
+            mode & 0o777,
+            keeping(path)
         ));
     }
     // Room for all of it at once: a buffer that grows leaves copies behind.
@@ -154,6 +157,36 @@ pub fn secret_in(path: &Path, most: usize) -> Result<Passing, Failure> {
     let count = filled(&mut file, &mut bytes.0).map_err(|e| unreadable(path, reason(&e)))?;
     bytes.0.truncate(count);
     Ok(bytes)
+}
+
+/// How a file is kept to its owner: by a command for a shell, or in words where no line can show the file's name.
+fn keeping(path: &Path) -> String {
+    let name = shown_path(path);
+    if path.to_str() != Some(&name) {
+        return "the rights 600 keep it".into();
+    }
+    let is_plain = |c: char| c.is_ascii_alphanumeric() || "/._-".contains(c);
+    let here = if name.starts_with('-') { "./" } else { "" };
+    match name.chars().all(is_plain) {
+        true => format!("`chmod 600 {here}{name}` keeps it"),
+        false => format!(
+            "`chmod 600 '{here}{}'` keeps it",
+            name.replace('\'', "'\\''")
+        ),
+    }
+}
+
+/// Fails where the value of `--key-file` is a key itself and no file's name. It is not said again: what is printed may be kept.
+pub fn is_no_key(value: &OsStr) -> Result<(), Failure> {
+    let mut room = Passing(vec![0; 32]);
+    let is_key = from_digits(value.as_bytes(), &mut room.0).is_some();
+    if is_key && fs::symlink_metadata(value).is_err() {
+        return Err(Failure(
+            "the value of --key-file is no file's name; a key is never given on the command line"
+                .into(),
+        ));
+    }
+    Ok(())
 }
 
 /// Fills the room from a file as far as the file goes. How many bytes that were.

@@ -1,5 +1,5 @@
-//! Text files of words or roots, one to a line, behind the line with their format. Blanks at a line's ends, a carriage return before its end
-//! and empty lines after the last one are passed over.
+//! Text files of words or roots, one to a line, behind the line with their format. Blanks and carriage returns at the end of a
+//! line and empty lines after the last one are passed over.
 
 use crate::format::{marked, Body};
 use crate::outcome::Failure;
@@ -25,7 +25,7 @@ where
         .lines()
         .enumerate()
         .map(|(i, line)| {
-            line.trim()
+            line.trim_end()
                 .parse()
                 .map_err(|e| Failure(format!("{}, line {}: {e}", path.display(), i + first)))
         })

@@ -37,6 +37,12 @@ pub fn part_place(bytes: u64, index: usize) -> (u64, usize) {
     (start, (bytes - start).min(PART) as usize)
 }
 
+/// A number of things by their name.
+pub fn counted(number: usize, name: &str) -> String {
+    let end = if number == 1 { "" } else { "s" };
+    format!("{number} {name}{end}")
+}
+
 impl Manifest {
     pub fn text(&self) -> String {
         let mut text = marked("");

@@ -1,5 +1,6 @@
 //! The words of a command line.
 
+use crate::key::is_no_key;
 use crate::outcome::Failure;
 use dequmlo::Threads;
 use std::ffi::OsString;
@@ -113,7 +114,12 @@ impl Options {
             return Err(Failure(format!("{name} is given twice")));
         }
         match value {
-            Some(value) if !value.to_str().map_or(false, is_option) => Ok(value.clone()),
+            Some(value) if !value.to_str().map_or(false, is_option) => {
+                if name == "--key-file" {
+                    is_no_key(value)?;
+                }
+                Ok(value.clone())
+            }
             _ => Err(Failure(format!("{name} needs a value"))),
         }
     }

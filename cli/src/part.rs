@@ -11,6 +11,7 @@ use crate::questions::offsets;
 use crate::reading::{inside, unreadable, Unread};
 use crate::seal::{Seal, SEAL_FOLDER};
 use crate::shape::Shape;
+use crate::statement::another_key_in;
 use crate::table::{room_for, variables, MOST_BYTES};
 use dequmlo::{Sizes, Threads};
 use std::os::unix::ffi::OsStrExt;
@@ -139,7 +140,11 @@ pub fn asked_seal(
         }
         return Ok(Ok(seal));
     }
-    let refused = |seal, sentence| Ok(Err(RefusedManifest { seal, sentence }));
+    let refused = |mut seal: Seal, sentence| {
+        let note = opening.and_then(|opening| another_key_in(&seal, opening));
+        seal.notes.extend(note);
+        Ok(Err(RefusedManifest { seal, sentence }))
+    };
     let known = opening.map(|opening| all_known(opening, &[MANIFEST]));
     if let Some(Err(Failure(sentence))) = known {
         return refused(seal, sentence);

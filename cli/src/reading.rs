@@ -219,6 +219,21 @@ pub fn lies_in(path: &Path, folder: &Path) -> bool {
     }
 }
 
+/// Whether a path leads into a folder or through it by a name that stands there, as a link in it does that leads out again: who prepared the folder chose then
+/// where it leads.
+pub fn leads_through(path: &Path, folder: &Path) -> bool {
+    let folder = match folder.canonicalize() {
+        Ok(folder) => folder,
+        Err(_) => return false,
+    };
+    let stands_there = |step: &Path| {
+        let parent = step.parent().filter(|parent| *parent != Path::new(""));
+        let parent = parent.unwrap_or(Path::new(".")).canonicalize();
+        step.file_name().is_some() && parent.map_or(false, |parent| parent.starts_with(&folder))
+    };
+    lies_in(path, &folder) || path.ancestors().any(stands_there)
+}
+
 pub fn unreadable(path: &Path, why: impl fmt::Display) -> Failure {
     Failure(format!("cannot read {}: {why}", shown_path(path)))
 }

@@ -11,7 +11,7 @@ use crate::folder::{Kind, Named, SUMMARY};
 use crate::format::{all_known, signature, Body};
 use crate::key::{fitting, Given};
 use crate::lines::{self, most_bytes, one};
-use crate::manifest::{Manifest, MANIFEST};
+use crate::manifest::{counted, Manifest, MANIFEST};
 use crate::options::Options;
 use crate::outcome::Failure;
 use crate::part::Part;
@@ -108,14 +108,14 @@ impl Seal {
         manifest: &Manifest,
     ) -> Vec<Named> {
         let summary = format!(
-            "{}\n\nIt stands for the project {project}: {} files of {} bytes in all, in {} parts.\n\
+            "{}\n\nIt stands for the project {project}: {} of {} bytes in all, in {}.\n\
              {MANIFEST} lists them with the root of each part, and the root below is that of {MANIFEST}, as a table of {} words (n = {}, k = {}), under the base domain {} and the {} set of widths.\n{}Root: {root}\n\n\
              Whoever keeps this root can check that what a holder shows later is what was deposited:\n`seal open` makes what is shown of a file, `seal check` \
              checks it, `seal verify` says what has changed.\n\n{}",
             Kind::Seal.heading(),
-            manifest.0.len(),
+            counted(manifest.0.len(), "file"),
             manifest.bytes(),
-            manifest.parts(),
+            counted(manifest.parts(), "part"),
             1usize << shape.n,
             shape.n,
             shape.k,

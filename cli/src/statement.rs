@@ -5,7 +5,7 @@ use crate::key::told;
 use crate::lines::{items, most_bytes};
 use crate::options::Options;
 use crate::outcome::Failure;
-use crate::reading::{lies_in, named_text};
+use crate::reading::{leads_through, named_text};
 use crate::seal::Seal;
 use crate::shape::Shape;
 use crate::shown::Shown;
@@ -79,16 +79,25 @@ fn kept_roots(path: &Path, seal: &Seal) -> Result<Roots, Failure> {
     Ok(Roots { all, kept: true })
 }
 
-/// Fails where a file that must be the checker's own is one of the opening's.
+/// Fails where a file or folder that must be the checker's own is one of the opening's, or where a link of the opening leads to it.
 pub fn checker_s_own(options: &Options, opening: &Path) -> Result<(), Failure> {
-    for name in [
-        "--asked",
-        "--challenges",
-        "--positions",
-        "--roots",
-        "--key-file",
-    ] {
-        if let Some(path) = options.path(name).filter(|path| lies_in(path, opening)) {
+    none_in(
+        options,
+        opening,
+        &["--asked", "--challenges", "--positions", "--roots"],
+    )?;
+    checker_s_seal(options, opening)
+}
+
+/// The same of the seal and its key alone, where challenges and roots are the opening's own in any case.
+pub fn checker_s_seal(options: &Options, opening: &Path) -> Result<(), Failure> {
+    none_in(options, opening, &["--key-file", "--seal"])
+}
+
+fn none_in(options: &Options, opening: &Path, names: &[&str]) -> Result<(), Failure> {
+    for name in names {
+        let path = options.path(name);
+        if let Some(path) = path.filter(|path| leads_through(path, opening)) {
             return Err(Failure(format!(
                 "{} lies in the opening, so it is the holder's; {name} takes the checker's own",
                 path.display()
@@ -140,11 +149,7 @@ pub fn another_shape(seal: &Seal, shown: &Shown) -> Option<String> {
             "the opening says that it was made under the {} set of widths, and the seal is of the {} one: it was made for another seal",
             shape.widths, seal.shape.widths
         )),
-        Ok(shape) if another_key(shape, &seal.shape) => Some(format!(
-            "the opening says that it was made {}, and the seal was made {}: the opening was made for another seal",
-            told(shape.key),
-            told(seal.shape.key)
-        )),
+        Ok(shape) if another_key(shape, &seal.shape) => key_note(seal, shape),
         Ok(_) if seal.assumed.is_some() => Some(
             "the opening names another n, k or base domain than the seal is read under".into(),
         ),
@@ -153,6 +158,22 @@ pub fn another_shape(seal: &Seal, shown: &Shown) -> Option<String> {
             "the opening does not say for which n, k, base domain and widths it was made: {what}"
         )),
     }
+}
+
+/// Where an opening of this shape names another key than the seal, or one of the two none. What that line says decides nothing: it may be all that was changed.
+fn key_note(seal: &Seal, shape: &Shape) -> Option<String> {
+    (shape.key != seal.shape.key).then(|| {
+        format!(
+            "the opening says that it was made {}, and the seal was made {}: its key line is not the seal's",
+            told(shape.key),
+            told(seal.shape.key)
+        )
+    })
+}
+
+/// The same of an opening of which nothing else is said. One that does not name its shape says nothing of a key.
+pub fn another_key_in(seal: &Seal, opening: &Path) -> Option<String> {
+    key_note(seal, &Shape::read(opening).ok()?.shape)
 }
 
 /// Whether two shapes differ in the set of widths and in nothing else.

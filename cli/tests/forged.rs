@@ -7,6 +7,7 @@ use dequmlo::code::fold_part;
 use dequmlo::tree::{fold_tree_width, Tree};
 use dequmlo::{QueryRecord, Root, ShownLevel, Widths, Word};
 use desk::{plan, Desk, OPEN_ASKED};
+use std::os::unix::fs::symlink;
 use std::str::FromStr;
 
 /// The deposit of the desk's plan under the default profile.
@@ -392,4 +393,95 @@ fn the_witness_does_not_accept_a_forged_claim() {
     let kept = format!("{words} --roots kept-roots.txt");
     let run = desk.python("check_seal.py", kept.split_whitespace());
     run.says(1, &["no, 24 at level 0", "tail: no, 30", "\nno\n"]);
+}
+
+/// Each option of the checker's, by what a holder has put into an opening, and by nothing else than the names of links that lead out of it.
+#[test]
+fn a_link_of_the_opening_is_not_the_checker_s_own() {
+    let (desk, _) = forged("forged-links");
+    let at = desk.text("positions.txt").trim().replace('\n', ",");
+    // What the forger sent along, beside the opening: it fits what is invented.
+    desk.copy("forged", "sent");
+    desk.write("sent/positions.txt", &desk.read("positions.txt"));
+    for (to, name) in [
+        ("../sent/roots.txt", "kept.txt"),
+        ("kept.txt", "chain.txt"),
+        ("../sent", "folder"),
+        ("../sent/missing", "dangling.txt"),
+    ] {
+        symlink(to, desk.path("forged").join(name)).unwrap();
+    }
+    desk.copy("plan.txt.seal", "other.seal");
+    symlink("../other.seal", desk.path("forged/seal")).unwrap();
+    let given = |seal: &str, challenges: &str, more: &str| {
+        format!("forged --seal {seal} --challenges {challenges} --at {at} {more}")
+    };
+    let own = ("plan.txt.seal", "challenges.txt");
+    for (name, words) in [
+        ("--roots", given(own.0, own.1, "--roots forged/kept.txt")),
+        (
+            "--roots",
+            given(own.0, own.1, "--roots ./forged/../forged/kept.txt"),
+        ),
+        ("--roots", given(own.0, own.1, "--roots forged/chain.txt")),
+        (
+            "--roots",
+            given(own.0, own.1, "--roots forged/folder/roots.txt"),
+        ),
+        (
+            "--roots",
+            given(own.0, own.1, "--roots forged/dangling.txt"),
+        ),
+        (
+            "--key-file",
+            given(own.0, own.1, "--key-file forged/kept.txt"),
+        ),
+        (
+            "--challenges",
+            given(own.0, "forged/folder/challenges.txt", ""),
+        ),
+        ("--seal", given("forged/seal", own.1, "")),
+        ("--seal", given("forged", own.1, "")),
+    ] {
+        let sentence = format!("; {name} takes the checker's own");
+        let run = desk.run(&format!("check {words}"));
+        run.says(
+            2,
+            &["lies in the opening, so it is the holder's", &sentence],
+        );
+        let run = desk.python("check_seal.py", words.split_whitespace());
+        run.says(2, &["lies in the opening, so it is the holder's"]);
+        let project = words.replace("--at", "--file plan.txt --offset");
+        let run = desk.python("check_project.py", project.split_whitespace());
+        run.says(2, &["lies in the opening, so it is the holder's"]);
+    }
+    // What the program has alone: other options, and the other commands that take an opening.
+    let record = "plan.txt.opening/query-0.record";
+    for words in [
+        "check forged --seal plan.txt.seal --asked forged/folder".into(),
+        "check forged --seal plan.txt.seal --challenges challenges.txt --positions forged/folder/positions.txt".into(),
+        "tail forged --seal plan.txt.seal --roots forged/kept.txt".into(),
+        "tail forged --seal forged/seal --roots kept-roots.txt".into(),
+        "verify plan.txt --seal forged/seal --opening forged".into(),
+        format!("compare {record} {record} --at 0 --seal forged/seal --opening forged"),
+        format!("compare {record} {record} --at 0 --seal plan.txt.seal --key-file forged/kept.txt --opening forged"),
+        "ask --seal forged/seal --asked plan.txt.asked --answer forged".into(),
+        "ask --seal plan.txt.seal --asked forged/folder --answer forged".into(),
+    ] {
+        desk.run(&words)
+            .says(2, &["lies in the opening, so it is the holder's"]);
+    }
+    // A link elsewhere, and a path that only passes by, are the checker's.
+    symlink("kept-roots.txt", desk.path("linked.txt")).unwrap();
+    for roots in ["linked.txt", "forged/../kept-roots.txt"] {
+        let words = given(
+            "forged/../plan.txt.seal",
+            own.1,
+            &format!("--roots {roots}"),
+        );
+        let run = desk.run(&format!("check {words}"));
+        run.says(1, &["refused, 24 at level 0"]);
+        let run = desk.python("check_seal.py", words.split_whitespace());
+        run.says(1, &["no, 24 at level 0"]);
+    }
 }

@@ -600,7 +600,7 @@ fn what_belongs_to_another_key_is_refused() {
             "" => "without a key".to_string(),
             _ => format!("under the key with the check value {OTHER_VALUE}"),
         };
-        let note = format!("note: the opening says that it was made {made}, and the seal was made under the key with the check value {VALUE}: the opening was made for another seal");
+        let note = format!("note: the opening says that it was made {made}, and the seal was made under the key with the check value {VALUE}: its key line is not the seal's\n");
         desk.run(&format!(
             "check {seal}.opening --seal plan.txt.seal --seed dice --at 7,0,127 --key-file key"
         ))
@@ -617,7 +617,29 @@ fn what_belongs_to_another_key_is_refused() {
         desk.run(&format!(
             "tail {seal}.opening --seal plan.txt.seal --key-file key"
         ))
-        .says(1, &["refused, 30: "]);
+        .says(1, &["refused, 30: ", &note]);
+        // Nor is it compared: under one seal there is one key.
+        for (record, opening) in [(seal, "plan.txt"), (seal, seal)] {
+            let record = format!("{record}.opening/query-7.record");
+            let sentence = format!("{seal}.opening/parameters.txt is of what was made {made}, and the seal was made under the key with the check value {VALUE}: two records are compared under one key");
+            desk.run(&format!("compare {record} {record} --at 7 --opening {opening}.opening --seal plan.txt.seal --key-file key"))
+                .says(2, &[&sentence]);
+        }
+        // What it shows of the file is not known to be of the file.
+        desk.damage("plan.txt", 5);
+        let run = desk.run(&format!(
+            "verify plan.txt --seal plan.txt.seal --opening {seal}.opening --key-file key"
+        ));
+        run.says(
+            1,
+            &[
+                "no: plan.txt is not the file that was sealed",
+                "note: no word that the opening shows of the file leads to the seal's root",
+                &note,
+            ],
+        );
+        run.does_not_say(&["0 words", "differs elsewhere"]);
+        desk.damage("plan.txt", 5);
         desk.run(&format!(
             "{OPEN} --key-file key --resume {seal}.begun --out new"
         ))
@@ -732,8 +754,128 @@ fn a_project_is_under_one_key() {
         desk.path("house.opening/manifest.txt"),
     )
     .unwrap();
-    desk.run(&format!("{check} --key-file key"))
-        .says(1, &["manifest: refused"]);
+    let run = desk.run(&format!("{check} --key-file key"));
+    run.says(1, &["manifest: refused"]);
+    run.does_not_say(&["key line"]);
+    // Where the opening is of the other project, its key is said.
+    desk.run(&format!(
+        "{} --out plain.opening",
+        open.replace("house.seal", "plain")
+    ))
+    .says(0, &[]);
+    let note = format!("note: the opening says that it was made without a key, and the seal was made under the key with the check value {VALUE}: its key line is not the seal's\n");
+    for check in [
+        check.clone(),
+        "tail house.opening --seal house.seal --file plans/north --roots roots.txt".into(),
+    ] {
+        let check = check.replace("house.opening", "plain.opening");
+        desk.run(&format!("{check} --key-file key"))
+            .says(1, &["manifest: ", &note]);
+    }
+}
+
+/// The line in an opening decides nothing, so that what is said of it beside an acceptance is no more than that it is another.
+#[test]
+fn a_changed_line_of_an_opening_is_told_and_no_more() {
+    let desk = keyed("keys-line-of-the-opening");
+    let name = "plan.txt.opening/parameters.txt";
+    let changed = desk.text(name).replace(VALUE, OTHER_VALUE);
+    desk.write(name, changed.as_bytes());
+    desk.vouch("plan.txt.opening");
+    let note = format!("note: the opening says that it was made under the key with the check value {OTHER_VALUE}, and the seal was made under the key with the check value {VALUE}: its key line is not the seal's\n");
+    for words in [
+        CHECK,
+        "tail plan.txt.opening --seal plan.txt.seal --roots roots.txt",
+    ] {
+        let run = desk.run(&format!("{words} --key-file key"));
+        run.says(0, &[&note]);
+        run.does_not_say(&["another seal"]);
+    }
+}
+
+/// Only a key from the system's randomness is lost for ever.
+#[test]
+fn what_is_said_of_the_loss_of_a_key() {
+    let desk = Desk::new("keys-lost");
+    secret(&desk, "material", b"something that nobody else knows");
+    let new = desk.run("key new a");
+    new.says(
+        0,
+        &["can be checked, and where it is lost nobody can make it again\n"],
+    );
+    let derived = desk.run("key derive --context c --from material b");
+    derived.says(
+        0,
+        &["can be checked, and its context and key material give it again to whoever has both\n"],
+    );
+    derived.does_not_say(&["nobody can make it again"]);
+}
+
+/// Whoever gives the key in place of its file is told so, and the key is not printed.
+#[test]
+fn a_key_on_the_command_line_is_not_said_again() {
+    let desk = keyed("keys-in-words");
+    for key in [KEY.to_string(), KEY.to_uppercase()] {
+        for words in [
+            CHECK,
+            OPEN,
+            "commit plan.txt --out new",
+            "verify plan.txt --seal plan.txt.seal",
+            "tail plan.txt.opening --seal plan.txt.seal",
+        ] {
+            let run = desk.run(&format!("{words} --key-file {key}"));
+            run.says(2, &["the value of --key-file is no file's name; a key is never given on the command line\n"]);
+            run.does_not_say(&[&key, &key[..16]]);
+        }
+        let words = format!(
+            "plan.txt.opening --seal plan.txt.seal --challenges roots.txt --at 7 --key-file {key}"
+        );
+        let run = desk.python("check_seal.py", words.split_whitespace());
+        run.says(2, &["a key is never given on the command line"]);
+        run.does_not_say(&[&key, &key[..16]]);
+        // From inside the opening too, where a name would be the holder's.
+        let run = desk.shell(
+            "plan.txt.opening",
+            &format!("seal check . --seal ../plan.txt.seal --seed dice --at 7 --key-file {key}"),
+        );
+        run.says(2, &["a key is never given on the command line"]);
+        run.does_not_say(&[&key]);
+    }
+    // A file may have such a name.
+    fs::copy(desk.path("key"), desk.path(KEY)).unwrap();
+    desk.run(&format!("{CHECK} --key-file {KEY}")).says(0, &[]);
+}
+
+/// The command that is offered does what it says in a shell.
+#[test]
+fn the_command_for_a_key_s_rights_is_quoted() {
+    let desk = keyed("keys-quoted");
+    for (name, command) in [
+        ("a-key.txt", "chmod 600 a-key.txt"),
+        ("my key", "chmod 600 'my key'"),
+        (
+            "the office's key; $(id)",
+            "chmod 600 'the office'\\''s key; $(id)'",
+        ),
+        ("-key", "chmod 600 ./-key"),
+        ("-a key", "chmod 600 './-a key'"),
+        ("ключ", "chmod 600 'ключ'"),
+    ] {
+        fs::copy(desk.path("key"), desk.path(name)).unwrap();
+        rights(&desk, name, 0o644);
+        let words = CHECK.split(' ').chain(["--key-file", name]);
+        let run = desk.seal(words);
+        let offered = format!("`{command}` keeps it to the owner\n");
+        run.says(0, &[&offered]);
+        desk.shell(".", command).says(0, &[]);
+        assert_eq!(mode(&desk.path(name)), 0o600, "{name}");
+    }
+    // No command leads to a name that a line cannot show.
+    fs::copy(desk.path("key"), desk.path("a\nkey")).unwrap();
+    rights(&desk, "a\nkey", 0o644);
+    let run = desk.seal(CHECK.split(' ').chain(["--key-file", "a\nkey"]));
+    run.says(0, &["; the rights 600 keep it to the owner\n"]);
+    run.does_not_say(&["chmod"]);
 }
 
 /// A key that lies in what is sealed would be shown by an opening.

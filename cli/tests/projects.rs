@@ -671,3 +671,17 @@ fn a_project_of_many_files_and_one_of_100_mb() {
         .says(1, &["changed: large, first in bytes 33554400 to 50331599"]);
     fs::remove_dir_all(&desk.0).unwrap();
 }
+
+#[test]
+fn one_file_in_one_part_is_said_so() {
+    let desk = Desk::new("project-of-one");
+    desk.folder("house");
+    desk.write("house/list", b"north\n");
+    desk.run("commit house").says(
+        0,
+        &["sealed the project house: 1 file, 6 bytes in 1 part, present widths\n"],
+    );
+    let summary = desk.text("house.seal/summary.txt");
+    let line = "It stands for the project house: 1 file of 6 bytes in all, in 1 part.\n";
+    assert!(summary.contains(line), "{summary}");
+}

@@ -202,12 +202,18 @@ fn an_answer_to_something_else_is_refused() {
         format!("{FORMAT}{:032x}\n", 1).as_bytes(),
     );
     refused("claims", &["refused, 31:"]);
+    desk.copy("plan.txt.seal", "a-seal");
+    refused(
+        "a-seal",
+        &["this is no answer to what was asked: the opening is not whole"],
+    );
+    // What is given for the holder's cannot be the checker's seal as well.
     desk.run(&format!(
         "{ASK} --asked plan.txt.asked --answer plan.txt.seal"
     ))
     .says(
-        1,
-        &["this is no answer to what was asked: the opening is not whole"],
+        2,
+        &["plan.txt.seal lies in the opening, so it is the holder's; --seal takes the checker's own"],
     );
     desk.run(ASK_AGAIN).says(0, &[]);
 }

@@ -86,7 +86,9 @@ fn the_first_difference_in_the_words_that_an_opening_shows() {
     desk.run(WITH_OPENING).says(1, &["byte 77 of the file"]);
     desk.damage("plan.txt.opening/query-7.record", 60);
     desk.run(WITH_OPENING)
-        .says(1, &["the 0 words that the opening shows"]);
+        .says(1, &["note: no word that the opening shows of the file leads to the seal's root, so that it cannot be said where the file differs\n"]);
+    desk.run(WITH_OPENING)
+        .does_not_say(&["0 words", "are the same", "differs elsewhere"]);
 }
 
 #[test]

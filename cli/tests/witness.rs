@@ -9,6 +9,7 @@ use std::ffi::OsStr;
 use std::fs;
 use std::os::unix::ffi::OsStrExt;
 use std::os::unix::fs::PermissionsExt;
+use std::time::{Duration, Instant};
 
 /// The levels at which records are damaged: the first, one in the middle, and the last. A deposit of 64 words has six.
 const LEVELS: [usize; 3] = [0, 3, 5];
@@ -671,6 +672,145 @@ fn the_witness_takes_no_damaged_seal() {
     }
 }
 
+/// Command lines that the program does not take: an empty value, an option that is given twice, and one that is not written out.
+#[test]
+fn the_witness_takes_the_command_lines_that_the_program_takes() {
+    let desk = opened("witness-words", &[7]);
+    fs::copy(desk.path(KEPT), desk.path("second")).unwrap();
+    let claim = desk.value("plan.txt.opening/claim.txt");
+    let own = "plan.txt.opening --seal plan.txt.seal --challenges challenges.txt --at 7";
+    let own: Vec<&str> = own.split(' ').collect();
+    let both = |more: &[&str], status: i32| {
+        let words = [&own[..], more].concat();
+        desk.seal([&["check"], &words[..]].concat())
+            .says(status, &[]);
+        desk.python("check_seal.py", &words).says(status, &[]);
+        // The words are read before anything else: that there is no project here would be said with 2 as well.
+        let of_a_project = words
+            .iter()
+            .map(|word| if *word == "--at" { "--offset" } else { *word });
+        let of_a_project = of_a_project.chain(["--file", "plan.txt"]);
+        desk.python("check_project.py", of_a_project)
+    };
+    both(&["--roots", KEPT, "--claim", &claim], 0);
+    both(&["--claim", &claim], 3);
+    for (more, sentence) in [
+        (&["--key-file", ""][..], "needs a value"),
+        (&["--claim", ""], "needs a value"),
+        (&["--roots", ""], "needs a value"),
+        (
+            &["--roots", KEPT, "--roots", "second"],
+            "--roots is given twice",
+        ),
+        (
+            &["--roots", KEPT, "--roots", KEPT],
+            "--roots is given twice",
+        ),
+        (
+            &["--claim", &claim, "--claim", &claim],
+            "--claim is given twice",
+        ),
+        (&["--seal", "plan.txt.seal"], "--seal is given twice"),
+        (
+            &["--challenges", "challenges.txt"],
+            "--challenges is given twice",
+        ),
+        (&["--root", KEPT], "unrecognized arguments"),
+        (&["--key", "challenges.txt"], "unrecognized arguments"),
+        (&["--old"], "unrecognized arguments"),
+    ] {
+        both(more, 2).says(2, &[sentence]);
+    }
+    for more in [["--at", "7"], ["--at", "8"]] {
+        both(&more, 2);
+    }
+}
+
+/// SPECIFICATION 15.2: blanks at the end of a line have no meaning, and those before it make it another text.
+#[test]
+fn a_blank_before_a_value_is_not_passed_over() {
+    let desk = opened("witness-blanks", &[7]);
+    for (name, status) in [
+        ("plan.txt.seal/root.txt", 2),
+        ("challenges.txt", 2),
+        (KEPT, 2),
+        ("plan.txt.opening/claim.txt", 1),
+    ] {
+        let sound = desk.text(name);
+        let (front, last) = sound.trim_end().rsplit_once('\n').unwrap();
+        for (blank, status) in [("", 0), (" ", status), ("\t", status)] {
+            for is_vouched in [false, true] {
+                desk.write(name, format!("{front}\n{blank}{last} \r\n").as_bytes());
+                if is_vouched && name.starts_with("plan.txt.seal") {
+                    desk.write(name, format!("{front}\n{blank}{last}\n").as_bytes());
+                    desk.vouch("plan.txt.seal");
+                }
+                both_by(&desk, status, &[7], &format!("--roots {KEPT}"));
+            }
+        }
+        desk.write(name, sound.as_bytes());
+        desk.vouch("plan.txt.seal");
+    }
+    // The opening's own roots, where none were kept.
+    let name = "plan.txt.opening/roots.txt";
+    let sound = desk.text(name);
+    let (front, last) = sound.trim_end().rsplit_once('\n').unwrap();
+    desk.write(name, format!("{front}\n {last}\n").as_bytes());
+    both_by(&desk, 1, &[7], "");
+}
+
+/// SPECIFICATION 15.3: a base domain that a line can show stands there as it is, and another one in digits behind a blank.
+#[test]
+fn the_witness_on_the_line_of_a_base_domain() {
+    let desk = Desk::new("witness-domains");
+    desk.write("plan.txt", &desk::plan());
+    for (domain, sound, others) in [
+        (
+            "office",
+            "domain office",
+            &[
+                "domain-hex 6f6666696365",
+                "domain-hex6f6666696365",
+                "domain  office",
+            ][..],
+        ),
+        (
+            "an office",
+            "domain-hex 616e206f6666696365",
+            &[
+                "domain an office",
+                "domain-hex616e206f6666696365",
+                "domain-hex  616e206f6666696365",
+                "domain-hex 616E206F6666696365",
+            ],
+        ),
+        ("", "domain-hex", &["domain", "domain "]),
+    ] {
+        let commit = [
+            "commit", "plan.txt", "--force", "--k", "2", "--domain", domain,
+        ];
+        desk.seal(commit).says(0, &[]);
+        desk.run("open plan.txt --seal plan.txt.seal --seed dice --at 7 --force")
+            .says(0, &[]);
+        desk.keep("challenges.txt");
+        desk.keep_roots("plan.txt.opening");
+        both(&desk, 0, &[7], "");
+        let name = "plan.txt.seal/parameters.txt";
+        let text = desk.text(name);
+        let lines: Vec<&str> = text.lines().map(str::trim_end).collect();
+        assert!(lines.contains(&sound), "{text}");
+        for other in others {
+            let changed = lines
+                .iter()
+                .map(|line| if *line == sound { *other } else { *line });
+            let changed: Vec<&str> = changed.collect();
+            desk.write(name, format!("{}\n", changed.join("\n")).as_bytes());
+            desk.vouch("plan.txt.seal");
+            both(&desk, 2, &[7], "");
+        }
+    }
+}
+
 /// Runs the program and tools/check_project.py on an opening of a project, by roots that were kept, which must end with this status and say the same of each
 /// record; and without such roots.
 fn both_on_a_file(desk: &Desk, status: i32, path: &[u8], offset: &str) -> [Run; 2] {
@@ -764,6 +904,15 @@ fn the_witness_checks_a_file_of_a_project() {
     }
     fs::remove_file(desk.path("house.opening/manifest.txt")).unwrap();
     both_on_a_file(&desk, 1, path, "0");
+
+    // Megabytes behind the project's manifest are of another size, and cost neither of the two anything: committing them takes the witness minutes.
+    let long = [sound.as_bytes(), &vec![b'x'; 3_000_000]].concat();
+    desk.write("house.opening/manifest.txt", &long);
+    let begin = Instant::now();
+    let [program, witness] = both_on_a_file(&desk, 1, path, "0");
+    program.says(1, &["manifest: refused: "]);
+    witness.says(1, &["manifest: no: "]);
+    assert!(begin.elapsed() < Duration::from_secs(20));
 }
 
 #[test]

@@ -4,7 +4,7 @@ use crate::commands::commit::told_key;
 use crate::folder::Kind;
 use crate::json::Json;
 use crate::key::{self, CheckValue, Given};
-use crate::manifest::{Manifest, MANIFEST};
+use crate::manifest::{counted, Manifest, MANIFEST};
 use crate::options::Options;
 use crate::outcome::{Failure, Outcome, Verdict};
 use crate::project::{file_path, manifest_of, root_of, written_path, Under};
@@ -131,10 +131,11 @@ fn not_a_project(project: &Path, found: &Walked) -> Option<String> {
 fn told(manifest: &Manifest, shape: &Shape, root: &Root, project: &Path, folder: &Path) -> Outcome {
     let widths = shape.widths;
     let (files, bytes, parts) = (manifest.0.len(), manifest.bytes(), manifest.parts());
-    let noun = if files == 1 { "file" } else { "files" };
     let sentence = format!(
-        "sealed the project {}: {files} {noun}, {bytes} bytes in {parts} parts, {widths} widths",
-        project.display()
+        "sealed the project {}: {}, {bytes} bytes in {}, {widths} widths",
+        project.display(),
+        counted(files, "file"),
+        counted(parts, "part")
     );
     let outcome = Outcome::new(Verdict::Done, sentence)
         .say()

@@ -13,9 +13,9 @@ use crate::questions::challenges;
 use crate::reading::named;
 use crate::shape::{Shape, PARAMETERS};
 use crate::shown::{Own, Shown, Use};
-use crate::statement::{statement, Brought};
+use crate::statement::{checker_s_seal, statement, Brought};
 use crate::writing::{beside, Target};
-use dequmlo::{Collision, QueryRecord, Refusal, Statement, Widths};
+use dequmlo::{Collision, QueryRecord, Refusal, Statement};
 use std::path::{Path, PathBuf};
 
 pub const TAKEN: [&str; 12] = [
@@ -45,6 +45,7 @@ pub fn run(options: &Options) -> Result<Outcome, Failure> {
         "--opening",
         "the folder that names the challenges and the roots",
     )?;
+    checker_s_seal(options, &opening)?;
     let seal = match asked_seal(options, Some(&opening))? {
         Ok(seal) => seal,
         Err(refused) => return Ok(refused.outcome()),
@@ -68,7 +69,7 @@ pub fn run(options: &Options) -> Result<Outcome, Failure> {
         Ok(shown) => shown,
         Err(sentence) => return Ok(Outcome::declined(sentence)),
     };
-    of_one_set(seal.shape.widths, &options.operands, &opening)?;
+    of_one_set_and_key(&seal.shape, &options.operands, &opening)?;
     let words = match (challenges(options, seal.shape.n)?, &shown.challenges) {
         (Some((words, _)), _) => words,
         (None, Ok(words)) => words.clone(),
@@ -93,16 +94,30 @@ pub fn run(options: &Options) -> Result<Outcome, Failure> {
     Ok(key::found(outcome.notes(seal.notes), seal.shape.key))
 }
 
-/// Fails where the opening, or a folder that a record lies in, names another set of widths than the seal: two records are compared under one set. A
-/// folder that names none is of the present set, and one that is no opening says nothing.
-fn of_one_set(widths: Widths, records: &[PathBuf], opening: &Path) -> Result<(), Failure> {
+/// Fails where the opening, or a folder that a record lies in, names another set of widths or another key than the seal: two records are compared under one set
+/// and one key. A folder that names no set is of the present one, one that names no key is without one, and one that is no opening says nothing.
+fn of_one_set_and_key(seal: &Shape, records: &[PathBuf], opening: &Path) -> Result<(), Failure> {
     let folders = records.iter().filter_map(|record| record.parent());
     for folder in folders.chain([opening]) {
-        let named = Shape::read(folder).ok().map(|read| read.shape.widths);
-        if let Some(other) = named.filter(|other| *other != widths) {
+        let named = match Shape::read(folder) {
+            Ok(read) => read.shape,
+            Err(_) => continue,
+        };
+        let path = folder.join(PARAMETERS);
+        if named.widths != seal.widths {
             return Err(Failure(format!(
-                "{} is of the {other} set of widths, and the seal is of the {widths} one: two records are compared under one set",
-                folder.join(PARAMETERS).display()
+                "{} is of the {} set of widths, and the seal is of the {} one: two records are compared under one set",
+                path.display(),
+                named.widths,
+                seal.widths
+            )));
+        }
+        if named.key != seal.key {
+            return Err(Failure(format!(
+                "{} is of what was made {}, and the seal was made {}: two records are compared under one key",
+                path.display(),
+                key::told(named.key),
+                key::told(seal.key)
             )));
         }
     }

@@ -37,8 +37,8 @@ const KEYS: [&str; 5] = [
     "The key does not hide what an opening shows: its records have the words themselves, for everybody who has the opening; and its claim and its tail are \
      made from all of the file without the key, so that whoever has an opening can try a guess at the whole file. Nor does a key say who made something: everybody who has \
      it can do all of it.",
-    "Whoever opens, checks or verifies gives the key by --key-file. Where it is lost, the seal can no longer be checked, and nobody can make it again: keep a copy \
-     in a safe place, apart from what is sealed.",
+    "Whoever opens, checks or verifies gives the key by --key-file. Where it is lost, the seal can no longer be checked, and nobody can make it again, unless it was \
+     derived, since its context and key material give it again: keep a copy in a safe place, apart from what is sealed.",
     "A seal says under which key it was made by a check value in parameters.txt, which is derived from the key and does not lead back to it. So a key that is \
      missing, another key, and a key for a seal that has none are told in a sentence, with status 2, before a record is read; that speaks against nobody.",
     "A key's file has 32 bytes, or 64 hexadecimal digits and perhaps a line end. One that others may read is named on standard error: `chmod 600 FILE` mends that.",

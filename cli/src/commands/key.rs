@@ -37,7 +37,12 @@ fn new(options: &Options) -> Result<Outcome, Failure> {
     })?;
     let key = Key::new(bytes);
     overwrite(&mut bytes);
-    written(&options.operands[1], &key, "a new key")
+    written(
+        &options.operands[1],
+        &key,
+        "a new key",
+        "and where it is lost nobody can make it again",
+    )
 }
 
 /// A key from a context and key material.
@@ -63,7 +68,12 @@ fn derive(options: &Options) -> Result<Outcome, Failure> {
         _ => (),
     }
     let key = Key::derive(&context, &material.0).map_err(|refusal| unfit(refusal.to_string()))?;
-    written(&options.operands[1], &key, "a key that is derived")
+    written(
+        &options.operands[1],
+        &key,
+        "a key that is derived",
+        "and its context and key material give it again to whoever has both",
+    )
 }
 
 /// The context that the options name: a text that says what the key is for.
@@ -80,14 +90,15 @@ fn context(options: &Options) -> Result<String, Failure> {
     }
 }
 
-fn written(path: &Path, key: &Key, what: &str) -> Result<Outcome, Failure> {
+/// Writes a key, and says what it is and what comes of its loss.
+fn written(path: &Path, key: &Key, what: &str, lost: &str) -> Result<Outcome, Failure> {
     write_new(path, key)?;
     let (shown, value) = (shown_path(path), CheckValue::of(key));
     let sentence = format!("wrote {what} into {shown}, which its owner alone may read: 64 hexadecimal digits and a line end");
-    let keep = "keep a copy in a safe place, apart from what is sealed: without the key nothing that is sealed under it can be checked, and where it is lost nobody can make it again";
+    let keep = format!("keep a copy in a safe place, apart from what is sealed: without the key nothing that is sealed under it can be checked, {lost}");
     let outcome = Outcome::new(Verdict::Done, sentence)
         .say()
-        .lines([format!("check value {value}"), keep.into()])
+        .lines([format!("check value {value}"), keep])
         .found("key_file", Json::text(path.display()));
     Ok(found(outcome, Some(value)))
 }

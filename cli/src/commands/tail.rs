@@ -6,7 +6,7 @@ use crate::options::Options;
 use crate::outcome::{texts, Failure, Outcome, Verdict};
 use crate::part::asked_seal;
 use crate::shown::{changed_note, Own, Shown, Use};
-use crate::statement::{checker_s_own, statement, Brought};
+use crate::statement::{another_key_in, checker_s_own, statement, Brought};
 use dequmlo::Word;
 
 pub const TAKEN: [&str; 8] = [
@@ -58,6 +58,7 @@ pub fn run(options: &Options) -> Result<Outcome, Failure> {
         .notes
         .iter()
         .cloned()
+        .chain(another_key_in(&seal, &options.operands[0]))
         .chain(changed_note(&shown.changed()))
         .chain(shown.size_note());
     let outcome = match checked {

@@ -11,6 +11,7 @@ use crate::outcome::{Failure, Outcome, Verdict};
 use crate::progress::Progress;
 use crate::seal::{Seal, SEAL_FOLDER};
 use crate::shape::Shape;
+use crate::statement::{another_key_in, checker_s_seal};
 use crate::table::{read_table, room_for, Table};
 use dequmlo::{Deposit, Threads, Word};
 use std::collections::BTreeMap;
@@ -30,6 +31,9 @@ pub fn run(options: &Options) -> Result<Outcome, Failure> {
     let file = &options.operands[0];
     let folder = options.needed_path("--seal", SEAL_FOLDER)?;
     let threads = options.threads()?;
+    if let Some(opening) = options.path("--opening") {
+        checker_s_seal(options, &opening)?;
+    }
     let seal = Seal::read(&folder, options.has("--older"))?.with_key(&folder, options)?;
     if file.is_dir() {
         if options.given("--opening") {
@@ -90,6 +94,9 @@ fn differs(
             Err(sentence) => return Ok(Outcome::declined(sentence)),
         },
     };
+    let of_another_key = options
+        .path("--opening")
+        .and_then(|opening| another_key_in(seal, &opening));
     let (note, at) = match (&old, table) {
         (None, _) => (
             "where it differs can be said as far as an opening shows words of the sealed file: --opening FOLDER".into(),
@@ -101,6 +108,7 @@ fn differs(
     Ok(Outcome::new(Verdict::Refused, sentence)
         .say()
         .notes([note])
+        .notes(of_another_key)
         .found("differs_at", at.map_or(Json::Null, Json::number))
         .found(
             "words_compared",
@@ -145,6 +153,9 @@ fn compared(
             "the sealed file has {length} bytes, and this one {}; the other words that the opening shows are the same",
             table.bytes
         ),
+        _ if old.is_empty() => {
+            "no word that the opening shows of the file leads to the seal's root, so that it cannot be said where the file differs".into()
+        }
         _ => format!("the {} words that the opening shows are the same in this file; it differs elsewhere", old.len()),
     };
     (note, None)
