@@ -1,6 +1,6 @@
-// The modes of BLAKE3 other than hash mode, each as key words and flags: keyed mode and key derivation, in one call and by a hasher that is
-// started with a key or with a context. The entries are `keyed_digest`, `derive_key`, `keyed_hasher` and `context_hasher`; the other functions are
-// helpers for the crates above, and `key_words` and `material_mode` require.
+// The modes of BLAKE3 as values, each key words and flags; and keyed mode and key derivation, in one call and by a hasher that is started with a
+// key or with a context. The entries are `keyed_digest`, `derive_key`, `keyed_hasher` and `context_hasher`; the other functions are helpers for
+// the crates above, and `key_words` and `material_mode` require.
 use hash_compress::iv;
 use hash_hasher::hasher::Updated;
 use hash_hasher::hasher::new_with;
