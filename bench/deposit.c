@@ -80,14 +80,32 @@ static void folds(parts d, int with_trees) {
     }
 }
 
-/* Query records, built at 64 positions and checked. */
-static void records(parts d, double *built, double *checking) {
-    enum { POSITIONS = 64 };
-    uint8_t *out = bytes(d.record_size * POSITIONS);
+enum { POSITIONS = 64 };
 #define POSITION(i) ((size_t)(i) * 0x9e3779b1u % d.count)
+
+/* The longest that records take to be refused which are changed in one byte each: in the word a of level 0, in the path of its c, and in level 1's
+   path of a; they are refused with 19 and 24 at level 0, and with 18 at level 1. */
+static double refused(parts d, uint8_t *records) {
+    size_t level_0 = 48 + group_size(d.count) + group_size(d.count / 2);
+    size_t path_of_a = 4 + level_0 + 48 + 8 + 16 * (fold_tree_width(d.count / 2) + fold_tree_width(d.count / 4)) + 4;
+    const size_t changed[] = {4, 4 + level_0 - 1, path_of_a};
+    const uint32_t numbers[] = {19, 24, 18};
+    double longest = 0, best;
+    for (int c = 0; c < 3; c++) {
+        for (size_t i = 0; i < POSITIONS; i++) records[d.record_size * i + changed[c]] ^= 1;
+        BEST(best, POSITIONS, must(dequmlo_test_check_query(DOMAIN, DOMAIN_LENGTH, d.n, d.k, POSITION(i), d.challenges, 2 * d.n, d.roots, 32 * (d.n + 1), records + d.record_size * (size_t)i, d.record_size).number == numbers[c], "refused record"));
+        for (size_t i = 0; i < POSITIONS; i++) records[d.record_size * i + changed[c]] ^= 1;
+        if (best > longest) longest = best;
+    }
+    return longest;
+}
+
+/* Query records, built at 64 positions, checked, and refused. */
+static void records(parts d, double *built, double *checking, double *refusing) {
+    uint8_t *out = bytes(d.record_size * POSITIONS);
     BEST(*built, POSITIONS, must(dequmlo_test_build_query(out + d.record_size * (size_t)i, d.record_size, d.levels, 2 * d.words, d.trees, d.trees_size, d.n, d.k, POSITION(i)) == 0, "query record"));
     BEST(*checking, POSITIONS, must(dequmlo_test_check_query(DOMAIN, DOMAIN_LENGTH, d.n, d.k, POSITION(i), d.challenges, 2 * d.n, d.roots, 32 * (d.n + 1), out + d.record_size * (size_t)i, d.record_size).number == 0, "record's check"));
-#undef POSITION
+    *refusing = refused(d, out);
     free(out);
 }
 
@@ -100,7 +118,7 @@ static void row(parts d, const char *what, const char *rust, double ours) {
 }
 
 void deposit(size_t n, size_t k, int rounds) {
-    double ours, checking;
+    double ours, checking, refusing;
     parts d = make(n, k);
     must(dequmlo_test_derive(n, k, DOMAIN, DOMAIN_LENGTH, d.gammas, 2 * n * k) == 0, "gammas");
     BEST_OF(ours, rounds, must(dequmlo_test_encode(n, k, d.table, (size_t)2 << n, d.gammas, 2 * n * k, d.levels, 2 * d.count) == 0, "encode"));
@@ -113,8 +131,9 @@ void deposit(size_t n, size_t k, int rounds) {
     row(d, "all folds", "folds", ours);
     BEST_OF(ours, rounds, folds(d, 1));
     row(d, "all folds with trees", "folds_with_trees", ours);
-    records(d, &ours, &checking);
+    records(d, &ours, &checking, &refusing);
     row(d, "query record built", "query_built", ours);
     row(d, "query record checked", "query_checked", checking);
+    row(d, "query record refused, the longest of three", "-", refusing);
     drop(d);
 }

@@ -1,10 +1,10 @@
 /* How much stack each function takes, under a key and either set of widths: it is run on a painted stack, and the paint that is left is counted. Fails above
-   96 KiB. */
+   96 KiB, and where a check takes more than 24. */
 #include "fixture.h"
 #include <pthread.h>
 #include <sys/mman.h>
 
-enum { STACK = 1 << 20, MOST = 96 * 1024, PAINT = 0xc7 };
+enum { STACK = 1 << 20, MOST = 96 * 1024, MOST_OF_A_CHECK = 24 * 1024, PAINT = 0xc7 };
 
 static seal s;
 static dequmlo_coefficients rows;
@@ -167,6 +167,6 @@ int main(void) {
     }
     printf("stack, in bytes:");
     for (size_t i = 0; i < COUNT; i++) printf(" %s %zu%s", functions[i].name, most[i], i + 1 < COUNT ? "," : "\n");
-    for (size_t i = 0; i < COUNT; i++) MUST(most[i] <= MOST);
+    for (size_t i = 0; i < COUNT; i++) MUST(most[i] <= (strncmp(functions[i].name, "check_", 6) == 0 ? MOST_OF_A_CHECK : MOST));
     return 0;
 }

@@ -1,14 +1,16 @@
 -- What a window holds: the bytes of a place, the numbers in them, and a digest.
 use Prim.Native.Nat.{ℕ, zero, suc, _+_, _-_, _*_, _<_, _≤_}
 use mathlib.Core.Path.{_≡_, refl, sym, _∙_, ap, ap₂}
+use mathlib.Core.Logic.{⊎-elim}
 use mathlib.Core.List.{List, [], _∷_}
 use native.Mathlib.Omega.{arith}
-use lib.ListN.{length, getD, take, drop, set, List·getD-eq-default}
-use lib.Seq.{getD-drop, take-nil}
+use lib.ListN.{length, getD, take, drop, set, replicate, length-replicate, length-set, List·getD-eq-default}
+use lib.Seq.{getD-drop, take-nil, getD-set-other}
 use Rattle.theory_laws.specs.Table.{tab, at}
 use Rattle.theory_laws.specs.Lists.{part, leValue}
 use Rattle.theory_laws.proofs.Table.{tab-ext, at-tab, is-tab}
 use Rattle.theory_laws.proofs.Lists.{length-part, getD-part}
+use Rattle.theory_laws.proofs.Numbers.{lt-or-le}
 use Rattle.theory_laws.proofs.Updates.{fill-step}
 use Rattle.bytes_reader.specs.Windows.{byteAt, window, windowAt}
 use Rattle.bytes_reader.specs.declared.Window.{Window}
@@ -46,16 +48,38 @@ pub past-end : (s : List ℕ) (i j left : ℕ) → left ≡ length s - i → lef
 unfolding byteAt
 past-end s i j left e h = sym (List·getD-eq-default s 0 {n = i + j} (omega arith))
 
-pub byte-step : (s b : List ℕ) (i j v : ℕ) → ((k : ℕ) → k < j → getD b k 0 ≡ byteAt s i k) → v ≡ byteAt s i j → length b ≡ 32 → j < 32
-    → (k : ℕ) → k < j + 1 → getD (set b j v) k 0 ≡ byteAt s i k
-byte-step s b i j v f e n h = fill-step (byteAt s i) j b v (omega arith) e f
+-- bytes filled from the front, zeros after them
+pub record Filled (s : List ℕ) (i : ℕ) (b : List ℕ) (j : ℕ) : Type 0 where
+  pub long : length b ≡ 32
+  pub front : (k : ℕ) → k < j → getD b k 0 ≡ byteAt s i k
+  pub zeros : (k : ℕ) → j ≤ k → getD b k 0 ≡ 0
+
+zero-at : (n k : ℕ) → _≡_ {A = ℕ} (getD {A = ℕ} (replicate n 0) k 0) 0
+zero-at zero k = refl
+zero-at (suc n) zero = refl
+zero-at (suc n) (suc k) = zero-at n k
+
+pub filled-begin : (s : List ℕ) (i : ℕ) → Filled s i (replicate 32 0) 0
+filled-begin s i = record { long = length-replicate {A = ℕ} 32 0; front = λ k h. absurd (omega arith); zeros = λ k h. zero-at 32 k }
+
+pub byte-step : (s b : List ℕ) (i j v : ℕ) → v ≡ getD s (i + j) 0 → j < 32 → Filled s i b j → Filled s i (set b j v) (j + 1)
+unfolding byteAt
+byte-step s b i j v e h f = record {
+  long = length-set b j v ∙ f .long;
+  front = fill-step (byteAt s i) j b v (omega (arith, f .long)) e (f .front);
+  zeros = λ k g. getD-set-other b j k v 0 (omega arith) ∙ f .zeros k (omega arith);
+}
 
 pub window-whole : (s d : List ℕ) (i left : ℕ) → left ≡ length s - i → 32 ≤ left → d ≡ part 32 i s
     → _≡_ {A = Window} (record { bytes = d; left = left }) (windowAt s i)
 unfolding windowAt
 window-whole s d i left e h f = ap₂ (λ (b : List ℕ) (l : ℕ). record { bytes = b; left = l }) (f ∙ part-window s i (omega arith)) e
 
-pub window-filled : (s b : List ℕ) (i left j : ℕ) → left ≡ length s - i → length b ≡ 32 → 32 ≤ j
-    → ((k : ℕ) → k < j → getD b k 0 ≡ byteAt s i k) → _≡_ {A = Window} (record { bytes = b; left = left }) (windowAt s i)
+pub window-filled : (s b : List ℕ) (i left j : ℕ) → left ≡ length s - i → left ≤ j → Filled s i b j
+    → _≡_ {A = Window} (record { bytes = b; left = left }) (windowAt s i)
 unfolding windowAt window
-window-filled s b i left j e n h f = ap₂ (λ (x : List ℕ) (l : ℕ). record { bytes = x; left = l }) (is-tab b 32 (byteAt s i) n (λ k g. f k (omega arith))) e
+window-filled s b i left j e h f =
+    ap₂ (λ (x : List ℕ) (l : ℕ). record { bytes = x; left = l })
+    (is-tab b 32 (byteAt s i) (f .long) (λ k g.
+    ⊎-elim (λ (a : k < j). f .front k a) (λ (a : j ≤ k). f .zeros k a ∙ past-end s i k left e (omega arith)) (lt-or-le k j)))
+    e

@@ -1,11 +1,11 @@
-// A thin reader over lent bytes: 32 bytes from a place on, and how many are left there. Every byte of a record is reached through `read`. Bytes
-// may be anything. `byte_or_zero` and `digest_at` require.
+// A thin reader over lent bytes: 32 bytes from a place on, and how many are left there. A record is read through `read`. Bytes may be
+// anything. `digest_at` requires.
 use bytes_numbers::load;
 ghost use mathlib.Core.Path.{_≡_};
 ghost use Prim.Native.Nat.{_+_, _-_, _≤_};
 ghost use lib.ListN.{length};
 ghost use Rattle.theory_laws.specs.Lists.{part};
-ghost use Rattle.bytes_reader.specs.Windows.{byteAt, windowAt};
+ghost use Rattle.bytes_reader.specs.Windows.{windowAt};
 
 // A reader over lent bytes, and how far it has read.
 pub struct RecordReader<'a> {
@@ -29,17 +29,6 @@ fn left_from(len: usize, at: usize) -> usize
     len - at
 }
 
-// The byte j after a place of which this many bytes are left; 0 past the end.
-fn byte_or_zero(s: &[u8], at: usize, left: usize, j: usize) -> u8
-    requires { ⌜ left ≡ length (now s) - at ⌝ }
-    ensures { λ r. ⌜ r ≡ byteAt (now (s .entry)) at j ⌝ }
-{
-    if left <= j {
-        return 0;
-    }
-    s[at + j]
-}
-
 // What is read at a place.
 pub fn window_at(s: &[u8], at: usize) -> Window
     ensures { λ r. ⌜ r ≡ windowAt (now (s .entry)) at ⌝ }
@@ -54,8 +43,8 @@ pub fn window_at(s: &[u8], at: usize) -> Window
     }
     let mut bytes = [0u8; 32];
     let mut j: usize = 0;
-    while j < 32 {
-        bytes[j] = byte_or_zero(s, at, left, j);
+    while j < left {
+        bytes[j] = s[at + j];
         j += 1;
     }
     Window {

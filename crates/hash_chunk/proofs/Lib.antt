@@ -1,3 +1,4 @@
 pub mod Chunk
+pub mod Blocks
 pub mod Feed
 pub mod Stands

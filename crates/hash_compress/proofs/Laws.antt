@@ -10,8 +10,9 @@ use lib.ListN.{getD, set, drop, length, drop-of-length-le}
 use lib.Pow.{shr-lt, shl-shr, mod-pow-add}
 use Rattle.theory_laws.specs.Table.{tab, at}
 use Rattle.theory_laws.specs.Xor.{_⊕_}
-use Rattle.theory_blake3.specs.Compression.{add, rotr, half, permuted, permutation, rounds}
-use Rattle.theory_blake3.specs.Orders.{powers, orders, Small, roundsBy}
+use Rattle.theory_blake3.specs.Compression.{add, rotr, half, mix, columns, diagonals, round, permuted, permutation, rounds}
+use Rattle.theory_blake3.specs.Orders.{powers, orders, ordered, Small, roundsBy}
+use Rattle.hash_compress.specs.helpers.Rounds.{roundAt}
 use Rattle.theory_laws.proofs.Linear.{allBelow, below}
 use Rattle.theory_blake3.proofs.Compression.{rounds-by-orders}
 
@@ -41,17 +42,43 @@ pub half-law : (s : List ℕ) (a b c d x p q : ℕ) {r1 r2 r3 r4 r5 : ℕ}
 unfolding half add _⊕_
 half-law s a b c d x p q e1 e2 e3 e4 e5 = cc
 
--- four steps, one after the other, each with two words of the message
-pub four : (f g h k : List ℕ → ℕ → ℕ → List ℕ) (s : List ℕ) {s1 s2 s3 s4 : List ℕ} {x0 x1 x2 x3 x4 x5 x6 x7 y0 y1 y2 y3 y4 y5 y6 y7 : ℕ}
-    → x0 ≡ y0 → x1 ≡ y1 → s1 ≡ f s x0 x1 → x2 ≡ y2 → x3 ≡ y3 → s2 ≡ g s1 x2 x3 → x4 ≡ y4 → x5 ≡ y5 → s3 ≡ h s2 x4 x5 → x6 ≡ y6 → x7 ≡ y7 → s4 ≡ k s3 x6 x7
-    → s4 ≡ k (h (g (f s y0 y1) y2 y3) y4 y5) y6 y7
-four f g h k s p0 p1 q1 p2 p3 q2 p4 p5 q3 p6 p7 q4 = cc
+-- the two halves of G
+pub mix-law : (s : List ℕ) (a b c d x y : ℕ) {s1 s2 : List ℕ} → s1 ≡ half s a b c d x 16 12 → s2 ≡ half s1 a b c d y 8 7 → s2 ≡ mix s a b c d x y
+unfolding mix
+mix-law s a b c d x y e1 e2 = cc
+
+-- the eight steps of a round over the words w
+pub round-law : (s w : List ℕ) {s1 s2 s3 s4 s5 s6 s7 s8 : List ℕ}
+    → s1 ≡ mix s 0 4 8 12 (at w 0) (at w 1)
+    → s2 ≡ mix s1 1 5 9 13 (at w 2) (at w 3)
+    → s3 ≡ mix s2 2 6 10 14 (at w 4) (at w 5)
+    → s4 ≡ mix s3 3 7 11 15 (at w 6) (at w 7)
+    → s5 ≡ mix s4 0 5 10 15 (at w 8) (at w 9)
+    → s6 ≡ mix s5 1 6 11 12 (at w 10) (at w 11)
+    → s7 ≡ mix s6 2 7 8 13 (at w 12) (at w 13)
+    → s8 ≡ mix s7 3 4 9 14 (at w 14) (at w 15)
+    → s8 ≡ round s w
+unfolding round columns diagonals
+round-law s w e1 e2 e3 e4 e5 e6 e7 e8 = cc
 
 -- each place in each order is below 16: one test that is computed
 pub small-orders : (r : ℕ) → r < 7 → Small (getD orders r [])
 unfolding Small orders powers permuted permutation tab
 small-orders r h = λ i k. ltb→lt (at (getD orders r []) i) 16
     (below 16 (λ i. ltb (at (getD orders r []) i) 16) (below 7 (λ r. allBelow 16 (λ i. ltb (at (getD orders r []) i) 16)) tt r h) i k)
+
+-- the seven rounds, one after the other
+pub rounds-law : (s m : List ℕ) {s1 s2 s3 s4 s5 s6 s7 : List ℕ}
+    → s1 ≡ round s m
+    → s2 ≡ roundAt 1 s1 m
+    → s3 ≡ roundAt 2 s2 m
+    → s4 ≡ roundAt 3 s3 m
+    → s5 ≡ roundAt 4 s4 m
+    → s6 ≡ roundAt 5 s5 m
+    → s7 ≡ roundAt 6 s6 m
+    → s7 ≡ rounds 7 s m
+unfolding rounds orders powers ordered permuted permutation tab
+rounds-law s m e1 e2 e3 e4 e5 e6 e7 = rw (e7, e6, e5, e4, e3, e2, e1)
 
 -- past the last order nothing is left to do
 pub rounds-all : (s₀ s m : List ℕ) (os : List (List ℕ)) (r : ℕ) → os ≡ orders → length os ≤ r → roundsBy (drop r os) s m ≡ roundsBy os s₀ m → s ≡ rounds 7 s₀ m

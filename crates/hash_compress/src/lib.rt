@@ -5,6 +5,7 @@ ghost use Prim.Native.Nat.{_+_, _%_, _^_, _<_};
 ghost use Rattle.theory_laws.specs.Table.{at};
 ghost use Rattle.theory_blake3.specs.Compression as C;
 ghost use Rattle.theory_blake3.specs.Orders as O;
+ghost use Rattle.hash_compress.specs.helpers.Rounds as R;
 
 // The places of the message's words, in the order in which each round takes them.
 const ORDER: [[u8; 16]; 7] = [
@@ -68,67 +69,129 @@ pub fn half(s: &mut [u32; 16], a: usize, b: usize, c: usize, d: usize, x: u32, p
     s[b] = rotr(s[b] ^ s[c], q);
 }
 
-// G at four places of the state, with two words of the message.
-pub fn mix(s: &mut [u32; 16], a: usize, b: usize, c: usize, d: usize, x: u32, y: u32)
-    requires { ⌜ (a < 16) × (b < 16) × (c < 16) × (d < 16) ⌝ }
-    ensures { λ r. ⌜ now (s .exit) ≡ C.mix (now (s .entry)) a b c d x y ⌝ }
+// G at four places of the state, with the message's words at i and j.
+pub fn mix(
+    s: &mut [u32; 16],
+    a: usize,
+    b: usize,
+    c: usize,
+    d: usize,
+    m: &[u32; 16],
+    i: usize,
+    j: usize,
+)
+    requires { ⌜ (a < 16) × (b < 16) × (c < 16) × (d < 16) × (i < 16) × (j < 16) ⌝ }
+    ensures { λ r. ⌜ now (s .exit) ≡ C.mix (now (s .entry)) a b c d (at (now (m .entry)) i) (at (now (m .entry)) j) ⌝ }
 {
-    half(s, a, b, c, d, x, 16, 12);
-    half(s, a, b, c, d, y, 8, 7);
+    half(s, a, b, c, d, m[i], 16, 12);
+    half(s, a, b, c, d, m[j], 8, 7);
 }
 
-// The message's word that the order has at i.
-pub fn word_in(m: &[u32; 16], o: &[u8; 16], i: usize) -> u32
-    requires { ⌜ (O.Small (now o)) × (i < 16) ⌝ }
-    ensures { λ r. ⌜ r ≡ at (now (m .entry)) (at (now (o .entry)) i) ⌝ }
+// The seven rounds are written out, each in its order, so that every place is a constant to the compiler. The first takes the
+// message's words as they stand.
+pub fn round_0(s: &mut [u32; 16], m: &[u32; 16])
+    ensures { λ r. ⌜ now (s .exit) ≡ C.round (now (s .entry)) (now (m .entry)) ⌝ }
 {
-    let k = o[i] as usize;
-    m[k]
+    mix(s, 0, 4, 8, 12, m, 0, 1);
+    mix(s, 1, 5, 9, 13, m, 2, 3);
+    mix(s, 2, 6, 10, 14, m, 4, 5);
+    mix(s, 3, 7, 11, 15, m, 6, 7);
+    mix(s, 0, 5, 10, 15, m, 8, 9);
+    mix(s, 1, 6, 11, 12, m, 10, 11);
+    mix(s, 2, 7, 8, 13, m, 12, 13);
+    mix(s, 3, 4, 9, 14, m, 14, 15);
 }
 
-// The first half of a round, on the columns of the state, with the message's words in the order o.
-pub fn columns(s: &mut [u32; 16], m: &[u32; 16], o: &[u8; 16])
-    requires { ⌜ O.Small (now o) ⌝ }
-    ensures { λ r. ⌜ now (s .exit) ≡ C.columns (now (s .entry)) (O.ordered (now (m .entry)) (now (o .entry))) ⌝ }
+fn round_1(s: &mut [u32; 16], m: &[u32; 16])
+    ensures { λ r. ⌜ now (s .exit) ≡ R.roundAt 1 (now (s .entry)) (now (m .entry)) ⌝ }
 {
-    mix(s, 0, 4, 8, 12, word_in(m, o, 0), word_in(m, o, 1));
-    mix(s, 1, 5, 9, 13, word_in(m, o, 2), word_in(m, o, 3));
-    mix(s, 2, 6, 10, 14, word_in(m, o, 4), word_in(m, o, 5));
-    mix(s, 3, 7, 11, 15, word_in(m, o, 6), word_in(m, o, 7));
+    mix(s, 0, 4, 8, 12, m, 2, 6);
+    mix(s, 1, 5, 9, 13, m, 3, 10);
+    mix(s, 2, 6, 10, 14, m, 7, 0);
+    mix(s, 3, 7, 11, 15, m, 4, 13);
+    mix(s, 0, 5, 10, 15, m, 1, 11);
+    mix(s, 1, 6, 11, 12, m, 12, 5);
+    mix(s, 2, 7, 8, 13, m, 9, 14);
+    mix(s, 3, 4, 9, 14, m, 15, 8);
 }
 
-// The second half, on the diagonals.
-pub fn diagonals(s: &mut [u32; 16], m: &[u32; 16], o: &[u8; 16])
-    requires { ⌜ O.Small (now o) ⌝ }
-    ensures { λ r. ⌜ now (s .exit) ≡ C.diagonals (now (s .entry)) (O.ordered (now (m .entry)) (now (o .entry))) ⌝ }
+fn round_2(s: &mut [u32; 16], m: &[u32; 16])
+    ensures { λ r. ⌜ now (s .exit) ≡ R.roundAt 2 (now (s .entry)) (now (m .entry)) ⌝ }
 {
-    mix(s, 0, 5, 10, 15, word_in(m, o, 8), word_in(m, o, 9));
-    mix(s, 1, 6, 11, 12, word_in(m, o, 10), word_in(m, o, 11));
-    mix(s, 2, 7, 8, 13, word_in(m, o, 12), word_in(m, o, 13));
-    mix(s, 3, 4, 9, 14, word_in(m, o, 14), word_in(m, o, 15));
+    mix(s, 0, 4, 8, 12, m, 3, 4);
+    mix(s, 1, 5, 9, 13, m, 10, 12);
+    mix(s, 2, 6, 10, 14, m, 13, 2);
+    mix(s, 3, 7, 11, 15, m, 7, 14);
+    mix(s, 0, 5, 10, 15, m, 6, 5);
+    mix(s, 1, 6, 11, 12, m, 9, 0);
+    mix(s, 2, 7, 8, 13, m, 11, 15);
+    mix(s, 3, 4, 9, 14, m, 8, 1);
 }
 
-// A round.
-pub fn round(s: &mut [u32; 16], m: &[u32; 16], o: &[u8; 16])
-    requires { ⌜ O.Small (now o) ⌝ }
-    ensures { λ r. ⌜ now (s .exit) ≡ C.round (now (s .entry)) (O.ordered (now (m .entry)) (now (o .entry))) ⌝ }
+fn round_3(s: &mut [u32; 16], m: &[u32; 16])
+    ensures { λ r. ⌜ now (s .exit) ≡ R.roundAt 3 (now (s .entry)) (now (m .entry)) ⌝ }
 {
-    columns(s, m, o);
-    diagonals(s, m, o);
+    mix(s, 0, 4, 8, 12, m, 10, 7);
+    mix(s, 1, 5, 9, 13, m, 12, 9);
+    mix(s, 2, 6, 10, 14, m, 14, 3);
+    mix(s, 3, 7, 11, 15, m, 13, 15);
+    mix(s, 0, 5, 10, 15, m, 4, 0);
+    mix(s, 1, 6, 11, 12, m, 11, 2);
+    mix(s, 2, 7, 8, 13, m, 5, 8);
+    mix(s, 3, 4, 9, 14, m, 1, 6);
 }
 
-// The seven rounds. The table is read once, before the loop: a constant is built anew at each use.
+fn round_4(s: &mut [u32; 16], m: &[u32; 16])
+    ensures { λ r. ⌜ now (s .exit) ≡ R.roundAt 4 (now (s .entry)) (now (m .entry)) ⌝ }
+{
+    mix(s, 0, 4, 8, 12, m, 12, 13);
+    mix(s, 1, 5, 9, 13, m, 9, 11);
+    mix(s, 2, 6, 10, 14, m, 15, 10);
+    mix(s, 3, 7, 11, 15, m, 14, 8);
+    mix(s, 0, 5, 10, 15, m, 7, 2);
+    mix(s, 1, 6, 11, 12, m, 5, 3);
+    mix(s, 2, 7, 8, 13, m, 0, 1);
+    mix(s, 3, 4, 9, 14, m, 6, 4);
+}
+
+fn round_5(s: &mut [u32; 16], m: &[u32; 16])
+    ensures { λ r. ⌜ now (s .exit) ≡ R.roundAt 5 (now (s .entry)) (now (m .entry)) ⌝ }
+{
+    mix(s, 0, 4, 8, 12, m, 9, 14);
+    mix(s, 1, 5, 9, 13, m, 11, 5);
+    mix(s, 2, 6, 10, 14, m, 8, 12);
+    mix(s, 3, 7, 11, 15, m, 15, 1);
+    mix(s, 0, 5, 10, 15, m, 13, 3);
+    mix(s, 1, 6, 11, 12, m, 0, 10);
+    mix(s, 2, 7, 8, 13, m, 2, 6);
+    mix(s, 3, 4, 9, 14, m, 4, 7);
+}
+
+fn round_6(s: &mut [u32; 16], m: &[u32; 16])
+    ensures { λ r. ⌜ now (s .exit) ≡ R.roundAt 6 (now (s .entry)) (now (m .entry)) ⌝ }
+{
+    mix(s, 0, 4, 8, 12, m, 11, 15);
+    mix(s, 1, 5, 9, 13, m, 5, 0);
+    mix(s, 2, 6, 10, 14, m, 1, 9);
+    mix(s, 3, 7, 11, 15, m, 8, 6);
+    mix(s, 0, 5, 10, 15, m, 14, 10);
+    mix(s, 1, 6, 11, 12, m, 2, 12);
+    mix(s, 2, 7, 8, 13, m, 3, 4);
+    mix(s, 3, 4, 9, 14, m, 7, 13);
+}
+
+// The seven rounds.
 pub fn rounds(start: [u32; 16], m: &[u32; 16]) -> [u32; 16]
     ensures { λ r. ⌜ r ≡ C.rounds 7 start (now (m .entry)) ⌝ }
 {
-    let order = orders();
     let mut s = start;
-    let mut r = 0;
-    while r < 7 {
-        let o = order[r];
-        round(&mut s, m, &o);
-        r += 1;
-    }
+    round_0(&mut s, m);
+    round_1(&mut s, m);
+    round_2(&mut s, m);
+    round_3(&mut s, m);
+    round_4(&mut s, m);
+    round_5(&mut s, m);
+    round_6(&mut s, m);
     s
 }
 

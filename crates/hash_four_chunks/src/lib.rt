@@ -11,10 +11,10 @@ ghost use Rattle.theory_laws.specs.Lists.{part};
 ghost use Rattle.theory_blake3.specs.Chunk as B;
 ghost use Rattle.theory_blake3.specs.Digest.{bytesOfWords32};
 ghost use Rattle.hash_four_lanes.specs.helpers.Lane as X;
-ghost use Rattle.hash_four_chunks.specs.helpers.FourChunks.{which, Four, Block, Rests};
+ghost use Rattle.hash_four_chunks.specs.helpers.FourChunks.{which, Four, Block, Rests, RestsFrom};
 
 // The same chaining value in each lane.
-fn spread(h: [u32; 8]) -> [u32; 32]
+pub fn spread(h: [u32; 8]) -> [u32; 32]
     ensures { λ r. ⌜ X.Each 8 r (λ _. h) ⌝ }
 {
     let mut s = [0u32; 32];
@@ -27,7 +27,7 @@ fn spread(h: [u32; 8]) -> [u32; 32]
 }
 
 // The words of the block of n bytes that starts at a place of each slice.
-fn blocks_at(s0: &[u8], s1: &[u8], s2: &[u8], s3: &[u8], from: usize, n: usize) -> [u32; 64]
+pub fn blocks_at(s0: &[u8], s1: &[u8], s2: &[u8], s3: &[u8], from: usize, n: usize) -> [u32; 64]
     requires { ⌜ Block from n (length (now s0)) (length (now s1)) (length (now s2)) (length (now s3)) ⌝ }
     ensures { λ r. ⌜ X.Each 16 r (λ k. B.block (part n from (which (now (s0 .entry)) (now (s1 .entry)) (now (s2 .entry)) (now (s3 .entry)) k))) ⌝ }
 {
@@ -55,9 +55,9 @@ fn block_words(s: &[u8], from: usize, n: usize) -> [u32; 16]
 }
 
 // The chaining values of four chunks, each with a counter of its own and one more flag x: ROOT where each is a whole message. The slices
-// hold what is left of the chunks after `blocks` blocks, whose chaining value is h.
-pub fn chunks(
-    h: [u32; 8],
+// hold what is left of the chunks after `blocks` blocks, whose chaining values are the lanes of h.
+pub fn rests(
+    h: [u32; 32],
     blocks: usize,
     flags: u32,
     counters: &[u64; 4],
@@ -68,9 +68,10 @@ pub fn chunks(
     x: u32,
 ) -> [u32; 32]
     requires { ⌜ Four blocks (now s0) (now s1) (now s2) (now s3) ⌝ }
-    ensures { λ r. ⌜ Rests h blocks flags (now (counters .entry)) (which (now (s0 .entry)) (now (s1 .entry)) (now (s2 .entry)) (now (s3 .entry))) x r ⌝ }
+    ensures { λ r. ⌜ RestsFrom (X.lane 8 h) blocks flags (now (counters .entry))
+        (which (now (s0 .entry)) (now (s1 .entry)) (now (s2 .entry)) (now (s3 .entry))) x r ⌝ }
 {
-    let mut v = spread(h);
+    let mut v = h;
     let mut from: usize = 0;
     let mut i: usize = blocks;
     while 64 < s0.len() - from {
@@ -85,6 +86,25 @@ pub fn chunks(
     let m = blocks_at(s0, s1, s2, s3, from, n);
     let f = start_flag(i);
     hash_four_lanes::compress(&v, &m, counters, n as u32, flags | (f | 2) | x)
+}
+
+// The same, where the blocks that came before are the same for all, and h is their chaining value.
+pub fn chunks(
+    h: [u32; 8],
+    blocks: usize,
+    flags: u32,
+    counters: &[u64; 4],
+    s0: &[u8],
+    s1: &[u8],
+    s2: &[u8],
+    s3: &[u8],
+    x: u32,
+) -> [u32; 32]
+    requires { ⌜ Four blocks (now s0) (now s1) (now s2) (now s3) ⌝ }
+    ensures { λ r. ⌜ Rests h blocks flags (now (counters .entry)) (which (now (s0 .entry)) (now (s1 .entry)) (now (s2 .entry)) (now (s3 .entry))) x r ⌝ }
+{
+    let v = spread(h);
+    rests(v, blocks, flags, counters, s0, s1, s2, s3, x)
 }
 
 // The bytes of a lane's chaining value.

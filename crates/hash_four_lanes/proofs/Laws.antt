@@ -48,15 +48,6 @@ pub ordered-all : (m o v : List ℕ) → length v ≡ 16 → ((k : ℕ) → k < 
 unfolding O.ordered
 ordered-all m o v e h = is-tab v 16 (λ i. at m (at o i)) e h
 
--- words that stand in their order already
-pub plain-ordered : (m o : List ℕ) → O.ordered (O.ordered m o) (tab 16 (λ i. i)) ≡ O.ordered m o
-unfolding O.ordered tab
-plain-ordered m o = refl
-
-pub small-plain : (p : List ℕ) → p ≡ tab 16 (λ i. i) → O.Small p
-unfolding O.Small
-small-plain p e i h = omega (arith, ap (λ (l : List ℕ). at l i) e ∙ at-tab 16 (λ i. i) i h)
-
 -- ---- a word is put in lane l
 
 pub store-at : (s v : List ℕ) (l i x : ℕ) → 4 * i + l < length s → x ≡ at v i → ((j : ℕ) → j < i → at s (4 * j + l) ≡ at v j)
@@ -99,10 +90,8 @@ pub lanes-rest : (s₀ s t v : List ℕ) (l : ℕ) → X.Stored s t l v
     → ((k : ℕ) → l ≤ k → k < 4 → X.lane 16 s k ≡ X.lane 16 s₀ k) → (k : ℕ) → l + 1 ≤ k → k < 4 → X.lane 16 t k ≡ X.lane 16 s₀ k
 lanes-rest s₀ s t v l st g k h b = st .others k b (omega arith) ∙ g k (omega arith) b
 
-pub round-lane : (s m o p : List ℕ) {r v w z : List ℕ} → p ≡ tab 16 (λ i. i) → w ≡ O.ordered m o → v ≡ z → z ≡ s → r ≡ C.round v (O.ordered w p)
-    → r ≡ C.round s (O.ordered m o)
-round-lane s m o p {r} {v} {w} q a b c d =
-    d ∙ ap₂ C.round (b ∙ c) (ap₂ O.ordered a q ∙ plain-ordered m o)
+pub round-lane : (s m o : List ℕ) {r v w z : List ℕ} → w ≡ O.ordered m o → v ≡ z → z ≡ s → r ≡ C.round v w → r ≡ C.round s (O.ordered m o)
+round-lane s m o a b c d = d ∙ ap₂ C.round (b ∙ c) a
 
 pub compress-lane : (h m : List ℕ) (t b d : ℕ) {r v u : List ℕ} → r ≡ X.value v → v ≡ C.rounds 7 u m → u ≡ C.initial h t b d → r ≡ C.cv (C.compress h m t b d)
 unfolding C.compress

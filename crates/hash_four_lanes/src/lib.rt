@@ -4,7 +4,7 @@
 ghost use mathlib.Core.Path.{_≡_};
 ghost use Prim.Native.Nat.{_+_, _*_, _-_, _<_};
 ghost use lib.ListN.{length};
-ghost use Rattle.theory_laws.specs.Table.{tab, at};
+ghost use Rattle.theory_laws.specs.Table.{at};
 ghost use Rattle.theory_blake3.specs.Compression as C;
 ghost use Rattle.theory_blake3.specs.Orders as O;
 ghost use Rattle.hash_four_lanes.specs.helpers.Lane as X;
@@ -51,9 +51,9 @@ pub fn store(s: &mut [u32; 64], l: usize, v: [u32; 16])
     }
 }
 
-// A round on each lane. `plain` is the order 0, 1, .., 15, in which the words already stand.
-fn round(s: &mut [u32; 64], m: &[u32; 64], o: &[u8; 16], plain: &[u8; 16])
-    requires { ⌜ (O.Small (now o)) × (now plain ≡ tab 16 (λ i. i)) × (length (now s) ≡ 64) ⌝ }
+// A round on each lane: the first round of its words, once these stand in their order.
+fn round(s: &mut [u32; 64], m: &[u32; 64], o: &[u8; 16])
+    requires { ⌜ (O.Small (now o)) × (length (now s) ≡ 64) ⌝ }
     ensures { λ r. ⌜ length (now (s .exit)) ≡ 64 ⌝ }
     ensures { λ r. ⌜ Each 16 (now (s .exit)) (λ k. C.round (X.lane 16 (now (s .entry)) k) (O.ordered (X.lane 16 (now (m .entry)) k) (now (o .entry)))) ⌝ }
 {
@@ -61,7 +61,7 @@ fn round(s: &mut [u32; 64], m: &[u32; 64], o: &[u8; 16], plain: &[u8; 16])
     while l < 4 {
         let w = ordered(m, o, l);
         let mut v = lane(s, l);
-        hash_compress::round(&mut v, &w, plain);
+        hash_compress::round_0(&mut v, &w);
         store(s, l, v);
         l += 1;
     }
@@ -73,11 +73,10 @@ fn rounds(s: &mut [u32; 64], m: &[u32; 64])
     ensures { λ r. ⌜ Each 16 (now (s .exit)) (λ k. C.rounds 7 (X.lane 16 (now (s .entry)) k) (X.lane 16 (now (m .entry)) k)) ⌝ }
 {
     let order = hash_compress::orders();
-    let plain = order[0];
     let mut r = 0;
     while r < 7 {
         let o = order[r];
-        round(s, m, &o, &plain);
+        round(s, m, &o);
         r += 1;
     }
 }

@@ -13,7 +13,7 @@ use Rattle.theory_record.proofs.Runs.{items-there}
 use Rattle.theory_record.proofs.Widths.{PowersOfTwo, level-shape, width-even}
 use Rattle.record_opening.specs.declared.Opened.{Opened}
 use Rattle.record_opening.specs.helpers.Opening.{valuesAt, digestsAt, openingNumber, Leads}
-use Rattle.record_opening.specs.helpers.Again.{SizedOld, Same}
+use Rattle.record_opening.specs.helpers.Again.{SizedOld, Same, SamePlace}
 use Rattle.record_opening.proofs.Levels.{run-room}
 use Rattle.record_opening.proofs.Numbers.{length-values, length-digests}
 use Rattle.theory_record.specs.Widths.{Widths, levelWidth}
@@ -109,3 +109,7 @@ module _ (S : Scheme) (l place : ℕ) (s : List ℕ) (old : Opened) (root : List
 -- every level but the last has an even width
 pub even-width : (s : Widths) (p : PowersOfTwo s) (n k l width : ℕ) → l < n → width ≡ levelWidth s n k l → width ≡ 2 * (width / 2)
 even-width s p n k l width h e = rw e (width-even s n k l (level-shape s n k l p) (omega arith))
+
+-- the same bytes are at the same place
+pub place-same : (s : List ℕ) (old : Opened) (group path : ℕ) → SamePlace old group path → Same s group path old
+place-same s old group path e = record { known = e .known; values-same = ap (valuesAt s) (e .group-is); digests-same = ap (digestsAt s) (e .path-is) }

@@ -1,5 +1,6 @@
-pub mod Values
+pub mod Again
+pub mod Differ
 pub mod Levels
 pub mod Numbers
+pub mod Values
 pub mod Words
-pub mod Again

@@ -1,6 +1,5 @@
 // The root that a group and a path of a record lead to, and the questions put to both. These are helpers for the crates above: each
 // requires that what it reads is in the record.
-use bytes_numbers::same_bytes;
 use bytes_reader::digest_at;
 use code_level::DOMAIN;
 use code_level::WIDEST;
@@ -22,6 +21,7 @@ use tree_walk::climb_path;
 ghost use mathlib.Core.Path.{_≡_};
 ghost use mathlib.Core.Bool.{true};
 ghost use Prim.Native.Nat.{_+_, _*_, _≤_, _<_};
+ghost use lib.Bits.{bitXor};
 ghost use lib.Dec.{eqb};
 ghost use lib.ListN.{length, take};
 ghost use Rattle.theory_laws.specs.Lists.{part, same};
@@ -30,8 +30,8 @@ ghost use Rattle.field_gf128.specs.Word.{word};
 ghost use Rattle.theory_merkle.specs.Tree.{leafDigest};
 ghost use Rattle.theory_blake3.specs.Modes.{under};
 ghost use Rattle.tree_place.specs.Place.{index, number};
-ghost use Rattle.record_opening.specs.helpers.Opening.{valuesFrom, leadsAt, rootFrom, WayThere, Readable, Sized, numberAt, AgainThere};
-ghost use Rattle.record_opening.specs.helpers.Again.{OldThere, Same};
+ghost use Rattle.record_opening.specs.helpers.Opening.{valuesFrom, leadsAt, rootFrom, WayThere, Readable, Sized, numberAt, AgainThere, KnownThere};
+ghost use Rattle.record_opening.specs.helpers.Again.{OldThere, Same, SamePlace};
 ghost use Rattle.theory_record.specs.Scheme.{scheme};
 ghost use Rattle.theory_record.specs.Widths.{widest};
 
@@ -54,7 +54,7 @@ pub fn group_values(s: &[u8], from: usize, width: usize) -> [u64; 2 * WIDEST]
 }
 
 // The digest of the group whose values stand from a byte of a record on.
-fn leaf_at(
+pub fn leaf_at(
     mode: Mode,
     domain: &[u8],
     count: usize,
@@ -147,11 +147,25 @@ pub fn same_word(a: Word, b: Word) -> bool
     true
 }
 
+// What two bytes differ by.
+fn apart(x: u8, y: u8) -> u32
+    ensures { λ r. ⌜ (r ≡ bitXor x y) × (r < 256) ⌝ }
+{
+    (x ^ y) as u32
+}
+
 // Are two digests the same?
-fn same_digest(a: [u8; 32], b: [u8; 32]) -> bool
+pub fn same_digest(a: [u8; 32], b: [u8; 32]) -> bool
     ensures { λ r. ⌜ r ≡ same a b ⌝ }
 {
-    same_bytes(&a, &b)
+    // No way out of the loop: so it is a few steps over whole vectors.
+    let mut x: u32 = 0;
+    let mut i: usize = 0;
+    while i < 32 {
+        x += apart(a[i], b[i]);
+        i += 1;
+    }
+    x == 0
 }
 
 // The number of the first of three questions that says no, of which the first has the number `first`: a group of the right width, a path
@@ -186,7 +200,7 @@ pub fn opening_number(
     0
 }
 
-// A group and a path, by the bytes of a record at which they begin, that are known to lead to a root; or none.
+// A group and a path, by the bytes of a record at which they begin, and whether they are known to lead to a root.
 pub struct Opened {
     pub known: bool,
     pub group_at: usize,
@@ -260,6 +274,46 @@ pub fn opening_again(
     let w = level_width(set, n, k, l);
     let d = level_depth(set, n, k, l);
     if same_opening(s, group_at, path_at, old, w, d) {
+        return 0;
+    }
+    opening_number(base, how, n, k, l, place, s, group_at, path_at, root, first)
+}
+
+// Is a known opening the one at these bytes?
+fn same_place(old: Opened, group_at: usize, path_at: usize) -> bool
+    ensures { λ r. ⌜ (r ≡ true → SamePlace old «group_at» «path_at») ⌝ }
+{
+    if !old.known {
+        return false;
+    }
+    if group_at != old.group_at {
+        return false;
+    }
+    if path_at != old.path_at {
+        return false;
+    }
+    true
+}
+
+// As `opening_number`, for any level: what is known at these very bytes is not hashed.
+pub fn opening_known(
+    base: &[u8],
+    how: Trees,
+    n: usize,
+    k: usize,
+    l: usize,
+    place: Place,
+    s: &[u8],
+    group_at: usize,
+    path_at: usize,
+    root: [u8; 32],
+    first: u32,
+    old: Opened,
+) -> u32
+    requires { ⌜ KnownThere (scheme how (now base) n k) l (index place) (now s) «group_at» «path_at» old root first ⌝ }
+    ensures { λ r. ⌜ r ≡ numberAt (scheme how (now (base .entry)) n k) l (index place) (now (s .entry)) «group_at» «path_at» root first ⌝ }
+{
+    if same_place(old, group_at, path_at) {
         return 0;
     }
     opening_number(base, how, n, k, l, place, s, group_at, path_at, root, first)

@@ -1,12 +1,12 @@
 -- What a level that passed makes known of the next: its c opens the group of the next level's a.
-use Prim.Native.Nat.{ℕ, zero, suc, _+_, _*_, _/_, _%_, _<_}
+use Prim.Native.Nat.{ℕ, zero, suc, _+_, _*_, _/_, _%_, _<_, _≤_}
 use mathlib.Core.Path.{_≡_, sym, _∙_, ap}
 use mathlib.Core.Bool.{true}
 use mathlib.Core.List.{List}
 use native.Mathlib.Omega.{arith}
-use native.Mathlib.Nat.{mod-lt, div-add-mod}
+use native.Mathlib.Nat.{mod-lt, div-add-mod, div-one}
 use native.Mathlib.Numerals.{add-one}
-use lib.ListN.{drop}
+use lib.ListN.{length, drop}
 use Rattle.theory_laws.specs.Table.{at}
 use Rattle.theory_laws.specs.Lists.{part}
 use Rattle.theory_field.specs.Words.{words}
@@ -22,6 +22,7 @@ use Rattle.theory_record.proofs.Offsets.{pair-next}
 use Rattle.theory_record.proofs.Widths.{PowersOfTwo, level-shape, width-pos, width-even, pair-group}
 use Rattle.record_opening.specs.declared.Opened.{Opened}
 use Rattle.record_opening.specs.helpers.Opening.{valuesAt, digestsAt, Leads, Known}
+use Rattle.record_known.specs.helpers.Known.{openingOf, LevelsLent, LevelsKnown}
 use Rattle.record_query_check.specs.helpers.Level.{Allowed}
 use Rattle.record_query_check.proofs.Level.{level-room}
 use Rattle.theory_record.specs.Scheme.{Scheme, widthAt, lengthAt, domainAt}
@@ -32,6 +33,12 @@ pub known-read : (S : Scheme) (position : ℕ) (roots : List ℕ) (l q : ℕ) (s
     → Known S l (2 * pairOf position l) s old (rootAt roots l) → Known S l (2 * q) s old ra
 unfolding rootAt
 known-read S position roots l q s old ra eq er z = rw (eq, er) z
+
+pub c-known-read : (S : Scheme) (position : ℕ) (roots : List ℕ) (l q : ℕ) (s : List ℕ) (old : Opened) (rc : List ℕ) → q ≡ pairOf position l
+    → rc ≡ part 32 (32 * (l + 1)) roots
+    → Known S (l + 1) (pairOf position l) s old (rootAt roots (l + 1)) → Known S (l + 1) q s old rc
+unfolding rootAt
+c-known-read S position roots l q s old rc eq er z = rw (eq, er) z
 
 -- the even place of the two that share a pair
 even-place : (w q : ℕ) → 0 < w → w ≡ 2 * (w / 2) → groupOf q w ≡ groupOf (2 * (q / 2)) w
@@ -49,6 +56,21 @@ unfolding leadsTo rootOfPath leafOf
 one-group-leads S l p q values path e =
     ap (λ (g : ℕ). climb (S .digest) (domainAt S l) 0 g (leafDigest (S .digest) (domainAt S l) (lengthAt S l) (widthAt S l) g values) path) e
 
+-- so an opening of a place is one of the even place of its pair
+even-leads : (S : Scheme) (pw : PowersOfTwo (S .widths)) (l q : ℕ) (s : List ℕ) (group path : ℕ) (root : List ℕ) → l < S .n → Leads S l q s group path root
+    → Leads S l (2 * (q / 2)) s group path root
+even-leads S pw l q s group path root h z =
+    let shape = level-shape (S .widths) (S .n) (S .k) l pw in
+    let same : groupOf q (widthAt S l) ≡ groupOf (2 * (q / 2)) (widthAt S l) =
+    even-place (widthAt S l) q (width-pos (S .widths) (S .n) (S .k) l shape) (width-even (S .widths) (S .n) (S .k) l shape (omega arith)) in
+    record {
+      group-fits = z .group-fits;
+      path-fits = z .path-fits;
+      width-is = z .width-is;
+      depth-is = z .depth-is;
+      root-is = sym (one-group-leads S l q (2 * (q / 2)) _ _ same) ∙ z .root-is;
+    }
+
 pub leads-next : (S : Scheme) (pw : PowersOfTwo (S .widths)) (position : ℕ) (challenges roots : List ℕ) (l : ℕ) (s : List ℕ) (i : ℕ) (v : Level) (x : ℕ)
     → Allowed S position challenges roots → l + 1 < S .n → v ≡ levelAt s i
     → v .fits ≡ true → x ≡ levelNumber S position challenges roots l (levelRead (drop i s)) → x ≡ 0
@@ -59,14 +81,30 @@ leads-next S pw position challenges roots l s i v x a h ev fits ex z =
     let p = level-places s i v ev in
     let room = level-room l s i v a (omega arith) ev fits in
     let y = level-holds S l q (at (words challenges) l) (rootAt roots l) (rootAt roots (suc l)) (levelRead (drop i s)) (sym ex ∙ z) in
-    let shape = level-shape (S .widths) (S .n) (S .k) (suc l) pw in
-    let same : groupOf q (widthAt S (suc l)) ≡ groupOf (2 * (q / 2)) (widthAt S (suc l)) =
-    even-place (widthAt S (suc l)) q (width-pos (S .widths) (S .n) (S .k) (suc l) shape) (width-even (S .widths) (S .n) (S .k) (suc l) shape (omega arith)) in
     rw (add-one, pair-next position l)
+    (even-leads S pw (suc l) q s (v .«c_group_at») (v .«c_path_at») (rootAt roots (suc l)) (omega arith)
     (record {
       group-fits = room .c-readable .group-fits;
       path-fits = room .c-readable .path-fits;
       width-is = rw (p .c-group) (y .c-width);
       depth-is = rw (p .c-path) (y .c-path);
-      root-is = rw (p .c-group, p .c-path) (sym (one-group-leads S (suc l) q (2 * (q / 2)) _ _ same) ∙ y .c-root);
-    })
+      root-is = rw (p .c-group, p .c-path) (y .c-root);
+    }))
+
+-- what the first pass is lent
+pub levels-lent : {S : Scheme} {position : ℕ} {challenges roots s : List ℕ} → Allowed S position challenges roots → 4 ≤ length s → LevelsLent S roots s
+levels-lent a h = record {
+  in-range = record { n-most = a .n-most; k-most = a .k-most; level-most = omega arith; base-short = a .base-short };
+  roots-long = a .roots-long;
+  counted = h;
+}
+
+-- what the first pass knows: of level 0 for the first pair, and of each level for the value that a pair folds to
+module _ (S : Scheme) (position : ℕ) (roots s : List ℕ) (ways : List Opened) (z : LevelsKnown S position roots s ways) where
+  pub first-known : PowersOfTwo (S .widths) → 0 < S .n → Known S 0 (2 * pairOf position 0) s (openingOf ways 0) (rootAt roots 0)
+  unfolding pairOf
+  first-known pw h e = even-leads S pw 0 position s _ _ (rootAt roots 0) h (rw (div-one position) at (z .known-at 0 e))
+
+  pub next-known : (l : ℕ) → Known S (l + 1) (pairOf position l) s (openingOf ways (l + 1)) (rootAt roots (l + 1))
+  unfolding pairOf
+  next-known l = rw (add-one l) (rw (add-one l) at (z .known-at (l + 1)))

@@ -77,8 +77,8 @@ level-room l s i v z h e f =
       };
     }
 
-pub room-there : {S : Scheme} {position : ℕ} {challenges roots : List ℕ} {l : ℕ} {s : List ℕ} {i : ℕ} {v : Level} {old : Opened}
-    → LevelThere S position challenges roots l s i v old → LevelRoom S l s i v
+pub room-there : {S : Scheme} {position : ℕ} {challenges roots : List ℕ} {l : ℕ} {s : List ℕ} {i : ℕ} {v : Level} {old c-old : Opened}
+    → LevelThere S position challenges roots l s i v old c-old → LevelRoom S l s i v
 room-there {l = l} {s = s} {i = i} {v = v} z = level-room l s i v (z .allowed) (z .level-low) (z .read) (z .fits)
 
 -- ---- the level that was read

@@ -6,9 +6,11 @@ use code_level::size_number;
 use field_gf128::Word;
 use field_gf128::add;
 use field_gf128::mul;
+use record_known::OPENINGS;
+use record_known::levels::known_levels;
 use record_opening::Opened;
 use record_opening::opening_again;
-use record_opening::opening_number;
+use record_opening::opening_known;
 use record_opening::same_word;
 use record_reader::Level;
 use record_reader::count_at;
@@ -26,9 +28,9 @@ ghost use Rattle.theory_field.specs.Field.{_⊗_};
 ghost use Rattle.field_gf128.specs.Word.{word};
 ghost use Rattle.theory_record.specs.Query.{pairOf, valueAt, checkQuery};
 ghost use Rattle.tree_place.specs.Place.{index};
-ghost use Rattle.record_opening.specs.helpers.Opening.{valuesAt, Readable};
+ghost use Rattle.record_opening.specs.helpers.Opening.{valuesAt};
 ghost use Rattle.record_query_check.specs.helpers.Level.{BeforeLevels, aNumberAt, cNumberAt, levelAsked, allAsked};
-ghost use Rattle.record_query_check.specs.helpers.Level.{WideGroup, Allowed, Whole, PairThere, LevelThere};
+ghost use Rattle.record_query_check.specs.helpers.Level.{WideGroup, PairThere, ValueThere, LevelThere, LevelsThere};
 ghost use Rattle.record_query_check.specs.Answer.{answer};
 ghost use Rattle.theory_record.specs.Scheme.{scheme};
 ghost use Rattle.theory_record.specs.Lent.{schemeOf};
@@ -64,7 +66,8 @@ fn holds(s: &[u8], group_at: usize, width: usize, place: Place, w: Word) -> bool
     same_word(v, w)
 }
 
-// 16 to 19 and 21: the group of a and b, at places 2q and 2q + 1 of level l. It may be known from the level before, whose c it holds.
+// 16 to 19 and 21: the group of a and b, at places 2q and 2q + 1 of level l. It may be known from the level before, whose c it holds; on
+// level 0 from the first pass.
 fn a_number(
     base: &[u8],
     how: Trees,
@@ -113,7 +116,7 @@ fn a_number(
     0
 }
 
-// 22 to 25: the group of c, at place q of level l.
+// 22 to 25: the group of c, at place q of level l. It may be known from the first pass.
 fn c_number(
     base: &[u8],
     how: Trees,
@@ -126,12 +129,13 @@ fn c_number(
     path_at: usize,
     root: [u8; 32],
     c: Word,
+    old: Opened,
 ) -> u32
-    requires { ⌜ Readable (scheme how (now base) n k) l (now s) «group_at» «path_at» ⌝ }
+    requires { ⌜ ValueThere (scheme how (now base) n k) l (index q) (now s) «group_at» «path_at» root old ⌝ }
     ensures { λ r. ⌜ r ≡ cNumberAt (schemeOf how base n k) l (index q) (now (s .entry)) «group_at» «path_at» root (word c) ⌝ }
 {
     let set = how.set;
-    let x = opening_number(base, how, n, k, l, q, s, group_at, path_at, root, 22);
+    let x = opening_known(base, how, n, k, l, q, s, group_at, path_at, root, 22, old);
     if x != 0 {
         return x;
     }
@@ -142,7 +146,7 @@ fn c_number(
     0
 }
 
-// 16 to 26: the level that stands at a byte of the record, of which the level before may have opened the group of a and b.
+// 16 to 26: the level that stands at a byte of the record, of which the level before may have opened the group of a and b, the first pass that of c.
 fn level_number(
     base: &[u8],
     how: Trees,
@@ -156,8 +160,9 @@ fn level_number(
     at: usize,
     v: Level,
     old: Opened,
+    c_old: Opened,
 ) -> u32
-    requires { ⌜ LevelThere (scheme how (now base) n k) (index position) (now challenges) (now roots) l (now s) at v old ⌝ }
+    requires { ⌜ LevelThere (scheme how (now base) n k) (index position) (now challenges) (now roots) l (now s) at v old «c_old» ⌝ }
     ensures { λ r. ⌜ r ≡ levelAsked (schemeOf how base n k) (index position) (now (challenges .entry)) (now (roots .entry)) l (now (s .entry)) at ⌝ }
 {
     let q = pair_of(position, l);
@@ -196,6 +201,7 @@ fn level_number(
         v.c_path_at,
         rc,
         c,
+        c_old,
     );
     if y != 0 {
         return y;
@@ -218,19 +224,17 @@ fn check_levels(
     challenges: &[u64],
     roots: &[u8],
     s: &[u8],
+    ways: [Opened; OPENINGS],
 ) -> Checked
-    requires { ⌜ (Allowed (scheme how (now base) n k) (index position) (now challenges) (now roots)) × (Whole n (now s)) ⌝ }
+    requires { ⌜ LevelsThere (scheme how (now base) n k) (index position) (now challenges) (now roots) (now s) ways ⌝ }
     ensures { λ r. ⌜ answer r ≡ allAsked (schemeOf how base n k) (index position) (now (challenges .entry)) (now (roots .entry)) (now (s .entry)) ⌝ }
 {
     let mut l: usize = 0;
     let mut at: usize = 4;
-    let mut old = Opened {
-        known: false,
-        group_at: 0,
-        path_at: 0,
-    };
+    let mut old = ways[0];
     while l < n {
         let v = level_at(s, at);
+        let way = ways[l + 1];
         let q = level_number(
             base,
             how,
@@ -244,6 +248,7 @@ fn check_levels(
             at,
             v,
             old,
+            way,
         );
         if q != 0 {
             return Checked {
@@ -322,5 +327,6 @@ pub fn check_query(
             level: 0,
         };
     }
-    check_levels(base, how, n, k, position, challenges, roots, s)
+    let ways = known_levels(base, how, n, k, position, roots, s);
+    check_levels(base, how, n, k, position, challenges, roots, s, ways)
 }

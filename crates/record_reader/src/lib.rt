@@ -1,5 +1,5 @@
-// Record bytes, read from front to back: counts, words, digests, counted runs, and the levels and groups of records. Every byte of a record
-// is reached through `bytes_reader::read`. Bytes may be anything, and a count whatever an enemy wrote. Helpers for the crates above: some require.
+// Record bytes, read from front to back: counts, words, digests, counted runs, and the levels and groups of records, all of them through
+// `bytes_reader::read`. Bytes may be anything, and a count whatever an enemy wrote. Helpers for the crates above: some require.
 use bytes_numbers::number_at;
 use bytes_reader::read;
 use field_gf128::Word;

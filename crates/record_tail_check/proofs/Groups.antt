@@ -1,9 +1,9 @@
 -- The groups of a tail record, one after the other, and the claim.
 use Prim.Native.Nat.{ℕ, zero, suc, _+_, _-_, _*_, _^_, _<_, _≤_}
-use mathlib.Core.Path.{_≡_, refl, sym, _∙_, ap}
+use mathlib.Core.Path.{_≡_, sym, _∙_, ap}
 use mathlib.Core.Bool.{Bool, true, false, not}
-use mathlib.Core.List.{List, [], _∷_, _++_, map}
-use native.Mathlib.Nat.{mul-le-mul-right}
+use mathlib.Core.List.{List, map}
+use native.Mathlib.Nat.{mul-le-mul-left, mul-le-mul-right}
 use native.Mathlib.Omega.{arith}
 use borrow.Author.Tests.{not-true, not-false}
 use lib.Dec.{eqb}
@@ -18,15 +18,17 @@ use Rattle.record_reader.specs.helpers.Places.{groupAt}
 use Rattle.record_reader.specs.declared.TailGroup.{TailGroup}
 use Rattle.record_reader.proofs.Places.{group-places, group-more}
 use Rattle.theory_record.specs.declared.Trees.{Trees}
-use Rattle.theory_record.specs.Widths.{widthsOf, levelLength, levelWidth, levelGroups}
+use Rattle.theory_record.specs.Widths.{widthsOf, levelWidth, levelGroups}
 use Rattle.theory_record.specs.Format.{tailForm, tailGroupOf, tailGroupFits, fromTailPath, runFits, runCount, runItems, wholeItems, itemsOf, recordItems}
 use Rattle.theory_record.specs.Tail.{firstValue, groupQuestions}
 use Rattle.theory_record.proofs.Reading.{checkGroupsFrom, groups-step, groups-stop, groups-end, whole-here, whole-counts, whole-items, value-at}
 use Rattle.theory_record.proofs.Offsets.{last-length}
-use Rattle.theory_record.proofs.Widths.{powers, level-shape, groups-pos, groups-times-width}
-use Rattle.record_opening.specs.helpers.Opening.{valuesAt, digestsAt, Readable, openingNumber}
+use Rattle.theory_record.proofs.Widths.{powers, level-shape, groups-pos, groups-times-width, width-pos}
+use Rattle.record_opening.specs.helpers.Opening.{valuesAt, digestsAt, Readable, Known, openingNumber}
 use Rattle.record_tail_check.specs.helpers.Numbers.{claimed, groupsNumber, Allowed}
-use Rattle.theory_record.specs.Scheme.{scheme}
+use Rattle.record_opening.specs.declared.Opened.{Opened}
+use Rattle.record_known.specs.helpers.Known.{openingOf, GroupsLent, GroupsKnown}
+use Rattle.theory_record.specs.Scheme.{Scheme, scheme, widthAt}
 
 -- ---- the first value
 
@@ -59,6 +61,24 @@ module _ {base : List ℕ} {how : Trees} {n k : ℕ} {s : List ℕ} (z : Allowed
   pub some-group : 0 < c
   some-group = rw ec (groups-pos (widthsOf (how .set)) n k n (level-shape (widthsOf (how .set)) n k n (powers (how .set))))
 
+  pub groups-few : c ≤ 16
+  groups-few =
+      let shape = level-shape (widthsOf (how .set)) n k n (powers (how .set)) in
+      let e : levelGroups (widthsOf (how .set)) n k n * levelWidth (widthsOf (how .set)) n k n ≡ 2 ^ k =
+      groups-times-width (widthsOf (how .set)) n k n shape ∙ last-length n k in
+      let b : 2 ^ k ≤ 2 ^ 4 = pow-mono {i = k} {j = 4} (z .k-most) in
+      let m : levelGroups (widthsOf (how .set)) n k n * 1 ≤ levelGroups (widthsOf (how .set)) n k n * levelWidth (widthsOf (how .set)) n k n =
+      mul-le-mul-left (levelGroups (widthsOf (how .set)) n k n) (width-pos (widthsOf (how .set)) n k n shape) in
+      omega arith
+
+  -- what the first pass is lent
+  pub groups-lent : GroupsLent (scheme how base n k) s c
+  groups-lent = record {
+    in-range = record { n-most = z .n-most; k-most = z .k-most; level-most = omega arith; base-short = z .base-short };
+    counted = begin-within;
+    count-most = omega (arith, groups-few);
+  }
+
   pub place-small : (g : ℕ) {w : ℕ} → g < c → w ≡ levelWidth (widthsOf (how .set)) n k n → g * w ≤ 16
   place-small g {w} h ew =
       let e : levelGroups (widthsOf (how .set)) n k n * levelWidth (widthsOf (how .set)) n k n ≡ 2 ^ k =
@@ -88,6 +108,11 @@ module _ {base : List ℕ} {how : Trees} {n k : ℕ} {s : List ℕ} (z : Allowed
           group-fits = b .0;
           path-fits = ap (runFits 32) (p .path) ∙ b .1;
         }
+
+-- what the first pass knows of it
+pub group-known : (S : Scheme) (root s : List ℕ) (ways : List Opened) (g w first : ℕ) → first ≡ g * w → w ≡ widthAt S (S .n) → GroupsKnown S root s ways
+    → Known S (S .n) first s (openingOf ways g) root
+group-known S root s ways g w first e ew z = rw (e, ew) (z .known-at g)
 
 -- ---- the loop
 

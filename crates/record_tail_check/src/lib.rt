@@ -4,7 +4,8 @@ use code_level::level_groups;
 use code_level::level_width;
 use code_level::size_number;
 use field_gf128::Word;
-use record_opening::opening_number;
+use record_known::groups::known_groups;
+use record_opening::opening_known;
 use record_opening::same_word;
 use record_reader::count_at;
 use record_reader::group_at;
@@ -47,12 +48,14 @@ fn groups_number(
     let set = how.set;
     let groups = level_groups(set, n, k, n);
     let width = level_width(set, n, k, n);
+    let ways = known_groups(base, how, n, k, root, s, groups);
     let mut g: usize = 0;
     let mut at: usize = 4;
     while g < groups {
         let v = group_at(s, at);
         let first = Group::numbered(g).first_place(width);
-        let q = opening_number(base, how, n, k, n, first, s, at, v.path_at, root, 28);
+        let way = ways[g];
+        let q = opening_known(base, how, n, k, n, first, s, at, v.path_at, root, 28, way);
         if q != 0 {
             return q;
         }

@@ -87,7 +87,7 @@ abbrev pub AllBytes : List (List ℕ) → Type 0
 AllBytes [] = Unit
 AllBytes (x ∷ xs) = Bytes x × AllBytes xs
 
-runs-bytes : (n c : ℕ) (l : List ℕ) → Bytes l → AllBytes (runs n c l)
+pub runs-bytes : (n c : ℕ) (l : List ℕ) → Bytes l → AllBytes (runs n c l)
 unfolding runs
 runs-bytes n zero l h = tt
 runs-bytes n (suc c) l h = (below-take 256 n l (omega arith) h, runs-bytes n c (drop n l) (below-drop 256 n l h))

@@ -13,7 +13,8 @@ use Rattle.theory_laws.proofs.Lists.{stored-append}
 use Rattle.theory_blake3.specs.declared.Mode.{Mode}
 use Rattle.bytes_numbers.specs.helpers.Put.{Put}
 use Rattle.tree_digest.proofs.Messages.{prefix-is}
-use Rattle.tree_four_messages.specs.helpers.Strides.{firstBlocks, Each, Common}
+use Rattle.hash_chunk.specs.helpers.Blocks.{firstBlocks}
+use Rattle.tree_four_messages.specs.helpers.Strides.{Each, Common}
 use Rattle.tree_four_messages.proofs.Whole.{prefixes-stand, kept-whole, common}
 use Rattle.tree_by_fours.specs.helpers.Fours.{byFours}
 

@@ -1,1 +1,2 @@
 pub mod Hashed
+pub mod Begun

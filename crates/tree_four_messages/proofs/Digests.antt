@@ -8,7 +8,7 @@ use lib.Seq.{drop-drop}
 use Rattle.theory_laws.specs.Table.{at}
 use Rattle.theory_laws.specs.Lists.{part, flat}
 use Rattle.theory_laws.proofs.Table.{length-tab}
-use Rattle.theory_laws.proofs.Lists.{take-drop, length-part, length-stored}
+use Rattle.theory_laws.proofs.Lists.{take-drop, length-part, lent-part, length-stored}
 use Rattle.theory_blake3.specs.Flags.{startFlag}
 use Rattle.theory_blake3.specs.Compression.{cv}
 use Rattle.theory_blake3.specs.Chunk.{chunkFrom}
@@ -16,12 +16,14 @@ use Rattle.theory_blake3.specs.Digest.{bytesOfWords32}
 use Rattle.theory_blake3.specs.declared.Mode.{Mode}
 use Rattle.theory_blake3.specs.Modes.{under}
 use Rattle.theory_blake3.proofs.Words.{length-bytesOfWords32}
+use Rattle.hash_four_lanes.specs.helpers.Lane as X
 use Rattle.hash_four_lanes.specs.helpers.Lane.{lane}
 use Rattle.hash_four_chunks.specs.helpers.FourChunks.{which}
 use Rattle.bytes_numbers.specs.helpers.Put.{Put}
 use Rattle.bytes_numbers.proofs.Stores.{then-put, same-put}
-use Rattle.tree_four_messages.specs.helpers.Strides.{four, Common}
-use Rattle.tree_four_messages.proofs.Blocks.{digest-after}
+use Rattle.hash_chunk.specs.helpers.Blocks.{firstBlocks}
+use Rattle.hash_chunk.proofs.Blocks.{digest-after}
+use Rattle.tree_four_messages.specs.helpers.Strides.{four, Common, Begun}
 
 -- what follows the blocks of message k, as it is lent
 lent-rest : (i f n s e : ℕ) (l : List ℕ) → s ≡ i + f → e ≡ i + n → f ≤ n → take (e - s) (drop s l) ≡ drop f (part n i l)
@@ -31,22 +33,28 @@ lent-rest i f n s e l es ee h =
     let y : f + (n - f) ≡ n = omega arith in
     rw (x, es) (ap (take (n - f)) (sym (drop-drop f i l)) ∙ take-drop (n - f) f (drop i l) ∙ ap (λ (j : ℕ). drop f (take j (drop i l))) y)
 
-module _ (mode : Mode) (h : List ℕ) (blocks n : ℕ) (m r : List ℕ) (c : Common mode h blocks n m) where
+-- a chaining value that all have in common, in each lane
+pub common-begun : (mode : Mode) (h v : List ℕ) (blocks n : ℕ) (m : List ℕ) → X.Each 8 v (λ _. h) → Common mode h blocks n m
+    → Begun mode (lane 8 v) blocks n m
+common-begun mode h v blocks n m e c =
+    record { chunk = c .chunk; followed = c .followed; room = c .room; value = λ k b. e k b ∙ c .value k b }
+
+module _ (mode : Mode) (h : ℕ → List ℕ) (blocks n : ℕ) (m r : List ℕ) (c : Begun mode h blocks n m) where
   lane-hashed : (k s e : ℕ) (w : List ℕ) → k < 4 → s ≡ 1024 * k + 64 * blocks → e ≡ 1024 * k + n
-      → w ≡ cv (chunkFrom (mode .flags) (15 - blocks) h (startFlag blocks) 0 (take (e - s) (drop s m)) 8)
+      → w ≡ cv (chunkFrom (mode .flags) (15 - blocks) (h k) (startFlag blocks) 0 (take (e - s) (drop s m)) 8)
       → bytesOfWords32 w ≡ under mode (part n (1024 * k) m)
   unfolding under
   lane-hashed k s e w lt es ee g =
       let bs : List ℕ = part n (1024 * k) m in
       let l : length bs ≡ n = length-part n (1024 * k) m (omega (arith, c .chunk, c .room)) in
       ap bytesOfWords32 g
-      ∙ ap (λ (x : List ℕ). bytesOfWords32 (cv (chunkFrom (mode .flags) (15 - blocks) h (startFlag blocks) 0 x 8)))
+      ∙ ap (λ (x : List ℕ). bytesOfWords32 (cv (chunkFrom (mode .flags) (15 - blocks) (h k) (startFlag blocks) 0 x 8)))
       (lent-rest (1024 * k) (64 * blocks) n s e m es ee (omega (arith, c .followed)))
-      ∙ digest-after (mode .key) (mode .flags) blocks h bs (c .value k lt) (omega (arith, c .followed)) (omega (arith, c .chunk))
+      ∙ digest-after (mode .key) (mode .flags) blocks (h k) bs (c .value k lt) (omega (arith, c .followed)) (omega (arith, c .chunk))
 
-  -- the lanes that `batch::chunks` gives
+  -- the lanes that `hash_four_chunks::rests` gives
   pub lanes-hashed : ((k : ℕ) → k < 4 → lane 8 r k
-      ≡ cv (chunkFrom (mode .flags) (15 - blocks) h (startFlag blocks) (at (0 ∷ 0 ∷ 0 ∷ 0 ∷ []) k)
+      ≡ cv (chunkFrom (mode .flags) (15 - blocks) (h k) (startFlag blocks) (at (0 ∷ 0 ∷ 0 ∷ 0 ∷ []) k)
       (which (take (n - 64 * blocks) (drop (64 * blocks) m)) (take (1024 + n - (1024 + 64 * blocks)) (drop (1024 + 64 * blocks) m))
       (take (2048 + n - (2048 + 64 * blocks)) (drop (2048 + 64 * blocks) m))
       (take (3072 + n - (3072 + 64 * blocks)) (drop (3072 + 64 * blocks) m)) k) 8))
@@ -57,6 +65,18 @@ module _ (mode : Mode) (h : List ℕ) (blocks n : ℕ) (m r : List ℕ) (c : Com
   lanes-hashed g (suc (suc zero)) b = lane-hashed 2 (2048 + 64 * blocks) (2048 + n) (lane 8 r 2) b (omega arith) (omega arith) (g 2 b)
   lanes-hashed g (suc (suc (suc zero))) b = lane-hashed 3 (3072 + 64 * blocks) (3072 + n) (lane 8 r 3) b (omega arith) (omega arith) (g 3 b)
   lanes-hashed g (suc (suc (suc (suc k)))) b = absurd (omega arith)
+
+-- ---- their first blocks
+
+pub lanes-begun : (key : List ℕ) (d blocks n : ℕ) (m r : List ℕ) → ((k : ℕ) → k < 4 → lane 8 r k ≡ firstBlocks key d blocks
+    (which (take n m) (take (1024 + n - 1024) (drop 1024 m)) (take (2048 + n - 2048) (drop 2048 m)) (take (3072 + n - 3072) (drop 3072 m)) k))
+    → (k : ℕ) → k < 4 → lane 8 r k ≡ firstBlocks key d blocks (part n (1024 * k) m)
+unfolding which part
+lanes-begun key d blocks n m r g zero b = g 0 b
+lanes-begun key d blocks n m r g (suc zero) b = g 1 b ∙ ap (firstBlocks key d blocks) (lent-part n 1024 m)
+lanes-begun key d blocks n m r g (suc (suc zero)) b = g 2 b ∙ ap (firstBlocks key d blocks) (lent-part n 2048 m)
+lanes-begun key d blocks n m r g (suc (suc (suc zero))) b = g 3 b ∙ ap (firstBlocks key d blocks) (lent-part n 3072 m)
+lanes-begun key d blocks n m r g (suc (suc (suc (suc k)))) b = absurd (omega arith)
 
 -- ---- their bytes
 

@@ -22,14 +22,14 @@ unfolding stored
 drop-past i l from [] h = refl
 drop-past i l from (x ∷ bs) h = drop-past i (set l from x) (suc from) bs (omega arith) ∙ drop-set-lt i l from x (omega arith)
 
-part-past : (n i : ℕ) (l : List ℕ) (from : ℕ) (bs : List ℕ) → from + length bs ≤ i → part n i (stored l from bs) ≡ part n i l
+pub part-past : (n i : ℕ) (l : List ℕ) (from : ℕ) (bs : List ℕ) → from + length bs ≤ i → part n i (stored l from bs) ≡ part n i l
 unfolding part
 part-past n i l from bs h = ap (take n) (drop-past i l from bs h)
 
-part-before : (n i : ℕ) (l : List ℕ) (from : ℕ) (bs : List ℕ) → i + n ≤ from → part n i (stored l from bs) ≡ part n i l
+pub part-before : (n i : ℕ) (l : List ℕ) (from : ℕ) (bs : List ℕ) → i + n ≤ from → part n i (stored l from bs) ≡ part n i l
 part-before n i l from bs h = part-same from n i (stored l from bs) l (take-stored from l from bs (le-refl from)) h
 
-part-here : (p i : ℕ) (l bs : List ℕ) → i + p + length bs ≤ length l → part (p + length bs) i (stored l (i + p) bs) ≡ part p i l ++ bs
+pub part-here : (p i : ℕ) (l bs : List ℕ) → i + p + length bs ≤ length l → part (p + length bs) i (stored l (i + p) bs) ≡ part p i l ++ bs
 unfolding part
 part-here p i l bs h =
     part-add p (length bs) i (stored l (i + p) bs)

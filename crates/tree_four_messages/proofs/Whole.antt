@@ -7,8 +7,9 @@ use lib.ListN.{length, take, drop}
 use lib.Seq.{take-at, take-take}
 use Rattle.theory_laws.specs.Lists.{part, flat}
 use Rattle.theory_blake3.specs.declared.Mode.{Mode}
-use Rattle.tree_four_messages.specs.helpers.Strides.{firstBlocks, four, Each, Common}
-use Rattle.tree_four_messages.proofs.Blocks.{firstBlocks-append}
+use Rattle.hash_chunk.specs.helpers.Blocks.{firstBlocks}
+use Rattle.hash_chunk.proofs.Blocks.{firstBlocks-append}
+use Rattle.tree_four_messages.specs.helpers.Strides.{four, Each, Common}
 
 -- four items, item by item
 pub four-ext : (f g : ℕ → List ℕ) → ((k : ℕ) → k < 4 → f k ≡ g k) → four f ≡ four g

@@ -2,10 +2,8 @@
 // what they have in common are hashed once. These are helpers for the crates above: each requires that its bytes fit, and nothing is said
 // of the buffer's other bytes.
 use bytes_numbers::load;
-use hash_compress::compress;
-use hash_node::first_eight;
+use hash_chunk::slice::first_blocks;
 use hash_node::start_flag;
-use hash_node::words_at;
 use theory_blake3::Mode;
 use tree_place::Group;
 ghost use mathlib.Core.Path.{_≡_};
@@ -14,10 +12,14 @@ ghost use lib.ListN.{length};
 ghost use Rattle.theory_laws.specs.Lists.{part, flat};
 ghost use Rattle.theory_blake3.specs.Digest.{bytesOfWords32};
 ghost use Rattle.theory_blake3.specs.Modes.{under};
+ghost use Rattle.hash_four_lanes.specs.helpers.Lane as X;
 ghost use Rattle.hash_four_lanes.specs.helpers.Lane.{lane};
+ghost use Rattle.hash_four_chunks.specs.helpers.FourChunks.{which};
+ghost use Rattle.hash_chunk.specs.helpers.Blocks.{firstBlocks};
 ghost use Rattle.bytes_numbers.specs.helpers.Put.{Put};
 ghost use Rattle.tree_place.specs.Place.{number};
-ghost use Rattle.tree_four_messages.specs.helpers.Strides.{stride, firstBlocks, four, Each, Common, LeafRoom, LeafRests, NodeRoom, NodeRests};
+ghost use Rattle.tree_four_messages.specs.helpers.Strides.{stride, four, Each, Common, Begun, FourFirst};
+ghost use Rattle.tree_four_messages.specs.helpers.Strides.{LeafRoom, LeafRests, NodeRoom, NodeRests};
 
 // How many bytes a stride has: those of a chunk.
 pub const STRIDE: usize = 1024;
@@ -27,34 +29,52 @@ const THIRD: usize = 2 * STRIDE;
 
 const FOURTH: usize = 3 * STRIDE;
 
-// The chaining value of the first blocks of a message of at most a chunk, for key words and flags.
-fn first_blocks(key: [u32; 8], flags: u32, message: &[u8], blocks: usize) -> [u32; 8]
-    requires { ⌜ 64 * blocks ≤ length (now message) ⌝ }
-    ensures { λ r. ⌜ r ≡ firstBlocks key flags blocks (now (message .entry)) ⌝ }
+// The chaining values of the first blocks of four messages under a mode.
+fn first_of(mode: Mode, s0: &[u8], s1: &[u8], s2: &[u8], s3: &[u8], blocks: usize) -> [u32; 32]
+    requires { ⌜ FourFirst blocks (length (now s0)) (length (now s1)) (length (now s2)) (length (now s3)) ⌝ }
+    ensures { λ r. ⌜ X.Each 8 r (λ k. firstBlocks (mode .key) (mode .flags) blocks
+        (which (now (s0 .entry)) (now (s1 .entry)) (now (s2 .entry)) (now (s3 .entry)) k)) ⌝ }
 {
-    let mut h = key;
+    let counters = [0u64, 0, 0, 0];
+    let flags = mode.flags;
+    let key = mode.key;
+    let mut v = hash_four_chunks::spread(key);
     let mut from: usize = 0;
     let mut i: usize = 0;
     while i < blocks {
-        let m = words_at(message, from);
+        let m = hash_four_chunks::blocks_at(s0, s1, s2, s3, from, 64);
         let f = start_flag(i);
-        let w = compress(h, m, 0, 64, flags | f);
-        let v = first_eight(w);
-        h = v;
+        let w = hash_four_lanes::compress(&v, &m, &counters, 64, flags | f);
+        v = w;
         from += 64;
         i += 1;
     }
-    h
+    v
 }
 
-// The digests under a mode of the four messages of n bytes, whose first blocks are the same and have the chaining value h: message k's in lane k.
-fn digests_of(mode: Mode, h: [u32; 8], blocks: usize, messages: &[u8], n: usize) -> [u32; 32]
-    requires { ⌜ Common mode h blocks n (now messages) ⌝ }
+// Those of the first blocks of four messages, of which n bytes stand at the fronts of the strides.
+pub fn first_lanes(mode: Mode, messages: &[u8], n: usize, blocks: usize) -> [u32; 32]
+    requires { ⌜ (n ≤ stride) × (64 * blocks ≤ n) × (4 * stride ≤ length (now messages)) ⌝ }
+    ensures { λ r. ⌜ X.Each 8 r (λ k. firstBlocks (mode .key) (mode .flags) blocks (part n (stride * k) (now (messages .entry)))) ⌝ }
+{
+    first_of(
+        mode,
+        &messages[..n],
+        &messages[STRIDE..STRIDE + n],
+        &messages[THIRD..THIRD + n],
+        &messages[FOURTH..FOURTH + n],
+        blocks,
+    )
+}
+
+// The digests under a mode of the four messages of n bytes, whose first blocks have the lanes of h as their chaining values: message k's in lane k.
+pub fn digests_from(mode: Mode, h: [u32; 32], blocks: usize, messages: &[u8], n: usize) -> [u32; 32]
+    requires { ⌜ Begun mode (lane 8 h) blocks n (now messages) ⌝ }
     ensures { λ r. ⌜ ((k : ℕ) → k < 4 → bytesOfWords32 (lane 8 r k) ≡ under mode (part n (stride * k) (now (messages .entry)))) ⌝ }
 {
     let counters = [0u64, 0, 0, 0];
     let from = 64 * blocks;
-    hash_four_chunks::chunks(
+    hash_four_chunks::rests(
         h,
         blocks,
         mode.flags,
@@ -65,6 +85,15 @@ fn digests_of(mode: Mode, h: [u32; 8], blocks: usize, messages: &[u8], n: usize)
         &messages[FOURTH + from..FOURTH + n],
         8,
     )
+}
+
+// The same digests, where the first blocks are the same and have the chaining value h.
+fn digests_of(mode: Mode, h: [u32; 8], blocks: usize, messages: &[u8], n: usize) -> [u32; 32]
+    requires { ⌜ Common mode h blocks n (now messages) ⌝ }
+    ensures { λ r. ⌜ ((k : ℕ) → k < 4 → bytesOfWords32 (lane 8 r k) ≡ under mode (part n (stride * k) (now (messages .entry)))) ⌝ }
+{
+    let v = hash_four_chunks::spread(h);
+    digests_from(mode, v, blocks, messages, n)
 }
 
 // The same digests, one after the other in a buffer.

@@ -19,6 +19,11 @@ unfolding climbFrom
 climb-begin H domain s from depth g d =
     ap₂ (λ (c i : ℕ). climb H domain 0 g d (runs 32 c (drop i s))) {x = depth - 0} {y = depth} {u = from + 32 * 0} {v = from} (omega arith) (omega arith)
 
+-- the node over two children
+pub parent-is : (H : List ℕ → List ℕ) (domain : List ℕ) (level : ℕ) (p l r : List ℕ) {x y : List ℕ} → p ≡ nodeDigest H domain level l r → l ≡ x → r ≡ y
+    → p ≡ nodeDigest H domain level x y
+parent-is H domain level p l r e el er = e ∙ ap₂ (nodeDigest H domain level) el er
+
 pub climb-step : (H : List ℕ → List ℕ) (domain s : List ℕ) (from depth l g h : ℕ) (d e p r : List ℕ) → climbFrom H domain s from depth l g d ≡ r
     → p ≡ nodeDigest H domain l (left g d e) (right g d e) → e ≡ part 32 (from + 32 * l) s → l < depth → h ≡ g / 2
     → climbFrom H domain s from depth (l + 1) h p ≡ r

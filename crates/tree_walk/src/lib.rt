@@ -4,14 +4,15 @@ use bytes_numbers::load;
 use bytes_numbers::put;
 use bytes_reader::digest_at;
 use theory_blake3::Mode;
-use tree_digest::node_of;
+use tree_digest::begin_nodes;
+use tree_digest::hash_level_node;
 use tree_place::Group;
 ghost use mathlib.Core.Path.{_≡_};
 ghost use Prim.Native.Nat.{_+_, _*_, _≤_, _<_};
 ghost use lib.ListN.{length, drop};
 ghost use Rattle.theory_laws.specs.Lists.{runs, flat};
 ghost use Rattle.theory_blake3.specs.Modes.{under};
-ghost use Rattle.theory_merkle.specs.Tree.{left, right, nodeDigest, climb};
+ghost use Rattle.theory_merkle.specs.Tree.{left, right, climb};
 ghost use Rattle.bytes_numbers.specs.helpers.Put.{Put};
 ghost use Rattle.tree_place.specs.Place.{number};
 ghost use Rattle.tree_walk.specs.helpers.Paths.{pathFrom, PathRoom};
@@ -38,24 +39,6 @@ pub fn children(g: Group, d: [u8; 32], other: [u8; 32]) -> Siblings
     }
 }
 
-// The parent of a digest, by its number on its level, and its sibling.
-pub fn parent_of(
-    mode: Mode,
-    domain: &[u8],
-    level: usize,
-    g: Group,
-    d: [u8; 32],
-    other: [u8; 32],
-) -> [u8; 32]
-    requires { ⌜ length (now domain) ≤ 255 ⌝ }
-    ensures { λ r. ⌜ r ≡ nodeDigest (under mode) (now (domain .entry)) level (left (number g) d other) (right (number g) d other) ⌝ }
-{
-    let c = children(g, d, other);
-    let l = c.left;
-    let r = c.right;
-    node_of(mode, domain, level, l, r)
-}
-
 // Where a leaf digest, by its group, and the digests that stand from a byte on lead to.
 pub fn climb_path(
     mode: Mode,
@@ -69,12 +52,18 @@ pub fn climb_path(
     requires { ⌜ (length (now domain) ≤ 255) × (from + 32 * depth ≤ length (now s)) ⌝ }
     ensures { λ r. ⌜ r ≡ climb (under mode) (now (domain .entry)) 0 (number group) leaf (runs 32 depth (drop from (now (s .entry)))) ⌝ }
 {
+    let mut message = [0u8; tree_message::NODE_MESSAGE];
+    let h = begin_nodes(mode, &mut message, domain);
+    let front = 48 + domain.len();
     let mut d = leaf;
     let mut g = group;
     let mut l: usize = 0;
     while l < depth {
         let e = digest_at(s, from + 32 * l);
-        let p = parent_of(mode, domain, l, g, d, e);
+        let c = children(g, d, e);
+        let left = c.left;
+        let right = c.right;
+        let p = hash_level_node(mode, h, &mut message, front, l, left, right);
         d = p;
         g = g.parent();
         l += 1;

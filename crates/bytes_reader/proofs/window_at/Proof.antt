@@ -1,19 +1,17 @@
 -- `bytes_reader::window_at` meets its contract: a whole window is loaded; of a shorter one the bytes are read one by one.
-use Rattle.bytes_reader.specs.Windows.{byteAt}
 use borrow.Author.Needs.{needs}
-use Rattle.bytes_reader.proofs.Windows.{byte-step, window-whole, window-filled}
+use Rattle.bytes_reader.proofs.Windows.{Filled, filled-begin, byte-step, window-whole, window-filled}
 use native.Mathlib.Omega.{arith}
-use Prim.Native.Nat.{ℕ, _-_, _≤_, _<_}
-use mathlib.Core.Path.{_≡_}
-use lib.ListN.{length, getD}
+use Prim.Native.Nat.{_-_, _≤_}
+use mathlib.Core.Path.{refl}
 use Rattle.bytes_reader.proofs.window_at.Statement.{statement}
 use Rattle.bytes_reader.proofs.window_at.Tie as tie
 
 abbrev Inv-loop : tie.InvT-loop
-Inv-loop s at left bytes₀ j₀ bytes j = (j ≤ 32) × (length bytes ≡ 32) × ((k : ℕ) → k < j → getD bytes k 0 ≡ byteAt s at k)
+Inv-loop s at left bytes₀ j₀ bytes j = (j ≤ left) × Filled s at bytes j
 
 abbrev μ-loop : tie.MeasureT-loop
-μ-loop s at left bytes₀ j₀ bytes j = 32 - j
+μ-loop s at left bytes₀ j₀ bytes j = left - j
 
 left-from-requires : tie.Need-left-from-requires Inv-loop μ-loop
 left-from-requires c κs = search needs
@@ -25,10 +23,13 @@ returns : tie.Need-returns Inv-loop μ-loop
 returns c = search window-whole
 
 loop-holds : tie.Need-loop-holds Inv-loop μ-loop
-loop-holds c = (search needs, search needs, λ k h. absurd (omega arith))
+loop-holds c = (search needs, filled-begin _ _)
 
-byte-or-zero-requires : tie.Need-byte-or-zero-requires Inv-loop μ-loop
-byte-or-zero-requires c κs = search needs
+add-bytes : tie.Need-add-bytes Inv-loop μ-loop
+add-bytes c = search needs
+
+shared-slice-read-bytes : tie.Need-shared-slice-read-bytes Inv-loop μ-loop
+shared-slice-read-bytes c = search needs
 
 array-write-bytes : tie.Need-array-write-bytes Inv-loop μ-loop
 array-write-bytes c = search needs
@@ -41,11 +42,8 @@ loop-less c = search needs
 
 loop-again : tie.Need-loop-again Inv-loop μ-loop
 loop-again c =
-    let l = c .before .before .loop in (
-      search needs,
-      search needs,
-      byte-step _ (l .bytes) _ (l .j) _ (l .inv .2) (c .byte-or-zero .ensures) (l .inv .1) (c .before .loop-test .taken),
-    )
+    let at-loop : tie.At-loop Inv-loop μ-loop = search in
+    let l = at-loop .loop in (search needs, byte-step _ (l .bytes) _ (l .j) _ refl (omega arith) (l .inv .1))
 
 returns-2 : tie.Need-returns-2 Inv-loop μ-loop
 returns-2 c = search window-filled
@@ -60,7 +58,8 @@ window-at-spec =
     load-requires
     returns
     loop-holds
-    byte-or-zero-requires
+    add-bytes
+    shared-slice-read-bytes
     array-write-bytes
     add-j
     loop-less

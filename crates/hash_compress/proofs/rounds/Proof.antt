@@ -1,69 +1,48 @@
 -- `hash_compress::rounds` meets its contract.
-use mathlib.Core.List.{[]}
-use mathlib.Core.Path.{_≡_, refl, _∙_}
-use Prim.Native.Nat.{_≤_, _-_}
-use native.Mathlib.Omega.{arith}
 use borrow.Author.Needs.{needs}
-use lib.ListN.{drop, length}
-use Rattle.theory_blake3.specs.Orders as O
-use Rattle.theory_blake3.proofs.Compression.{rounds-step}
-use Rattle.hash_compress.proofs.Laws.{small-orders, rounds-all}
+use Rattle.hash_compress.proofs.Laws.{rounds-law}
 use Rattle.hash_compress.proofs.rounds.Statement.{statement}
 use Rattle.hash_compress.proofs.rounds.Tie as tie
 
-abbrev Inv-loop : tie.InvT-loop
-Inv-loop m order s₀ r₀ s r = (r ≤ 7) × (order ≡ O.orders) × (length order ≡ 7) × (O.roundsBy (drop r order) s m ≡ O.roundsBy order s₀ m)
+round-0-requires : tie.Need-round-0-requires
+round-0-requires c κs = search needs
 
-abbrev μ-loop : tie.MeasureT-loop
-μ-loop m order s₀ r₀ s r = 7 - r
+round-1-requires : tie.Need-round-1-requires
+round-1-requires c κs = search needs
 
-orders-requires : tie.Need-orders-requires Inv-loop μ-loop
-orders-requires c κs = search needs
+round-2-requires : tie.Need-round-2-requires
+round-2-requires c κs = search needs
 
-loop-holds : tie.Need-loop-holds Inv-loop μ-loop
-unfolding O.orders O.powers
-loop-holds c = (omega arith, c .orders .ensures, rw (c .orders .ensures), refl)
+round-3-requires : tie.Need-round-3-requires
+round-3-requires c κs = search needs
 
-mul-o : tie.Need-mul-o Inv-loop μ-loop
-mul-o c = omega arith
+round-4-requires : tie.Need-round-4-requires
+round-4-requires c κs = search needs
 
-array-copy-out-o : tie.Need-array-copy-out-o Inv-loop μ-loop
-array-copy-out-o c = omega arith
+round-5-requires : tie.Need-round-5-requires
+round-5-requires c κs = search needs
 
-round-requires : tie.Need-round-requires Inv-loop μ-loop
-round-requires c κs =
-    let l = c .before .before .before .before .loop in
-    rw (l .inv .1) (small-orders (l .r) (omega arith))
+round-6-requires : tie.Need-round-6-requires
+round-6-requires c κs = search needs
 
-add-r : tie.Need-add-r Inv-loop μ-loop
-add-r c = omega arith
-
-loop-less : tie.Need-loop-less Inv-loop μ-loop
-loop-less c = omega arith
-
-loop-again : tie.Need-loop-again Inv-loop μ-loop
-loop-again c =
-    let at-loop : tie.At-loop Inv-loop μ-loop = search in
-    let l = at-loop .loop in
-    (omega arith, l .inv .1, l .inv .2, rounds-step (l .s) _ _ _ (l .r) [] (omega arith) (c .round .ensures) ∙ l .inv .3)
-
-returns : tie.Need-returns Inv-loop μ-loop
+returns : tie.Need-returns
 returns c =
-    let l = c .before .loop in
-    rounds-all _ _ _ _ (l .r) (l .inv .1) (omega arith) (l .inv .3)
+    let after-round-4 : tie.After-round-4 = search in
+    let after-round-3 = after-round-4 .before .before in
+    let after-round-2 = after-round-3 .before .before in
+    let after-round-1 = after-round-2 .before .before in
+    rounds-law _ _ (after-round-1 .before .before .round-0 .ensures) (after-round-1 .round-1 .ensures) (after-round-2 .round-2 .ensures)
+    (after-round-3 .round-3 .ensures) (after-round-4 .round-4 .ensures) (c .before .before .round-5 .ensures) (c .round-6 .ensures)
 
 pub rounds-spec : {M : Type 1} → statement M
 rounds-spec =
     tie.close
     (tie.spec
-    Inv-loop
-    μ-loop
-    orders-requires
-    loop-holds
-    mul-o
-    array-copy-out-o
-    round-requires
-    add-r
-    loop-less
-    loop-again
+    round-0-requires
+    round-1-requires
+    round-2-requires
+    round-3-requires
+    round-4-requires
+    round-5-requires
+    round-6-requires
     returns)

@@ -32,6 +32,10 @@ pub record Block (from n a b c d : ℕ) : Type 0 where
   pub third : from + n ≤ c
   pub fourth : from + n ≤ d
 
--- lane k of r has the chaining value of the chunk with counter k, of which list k is left after so many blocks, whose chaining value is h
+-- lane k of r has the chaining value of the chunk with counter k, of which list k is left after so many blocks, whose chaining value is h k
+abbrev pub RestsFrom : (ℕ → List ℕ) → ℕ → ℕ → List ℕ → (ℕ → List ℕ) → ℕ → List ℕ → Type 0
+RestsFrom h blocks d counters lists x r = Each 8 r (λ k. cv (chunkFrom d (15 - blocks) (h k) (startFlag blocks) (at counters k) (lists k) x))
+
+-- the same, of blocks that all have in common
 abbrev pub Rests : List ℕ → ℕ → ℕ → List ℕ → (ℕ → List ℕ) → ℕ → List ℕ → Type 0
-Rests h blocks d counters lists x r = Each 8 r (λ k. cv (chunkFrom d (15 - blocks) h (startFlag blocks) (at counters k) (lists k) x))
+Rests h blocks d counters lists x r = RestsFrom (λ _. h) blocks d counters lists x r

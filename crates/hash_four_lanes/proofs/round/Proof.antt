@@ -7,19 +7,19 @@ use lib.ListN.{length}
 use Rattle.theory_blake3.specs.Compression as C
 use Rattle.theory_blake3.specs.Orders as O
 use Rattle.hash_four_lanes.specs.helpers.Lane as X
-use Rattle.hash_four_lanes.proofs.Laws.{small-plain, lanes-step, lanes-rest, round-lane}
+use Rattle.hash_four_lanes.proofs.Laws.{lanes-step, lanes-rest, round-lane}
 use Rattle.hash_four_lanes.proofs.round.Statement.{statement}
 use Rattle.hash_four_lanes.proofs.round.Tie as tie
 
 abbrev Inv-loop : tie.InvT-loop
-Inv-loop s₀ m o plain l₀ s l = (l ≤ 4) × (length s ≡ 64) × ((k : ℕ) → k < l → X.lane 16 s k ≡ C.round (X.lane 16 s₀ k) (O.ordered (X.lane 16 m k) o))
+Inv-loop s₀ m o l₀ s l = (l ≤ 4) × (length s ≡ 64) × ((k : ℕ) → k < l → X.lane 16 s k ≡ C.round (X.lane 16 s₀ k) (O.ordered (X.lane 16 m k) o))
     × ((k : ℕ) → l ≤ k → k < 4 → X.lane 16 s k ≡ X.lane 16 s₀ k)
 
 abbrev μ-loop : tie.MeasureT-loop
-μ-loop s₀ m o plain l₀ s l = 4 - l
+μ-loop s₀ m o l₀ s l = 4 - l
 
 loop-holds : tie.Need-loop-holds Inv-loop μ-loop
-loop-holds c = (omega arith, c .pre .2, (λ k h. absurd (omega arith)), λ k p q. refl)
+loop-holds c = (omega arith, c .pre .1, (λ k h. absurd (omega arith)), λ k p q. refl)
 
 ordered-requires : tie.Need-ordered-requires Inv-loop μ-loop
 ordered-requires c κs = (c .before .before .pre .0, omega arith)
@@ -27,10 +27,8 @@ ordered-requires c κs = (c .before .before .pre .0, omega arith)
 lane-requires : tie.Need-lane-requires Inv-loop μ-loop
 lane-requires c κs = omega arith
 
-round-requires : tie.Need-round-requires Inv-loop μ-loop
-round-requires c κs =
-    let start : tie.Start Inv-loop μ-loop = search in
-    small-plain _ (start .pre .1)
+round-0-requires : tie.Need-round-0-requires Inv-loop μ-loop
+round-0-requires c κs = tt
 
 store-requires : tie.Need-store-requires Inv-loop μ-loop
 store-requires c κs =
@@ -51,8 +49,8 @@ loop-again c =
     let start = at-loop .before in
     let p = at-loop .loop in
     let a = start .args in
-    let q = round-lane (X.lane 16 (now (a .s)) (p .l)) (X.lane 16 (now (a .m)) (p .l)) (now (a .o)) (now (a .plain)) (start .pre .1)
-    (after-ordered .ordered .ensures) (after-lane .lane .ensures) (p .inv .3 (p .l) (omega arith) (omega arith)) (c .before .before .round .ensures) in (
+    let q = round-lane (X.lane 16 (now (a .s)) (p .l)) (X.lane 16 (now (a .m)) (p .l)) (now (a .o))
+    (after-ordered .ordered .ensures) (after-lane .lane .ensures) (p .inv .3 (p .l) (omega arith) (omega arith)) (c .before .before .round-0 .ensures) in (
       omega arith,
       c .store .ensures .size,
       lanes-step (p .s) _ _ (p .l)
@@ -75,7 +73,7 @@ round-spec =
     loop-holds
     ordered-requires
     lane-requires
-    round-requires
+    round-0-requires
     store-requires
     add-l
     loop-less

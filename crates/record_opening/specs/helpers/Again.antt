@@ -25,3 +25,9 @@ pub record Same (s : List ℕ) (group path : ℕ) (old : Opened) : Type 0 where
   pub known : old .known ≡ true
   pub values-same : valuesAt s group ≡ valuesAt s (old .«group_at»)
   pub digests-same : digestsAt s path ≡ digestsAt s (old .«path_at»)
+
+-- the opening is known, at these bytes
+pub record SamePlace (old : Opened) (group path : ℕ) : Type 0 where
+  pub known : old .known ≡ true
+  pub group-is : group ≡ old .«group_at»
+  pub path-is : path ≡ old .«path_at»

@@ -83,3 +83,7 @@ Known S l place s old root = old .known ≡ true → Leads S l place s (old .«g
 -- what `opening_again` is lent: a group and a path that are all there, of a level that is queried, and what is known of an earlier opening
 abbrev pub AgainThere : Scheme → ℕ → ℕ → ℕ → List ℕ → ℕ → ℕ → Opened → List ℕ → ℕ → Type 0
 AgainThere S n l place s group path old root first = (Readable S l s group path) × (l < n) × (first < 100) × (Known S l place s old root)
+
+-- what `opening_known` is lent
+abbrev pub KnownThere : Scheme → ℕ → ℕ → List ℕ → ℕ → ℕ → Opened → List ℕ → ℕ → Type 0
+KnownThere S l place s group path old root first = (Readable S l s group path) × (first < 100) × (Known S l place s old root)

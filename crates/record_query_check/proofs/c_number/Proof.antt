@@ -5,14 +5,9 @@ use native.Mathlib.Omega.{arith}
 use borrow.Author.Needs.{needs}
 use Rattle.record_query_check.proofs.c_number.Statement.{statement}
 use Rattle.record_query_check.proofs.c_number.Tie as tie
-use Rattle.record_query_check.proofs.c_number.Reads as reads
-use Rattle.record_query_check.proofs.c_number.Lts as lts
-use Rattle.code_level.proofs.level_width.Reads as level-width-reads
-use Rattle.record_opening.proofs.opening_number.Reads as opening-number-reads
-use Rattle.record_query_check.proofs.holds.Reads as holds-reads
 
-opening-number-requires : tie.Need-opening-number-requires
-opening-number-requires c κs = search needs
+opening-known-requires : tie.Need-opening-known-requires
+opening-known-requires c κs = search needs
 
 returns : tie.Need-returns
 returns c = search c-stops
@@ -24,7 +19,7 @@ holds-requires : tie.Need-holds-requires
 holds-requires c κs =
     let opened = c .before .before in
     let start = opened .before .before .before in
-    opened-wide (powers _) _ _ _ _ _ (start .pre) (opened .opening-number .ensures) (c .before .if1 .left) (c .level-width .ensures) (omega arith)
+    opened-wide (powers _) _ _ _ _ _ (start .pre .0) (opened .opening-known .ensures) (c .before .if1 .left) (c .level-width .ensures) (omega arith)
 
 returns-2 : tie.Need-returns-2
 returns-2 c = search no-c
@@ -36,7 +31,7 @@ pub c-number-spec : {M : Type 1} → statement M
 c-number-spec =
     tie.close
     (tie.spec
-    opening-number-requires
+    opening-known-requires
     returns
     level-width-requires
     holds-requires

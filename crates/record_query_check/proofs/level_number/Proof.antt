@@ -4,7 +4,7 @@ use Prim.Native.Nat.{ℕ}
 use Rattle.tree_place.specs.Place.{index}
 use Rattle.theory_record.specs.Scheme.{scheme}
 use Rattle.record_query_check.specs.helpers.Level.{levelAsked}
-use Rattle.record_query_check.proofs.Again.{known-read}
+use Rattle.record_query_check.proofs.Again.{known-read, c-known-read}
 use Rattle.record_query_check.proofs.Level.{pair-small, room-there, a-says-no, c-says-no, FoldDecides, fold-decides}
 use native.Mathlib.Omega.{arith}
 use borrow.Author.Needs.{needs}
@@ -89,7 +89,11 @@ add-c-number : tie.Need-add-c-number
 add-c-number c = let p = start-of (c .before .before) .pre in omega (arith, p .level-low, p .allowed .n-most)
 
 c-number-requires : tie.Need-c-number-requires
-c-number-requires c κs = room-there (start-of (c .before .before) .pre) .c-readable
+c-number-requires c κs =
+    let start : tie.Start = search in
+    let paired : tie.After-pair-of = search in
+    let there = start .pre in
+    (room-there there .c-readable, c-known-read _ _ _ _ _ _ _ _ (paired .pair-of .ensures) (c .load2 .ensures) (there .c-known))
 
 returns-2 : tie.Need-returns-2
 returns-2 c =

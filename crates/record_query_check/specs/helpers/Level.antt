@@ -13,6 +13,7 @@ use Rattle.record_reader.specs.declared.Level.{Level}
 use Rattle.record_reader.specs.helpers.Places.{levelAt}
 use Rattle.record_opening.specs.declared.Opened.{Opened}
 use Rattle.record_opening.specs.helpers.Opening.{valuesAt, digestsAt, openingQuestions, Readable, Known}
+use Rattle.record_known.specs.helpers.Known.{LevelsKnown}
 use Rattle.theory_record.specs.declared.Trees.{Trees}
 use Rattle.theory_record.specs.Scheme.{Scheme, scheme, widthAt}
 
@@ -87,10 +88,19 @@ pub record PairThere (S : Scheme) (l q : ℕ) (s : List ℕ) (group path : ℕ) 
   pub level-low : l < S .n
   pub known : Known S l (2 * q) s old root
 
--- for 16 to 26: v is the level that was read at byte i, all of it is there, and what is known of the opening of a and b is so
-pub record LevelThere (S : Scheme) (position : ℕ) (challenges roots : List ℕ) (l : ℕ) (s : List ℕ) (i : ℕ) (v : Level) (old : Opened) : Type 0 where
+-- for 16 to 26: v is the level that was read at byte i, all of it is there, and what is known of the opening of a and b, and of c's, is so
+pub record LevelThere (S : Scheme) (position : ℕ) (challenges roots : List ℕ) (l : ℕ) (s : List ℕ) (i : ℕ) (v : Level) (old c-old : Opened) : Type 0 where
   pub allowed : Allowed S position challenges roots
   pub level-low : l < S .n
   pub read : v ≡ levelAt s i
   pub fits : v .fits ≡ true
   pub known : Known S l (2 * pairOf position l) s old (rootAt roots l)
+  pub c-known : Known S (l + 1) (pairOf position l) s c-old (rootAt roots (l + 1))
+
+-- for 22 to 25
+abbrev pub ValueThere : Scheme → ℕ → ℕ → List ℕ → ℕ → ℕ → List ℕ → Opened → Type 0
+ValueThere S l q s group path root old = (Readable S l s group path) × (Known S l q s old root)
+
+-- for 16 to 26 of every level
+abbrev pub LevelsThere : Scheme → ℕ → List ℕ → List ℕ → List ℕ → List Opened → Type 0
+LevelsThere S position challenges roots s ways = (Allowed S position challenges roots) × (Whole (S .n) s) × (LevelsKnown S position roots s ways)

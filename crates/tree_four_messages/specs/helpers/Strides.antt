@@ -1,23 +1,13 @@
 -- Four messages of one length in a buffer of four strides, a chunk (1024 bytes) each: message k stands at the front of stride k.
-use Prim.Native.Nat.{ℕ, zero, suc, _+_, _*_, _^_, _≤_, _<_}
+use Prim.Native.Nat.{ℕ, _+_, _*_, _^_, _≤_, _<_}
 use mathlib.Core.Path.{_≡_}
 use mathlib.Core.List.{List, [], _∷_, _++_}
-use lib.ListN.{length, take, drop}
+use lib.ListN.{length}
 use Rattle.theory_laws.specs.Lists.{part}
-use Rattle.theory_blake3.specs.Flags.{startFlag}
 use Rattle.theory_blake3.specs.declared.Mode.{Mode}
-use Rattle.theory_blake3.specs.Chunk.{next}
 use Rattle.theory_field.specs.Words.{words}
+use Rattle.hash_chunk.specs.helpers.Blocks.{firstBlocks}
 use Rattle.theory_merkle.specs.Message.{prefixed, leafRest}
-
--- the chaining value after n whole blocks more of chunk 0, of which i came before and gave h
-unfoldable pub blocksFrom : ℕ → ℕ → ℕ → List ℕ → List ℕ → List ℕ
-blocksFrom d zero i h bs = h
-blocksFrom d (suc n) i h bs = blocksFrom d n (suc i) (next d h (startFlag i) 0 (take 64 bs)) (drop 64 bs)
-
--- the chaining value of the first n blocks of a message, for key words and flags
-unfoldable pub firstBlocks : List ℕ → ℕ → ℕ → List ℕ → List ℕ
-firstBlocks key d n bs = blocksFrom d n 0 key bs
 
 -- the four items of a table
 abbrev pub four : (ℕ → List ℕ) → List (List ℕ)
@@ -60,3 +50,17 @@ pub record Common (mode : Mode) (h : List ℕ) (blocks n : ℕ) (l : List ℕ) :
   pub followed : 64 * blocks < n
   pub room : 4 * stride ≤ length l
   pub value : (k : ℕ) → k < 4 → h ≡ firstBlocks (mode .key) (mode .flags) blocks (part n (stride * k) l)
+
+-- the same, where the first blocks of message k have the chaining value h k
+pub record Begun (mode : Mode) (h : ℕ → List ℕ) (blocks n : ℕ) (l : List ℕ) : Type 0 where
+  pub chunk : n ≤ stride
+  pub followed : 64 * blocks < n
+  pub room : 4 * stride ≤ length l
+  pub value : (k : ℕ) → k < 4 → h k ≡ firstBlocks (mode .key) (mode .flags) blocks (part n (stride * k) l)
+
+-- four messages of these lengths have so many whole blocks
+pub record FourFirst (blocks a b c d : ℕ) : Type 0 where
+  pub first : 64 * blocks ≤ a
+  pub second : 64 * blocks ≤ b
+  pub third : 64 * blocks ≤ c
+  pub fourth : 64 * blocks ≤ d

@@ -1,0 +1,3 @@
+pub mod Domains
+pub mod Known
+pub mod Lanes
