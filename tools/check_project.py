@@ -120,6 +120,16 @@ def manifest(text):
     return {path: (size, [bytes.fromhex(root.decode()) for root in roots]) for path, size, roots in files}
 
 
+def named(files, text):
+    """The length and the roots of the file that a text names: as the program shows its path, with digits for some bytes, or else by the path itself."""
+    try:
+        shown = text.decode() and not re.search(rb"\\(?![0-9a-f]{2})", text)
+    except UnicodeDecodeError:
+        shown = False
+    none = (0, None)
+    return files.get(unescaped(text) if shown else text, files.get(text, none))
+
+
 def check_file(asked):
     """Prints the answer for the manifest, and then those for the records. The exit status."""
     checkers_own(asked)
@@ -135,13 +145,13 @@ def check_file(asked):
         print("manifest: no: what the opening shows is not the project's manifest")
         return NO
     print("manifest: yes")
-    size, roots = files.get(os.fsencode(asked.file), (0, None))
+    size, roots = named(files, os.fsencode(asked.file))
     if roots is None or not all(0 <= offset < size for offset in asked.offset) or len({offset // PART for offset in asked.offset}) != 1:
         raise CannotCheck("the project has no such file, or the offsets are not in one part of it")
     index = asked.offset[0] // PART
     in_part = min(PART, size - PART * index)
     asked.at = sorted({offset % PART // 16 for offset in asked.offset})
-    return check_opening(asked, mode, base, widths, variables(in_part), k, roots[index])
+    return check_opening(asked, mode, base, widths, variables(in_part), k, roots[index], in_part)
 
 
 def main():

@@ -266,6 +266,22 @@ def check_query(mode, base, widths, n, k, position, challenges, roots, record):
         ask(26, folded(a, b, challenges[l]) == c, l)
 
 
+def check_length(n, position, length, record):
+    """SPECIFICATION 16.5: an accepted record of a part of a project shows no other length than the manifest says, if it shows one."""
+    group = Reader(record).query()[0][3]
+    last = 2 ** n - 1 - position // len(group) * len(group)
+    if 0 <= last < len(group) and int.from_bytes(group[last], "little") != length:
+        raise No(f"it shows a length of {int.from_bytes(group[last], 'little')} bytes, and the manifest says {length}")
+
+
+def check_record_of(length, *given):
+    """A record by 8.6 and, where a manifest says how many bytes were sealed, by that."""
+    check_query(*given)
+    _, _, _, n, _, position, _, _, record = given
+    if length is not None:
+        check_length(n, position, length, record)
+
+
 def check_tail(mode, base, widths, n, k, root, claim, record):
     """SPECIFICATION 8.7."""
     ask(4, 1 <= n <= 20 and k <= 4)
@@ -474,7 +490,7 @@ def roots_of(opening, asked, n, kept):
     return kept if kept is not None else digests(opening / "roots.txt", n + 1)
 
 
-def check_record(asked, opening, position, size, given):
+def check_record(asked, opening, position, size, length, given):
     """Prints the answer for a position. Whether it is yes."""
     path = opening / f"query-{position}.record"
     if not os.path.lexists(path):
@@ -487,12 +503,12 @@ def check_record(asked, opening, position, size, given):
         return False
     mode, base, widths, n, k, challenges, roots = given
     given = (mode, base, widths, n, k, position, challenges, roots, record)
-    return answered(f"position {position}", check_query, *given, yes="yes" if asked.roots is not None else "yes on level 0")
+    return answered(f"position {position}", check_record_of, length, *given, yes="yes" if asked.roots is not None else "yes on level 0")
 
 
-def check_opening(asked, mode, base, widths, n, k, root):
+def check_opening(asked, mode, base, widths, n, k, root, length=None):
     """Prints an answer for each position and one for the tail. The exit status. Level 0's root is the office's, whatever the opening says; the other roots count
-    where the checker kept them. What the opening lacks is the holder's, and a no."""
+    where the checker kept them. What the opening lacks is the holder's, and a no. A manifest says how many bytes were sealed under the root."""
     opening = Path(asked.OPENING)
     if not opening.is_dir():
         raise CannotCheck(f"there is no opening {opening}")
@@ -512,7 +528,7 @@ def check_opening(asked, mode, base, widths, n, k, root):
         print(f"position {position}: no: the opening has {files[position]} files for it")
     yes = not doubles
     for position in asked.at:
-        yes &= check_record(asked, opening, position, query_bytes, (mode, base, widths, n, k, challenges, roots))
+        yes &= check_record(asked, opening, position, query_bytes, length, (mode, base, widths, n, k, challenges, roots))
     try:
         shown = opening / "claim.txt"
         claim = expected if expected is not None else word(shown, one(shown, lines(shown, most_bytes(1, 32))))

@@ -1,24 +1,58 @@
 //! What differs between a project that was sealed and its folder as it is now, file by file; and what cannot be said because it cannot be read.
 
 use crate::json::Json;
-use crate::manifest::{part_place, Entry, Manifest};
-use crate::outcome::{texts, Outcome};
-use crate::project::{written_path, Committed};
+use crate::manifest::{part_count, part_place, shown, Entry, Manifest};
+use crate::outcome::Outcome;
+use crate::project::Committed;
 use crate::walk::Said;
 use dequmlo::Root;
 use std::collections::{BTreeMap, HashMap, HashSet};
 
-/// What differs, each by its name. A file that can be read in part, or whose length alone is known, may be in two lists.
+/// What differs, each by its path. A file that can be read in part, or whose length alone is known, may be in two lists.
 #[derive(Debug, Default, PartialEq, Eq)]
 pub struct Differences {
-    pub changed: Vec<String>,
-    pub missing: Vec<String>,
-    pub new: Vec<String>,
-    /// Where a file was, and where it is now.
-    pub moved: Vec<(String, String)>,
-    /// What could not be read, and why.
-    pub unreadable: Vec<(String, String)>,
+    pub changed: Vec<Changed>,
+    pub missing: Vec<Thing>,
+    pub new: Vec<Thing>,
+    pub moved: Vec<Moved>,
+    pub unreadable: Vec<Unreadable>,
 }
+
+/// A file that is not as it was sealed, and the bytes among which it first differs, as far as the parts tell.
+#[derive(Debug, PartialEq, Eq)]
+pub struct Changed {
+    pub path: String,
+    pub bytes_then: u64,
+    pub bytes_now: u64,
+    pub first: u64,
+    pub last: u64,
+}
+
+/// Something that is missing or new, and what it is.
+#[derive(Debug, PartialEq, Eq)]
+pub struct Thing {
+    pub path: String,
+    pub kind: &'static str,
+}
+
+/// Where a file was, and where it is now.
+#[derive(Debug, PartialEq, Eq)]
+pub struct Moved {
+    pub from: String,
+    pub to: String,
+}
+
+/// What could not be read, and why; with what it is, where that is known.
+#[derive(Debug, PartialEq, Eq)]
+pub struct Unreadable {
+    pub path: String,
+    pub why: String,
+    pub kind: Option<&'static str>,
+}
+
+/// What a project is made of.
+const FILE: &str = "a file";
+const FOLDER: &str = "a folder";
 
 /// The folder as it is now.
 pub struct Now<'a> {
@@ -61,10 +95,11 @@ impl Differences {
         let new: Vec<&Committed> = now.files.iter().filter(is_new).collect();
         found.told_apart(missing, new);
         let others = now.others.iter();
-        found
-            .new
-            .extend(others.map(|(path, what)| format!("{}, which is {what}", written_path(path))));
-        found.unreadable = unreadable(now);
+        found.new.extend(others.map(|(path, what)| Thing {
+            path: shown(path),
+            kind: what,
+        }));
+        found.unreadable = unreadable(then, now);
         found
     }
 
@@ -83,15 +118,17 @@ impl Differences {
             let key = (entry.bytes, entry.parts.clone());
             match by_parts.get_mut(&key).and_then(Vec::pop) {
                 Some(to) => {
-                    self.moved
-                        .push((written_path(&entry.path), written_path(to)));
+                    self.moved.push(Moved {
+                        from: shown(&entry.path),
+                        to: shown(to),
+                    });
                     taken.insert(to);
                 }
-                None => self.missing.push(written_path(&entry.path)),
+                None => self.missing.push(a_file(&entry.path)),
             }
         }
         let left = new.iter().filter(|file| !taken.contains(&file.path[..]));
-        self.new.extend(left.map(|file| written_path(&file.path)));
+        self.new.extend(left.map(|file| a_file(&file.path)));
     }
 
     /// Whether anything is known to differ.
@@ -107,47 +144,125 @@ impl Differences {
 
     /// Adds the lists to an outcome, for a person and for programs.
     pub fn told(self, outcome: Outcome) -> Outcome {
-        let mut outcome = outcome;
-        for (name, paths) in [
-            ("changed", self.changed),
-            ("missing", self.missing),
-            ("new", self.new),
-        ] {
-            outcome = outcome
-                .lines(paths.iter().map(|path| format!("{name}: {path}")))
-                .found(name, texts(&paths));
-        }
-        let moved = self.moved.iter();
-        let unreadable = self.unreadable.iter();
-        outcome
-            .lines(
-                moved
-                    .clone()
-                    .map(|(from, to)| format!("moved: {from}, which is now {to}")),
-            )
-            .found("moved", pairs(moved, ["from", "to"]))
-            .lines(
-                unreadable
-                    .clone()
-                    .map(|(path, why)| format!("unreadable: {path}: {why}")),
-            )
-            .found("unreadable", pairs(unreadable, ["path", "why"]))
+        let outcome = listed(
+            outcome,
+            "changed",
+            &self.changed,
+            Changed::told,
+            Changed::json,
+        );
+        let outcome = listed(outcome, "missing", &self.missing, Thing::told, Thing::json);
+        let outcome = listed(outcome, "new", &self.new, Thing::told, Thing::json);
+        let outcome = listed(outcome, "moved", &self.moved, Moved::told, Moved::json);
+        let (told, json) = (Unreadable::told, Unreadable::json);
+        listed(outcome, "unreadable", &self.unreadable, told, json)
     }
 }
 
-/// A list of objects with two texts each, under these names.
-fn pairs<'a>(items: impl Iterator<Item = &'a (String, String)>, names: [&'static str; 2]) -> Json {
-    let object = |(first, second): &(String, String)| {
-        Json::Object(vec![
-            (names[0], Json::text(first)),
-            (names[1], Json::text(second)),
+/// Adds a list to an outcome: a line for each item, and an object.
+fn listed<T>(
+    outcome: Outcome,
+    name: &'static str,
+    items: &[T],
+    told: fn(&T) -> String,
+    json: fn(&T) -> Json,
+) -> Outcome {
+    outcome
+        .lines(items.iter().map(|item| format!("{name}: {}", told(item))))
+        .found(name, Json::List(items.iter().map(json).collect()))
+}
+
+impl Changed {
+    fn told(&self) -> String {
+        let path = &self.path;
+        let (then, now) = (self.bytes_then, self.bytes_now);
+        match part_count(then) {
+            _ if then != now => format!("{path}, which had {then} bytes and has {now}"),
+            1 => path.clone(),
+            _ => format!("{path}, first in bytes {} to {}", self.first, self.last),
+        }
+    }
+
+    fn json(&self) -> Json {
+        let is_longer_or_shorter = self.bytes_then != self.bytes_now;
+        let kind = if is_longer_or_shorter {
+            "length"
+        } else {
+            "bytes"
+        };
+        let among = [("from", self.first), ("to", self.last)];
+        Json::object([
+            ("path", Json::text(&self.path)),
+            ("kind", Json::text(kind)),
+            (
+                "first_differing",
+                Json::object(among.map(|(name, at)| (name, Json::number(at)))),
+            ),
+            ("bytes_then", Json::number(self.bytes_then)),
+            ("bytes_now", Json::number(self.bytes_now)),
         ])
-    };
-    Json::List(items.map(object).collect())
+    }
+}
+
+impl Thing {
+    fn told(&self) -> String {
+        match self.kind {
+            FILE => self.path.clone(),
+            kind => format!("{}, which is {kind}", self.path),
+        }
+    }
+
+    fn json(&self) -> Json {
+        Json::object([
+            ("path", Json::text(&self.path)),
+            ("kind", Json::text(noun(self.kind))),
+        ])
+    }
+}
+
+impl Moved {
+    fn told(&self) -> String {
+        format!("{}, which is now {}", self.from, self.to)
+    }
+
+    fn json(&self) -> Json {
+        Json::object([
+            ("from", Json::text(&self.from)),
+            ("to", Json::text(&self.to)),
+            ("kind", Json::text(noun(FILE))),
+        ])
+    }
+}
+
+impl Unreadable {
+    fn told(&self) -> String {
+        format!("{}: {}", self.path, self.why)
+    }
+
+    fn json(&self) -> Json {
+        let kind = self.kind.map(noun);
+        Json::object([
+            ("path", Json::text(&self.path)),
+            ("why", Json::text(&self.why)),
+            ("kind", kind.map_or(Json::Null, Json::text)),
+        ])
+    }
+}
+
+/// What something is, without its article.
+fn noun(kind: &'static str) -> &'static str {
+    kind.strip_prefix("a ").unwrap_or(kind)
+}
+
+fn a_file(path: &[u8]) -> Thing {
+    Thing {
+        path: shown(path),
+        kind: FILE,
+    }
 }
 
 /// What could not be read, once each, rising by the paths: a file by the first of its parts.
-fn unreadable(now: &Now) -> Vec<(String, String)> {
+fn unreadable(then: &Manifest, now: &Now) -> Vec<Unreadable> {
     let mut found: BTreeMap<&[u8], &str> = BTreeMap::new();
     for file in now.files {
         if let Some(why) = file.parts.iter().find_map(|part| part.as_ref().err()) {
@@ -157,35 +272,52 @@ fn unreadable(now: &Now) -> Vec<(String, String)> {
     for (path, why) in now.unread {
         found.entry(path).or_insert(why);
     }
-    let shown = |(path, why): (&[u8], &str)| (written_path(path), why.to_string());
+    let shown = |(path, why): (&[u8], &str)| Unreadable {
+        path: shown(path),
+        why: why.to_string(),
+        kind: kind_of(path, then, now),
+    };
     found.into_iter().map(shown).collect()
 }
 
-/// How a file differs from the one of the same path that was sealed, as far as it could be read; none where no difference is known.
-fn changed(then: &Entry, now: &Committed) -> Option<String> {
-    let path = written_path(&then.path);
-    if then.bytes != now.bytes {
-        return Some(format!(
-            "{path}, which had {} bytes and has {}",
-            then.bytes, now.bytes
-        ));
+/// What stands at a path that cannot be read, by what is known of it or was when it was sealed.
+fn kind_of(path: &[u8], then: &Manifest, now: &Now) -> Option<&'static str> {
+    if now.find(path).is_some() || then.find(path).is_some() {
+        return Some(FILE);
     }
-    let differs =
-        |(then, now): (&Root, &Result<Root, String>)| matches!(now, Ok(now) if now != then);
-    let part = then.parts.iter().zip(&now.parts).position(differs)?;
-    let (start, size) = part_place(then.bytes, part);
-    Some(match then.parts.len() {
-        1 => path,
-        _ => format!(
-            "{path}, first in bytes {start} to {}",
-            start + size as u64 - 1
-        ),
+    let is_above = |entry: &Entry| match entry.path.strip_prefix(path) {
+        Some(rest) => rest.first() == Some(&b'/'),
+        None => false,
+    };
+    then.0.iter().any(is_above).then_some(FOLDER)
+}
+
+/// How a file differs from the one of the same path that was sealed, as far as it could be read; none where no difference is known.
+fn changed(then: &Entry, now: &Committed) -> Option<Changed> {
+    let place = |bytes: u64, part: usize| match part < part_count(bytes) {
+        true => part_place(bytes, part),
+        false => (bytes, 0),
+    };
+    let differs = |part: &usize| {
+        let is_as_long = place(then.bytes, *part) == place(now.bytes, *part);
+        let roots = (then.parts.get(*part), now.parts.get(*part));
+        !is_as_long || matches!(roots, (Some(then), Some(Ok(now))) if now != then)
+    };
+    let most = then.bytes.max(now.bytes);
+    let part = (0..part_count(most)).find(differs)?;
+    let (start, size) = part_place(most, part);
+    Some(Changed {
+        path: shown(&then.path),
+        bytes_then: then.bytes,
+        bytes_now: now.bytes,
+        first: start,
+        last: start + size as u64 - 1,
     })
 }
 
 #[cfg(test)]
 mod tests {
-    use super::{Differences, Now};
+    use super::{Changed, Differences, Moved, Now, Thing, Unreadable, FILE, FOLDER};
     use crate::manifest::{part_count, Entry, Manifest, PART};
     use crate::project::Committed;
     use dequmlo::Root;
@@ -228,8 +360,22 @@ mod tests {
         Differences::between(&Manifest(then.to_vec()), &now)
     }
 
-    fn texts(texts: &[&str]) -> Vec<String> {
-        texts.iter().map(|text| text.to_string()).collect()
+    fn things(paths: &[&str]) -> Vec<Thing> {
+        let file = |path: &&str| Thing {
+            path: path.to_string(),
+            kind: FILE,
+        };
+        paths.iter().map(file).collect()
+    }
+
+    fn changed(path: &str, bytes: [u64; 2], first: u64, last: u64) -> Changed {
+        Changed {
+            path: path.into(),
+            bytes_then: bytes[0],
+            bytes_now: bytes[1],
+            first,
+            last,
+        }
     }
 
     const WHY: &str = "Input/output error";
@@ -250,11 +396,15 @@ mod tests {
         ];
         let found = between(&then, &files, &[]);
         let expected = Differences {
-            changed: texts(&["c"]),
-            missing: texts(&["d"]),
-            new: texts(&["e"]),
+            changed: vec![changed("c", [5, 5], 0, 4)],
+            missing: things(&["d"]),
+            new: things(&["e"]),
             moved: Vec::new(),
-            unreadable: vec![("b".into(), WHY.into())],
+            unreadable: vec![Unreadable {
+                path: "b".into(),
+                why: WHY.into(),
+                kind: Some(FILE),
+            }],
         };
         assert_eq!(found, expected);
         assert!(found.any());
@@ -267,21 +417,39 @@ mod tests {
     fn what_is_known_of_a_file_that_cannot_be_read_whole() {
         let then = [sealed("a", PART + 5, 1)];
         let whole = now("a", PART + 5, 1);
-        let changed = |file: Committed| between(&then, &[file], &[]).changed;
-        assert_eq!(changed(whole.clone()), texts(&[]));
-        assert_eq!(changed(unread(whole.clone(), 0)), texts(&[]));
+        let found = |file: Committed| between(&then, &[file], &[]).changed;
+        assert_eq!(found(whole.clone()), []);
+        assert_eq!(found(unread(whole.clone(), 0)), []);
         let longer = unread(now("a", PART + 6, 1), 1);
-        assert_eq!(
-            changed(longer),
-            texts(&["a, which had 16777205 bytes and has 16777206"])
-        );
+        let bytes = [PART + 5, PART + 6];
+        assert_eq!(found(longer), [changed("a", bytes, PART, PART + 5)]);
+        let shorter = now("a", PART - 1, 1);
+        let bytes = [PART + 5, PART - 1];
+        assert_eq!(found(shorter), [changed("a", bytes, 0, PART - 1)]);
         let mut other = unread(whole, 0);
         other.parts[1] = Ok(Root([7; 32]));
-        assert_eq!(
-            changed(other.clone()),
-            texts(&["a, first in bytes 16777200 to 16777204"])
-        );
+        let bytes = [PART + 5; 2];
+        assert_eq!(found(other.clone()), [changed("a", bytes, PART, PART + 4)]);
         assert_eq!(between(&then, &[other], &[]).unreadable.len(), 1);
+    }
+
+    /// A file that was added to differs first behind the parts that are as they were.
+    #[test]
+    fn where_a_longer_file_first_differs() {
+        let then = [sealed("a", PART, 1)];
+        let found = between(&then, &[now("a", PART + 3, 1)], &[]).changed;
+        assert_eq!(found, [changed("a", [PART, PART + 3], PART, PART + 2)]);
+        assert_eq!(
+            found[0].told(),
+            "a, which had 16777200 bytes and has 16777203"
+        );
+        assert_eq!(
+            found[0].json().to_string(),
+            "{\"path\": \"a\", \"kind\": \"length\", \"first_differing\": {\"from\": 16777200, \"to\": 16777202}, \"bytes_then\": 16777200, \"bytes_now\": 16777203}"
+        );
+        let empty = [sealed("a", 0, 1)];
+        let found = between(&empty, &[now("a", 3, 1)], &[]).changed;
+        assert_eq!(found, [changed("a", [0, 3], 0, 2)]);
     }
 
     #[test]
@@ -293,11 +461,18 @@ mod tests {
             sealed("ab", 5, 4),
         ];
         let found = between(&then, &[], &[("a", "Permission denied")]);
-        assert_eq!(found.missing, texts(&["a b", "ab"]));
-        assert_eq!(
-            found.unreadable,
-            [("a".to_string(), "Permission denied".to_string())]
-        );
+        assert_eq!(found.missing, things(&["a b", "ab"]));
+        // It is not known as a folder either, where a file of that name was sealed.
+        let unreadable = |kind| Unreadable {
+            path: "a".into(),
+            why: "Permission denied".into(),
+            kind: Some(kind),
+        };
+        assert_eq!(found.unreadable, [unreadable(FILE)]);
+        let found = between(&then[1..], &[], &[("a", "Permission denied")]);
+        assert_eq!(found.unreadable, [unreadable(FOLDER)]);
+        let found = between(&[], &[], &[("a", "Permission denied")]);
+        assert_eq!(found.unreadable[0].kind, None);
     }
 
     #[test]
@@ -315,10 +490,13 @@ mod tests {
             unread(now("zz", 5, 1), 0),
         ];
         let found = between(&then, &files, &[]);
-        let moved = [("a", "x"), ("c", "z")].map(|(from, to)| (from.to_string(), to.to_string()));
+        let moved = [("a", "x"), ("c", "z")].map(|(from, to)| Moved {
+            from: from.into(),
+            to: to.into(),
+        });
         assert_eq!(found.moved, moved);
         // Of two missing files with the same bytes one was moved; an empty file may be any; what cannot be read may be any too.
-        assert_eq!(found.missing, texts(&["b", "d"]));
-        assert_eq!(found.new, texts(&["y", "zz"]));
+        assert_eq!(found.missing, things(&["b", "d"]));
+        assert_eq!(found.new, things(&["y", "zz"]));
     }
 }

@@ -36,6 +36,7 @@ mod request;
 mod seal;
 mod shape;
 mod shown;
+mod spelling;
 mod standing;
 mod statement;
 mod steady;

@@ -2,6 +2,9 @@
 //! has the same manifest everywhere.
 
 use crate::format::marked;
+use crate::hex;
+use crate::reading::acts_on_a_terminal;
+use crate::spelling::has_another_spelling;
 use crate::table::MOST_BYTES;
 use dequmlo::Root;
 use std::fmt::Write;
@@ -81,6 +84,13 @@ impl Manifest {
         place.ok().map(|place| &self.0[place])
     }
 
+    /// The file that a text names: as it is shown, or by the bytes of its path. Where both are files, the one that is shown so.
+    pub fn named(&self, text: &[u8]) -> Option<&Entry> {
+        let path = std::str::from_utf8(text).ok().and_then(unescaped);
+        path.and_then(|path| self.find(&path))
+            .or_else(|| self.find(text))
+    }
+
     pub fn bytes(&self) -> u64 {
         self.0.iter().map(|entry| entry.bytes).sum()
     }
@@ -104,8 +114,22 @@ impl Manifest {
 /// A path on one line: each byte below 32, the byte 127, the backslash, a blank at the end, and each byte that is not part of a character in
 /// UTF-8 are written as a backslash and two digits.
 pub fn escaped(path: &[u8]) -> String {
+    on_one_line(path, |_, _| false)
+}
+
+/// A path as it is shown to a person, by the same rule; and so are the bytes of each character that a terminal acts on, or that has another spelling which looks
+/// the same. It can be read back as a manifest's can, and two paths are shown alike only if they are the same.
+pub fn shown(path: &[u8]) -> String {
+    on_one_line(path, |before, c| {
+        acts_on_a_terminal(c) || has_another_spelling(before, c)
+    })
+}
+
+/// A path on one line, where the bytes of some more characters, behind the one before them, are written as digits too.
+fn on_one_line(path: &[u8], is_hidden: impl Fn(Option<char>, char) -> bool) -> String {
     let mut text = String::new();
     let mut rest = path;
+    let mut before = None;
     while !rest.is_empty() {
         let valid = match std::str::from_utf8(rest) {
             Ok(all) => all,
@@ -113,31 +137,37 @@ pub fn escaped(path: &[u8]) -> String {
         };
         for (i, c) in valid.char_indices() {
             let last = i + c.len_utf8() == rest.len();
-            if c < ' ' || c == '\x7f' || c == '\\' || c == ' ' && last {
-                escape(&mut text, c as u8);
+            let is_no_text = c < ' ' || c == '\x7f' || c == '\\' || c == ' ' && last;
+            if is_no_text || is_hidden(before, c) {
+                escape(&mut text, c.encode_utf8(&mut [0; 4]).as_bytes());
             } else {
                 text.push(c);
             }
+            before = Some(c);
         }
         rest = &rest[valid.len()..];
         if let [byte, after @ ..] = rest {
-            escape(&mut text, *byte);
+            escape(&mut text, &[*byte]);
             rest = after;
+            before = None;
         }
     }
     text
 }
 
-fn escape(text: &mut String, byte: u8) {
-    let _ = write!(text, "\\{byte:02x}");
+fn escape(text: &mut String, bytes: &[u8]) {
+    for byte in bytes {
+        let _ = write!(text, "\\{byte:02x}");
+    }
 }
 
-/// The path of a text; none where a backslash is not followed by two digits.
-fn unescaped(text: &str) -> Option<Vec<u8>> {
+/// The path of a text; none where a backslash is not followed by two digits in lowercase.
+pub fn unescaped(text: &str) -> Option<Vec<u8>> {
     let mut pieces = text.split('\\');
     let mut path = pieces.next()?.as_bytes().to_vec();
     for piece in pieces {
-        path.push(u8::from_str_radix(piece.get(..2)?, 16).ok()?);
+        let digits = piece.get(..2)?;
+        path.extend(hex::read(digits).filter(|byte| hex::write(byte) == digits)?);
         path.extend_from_slice(&piece.as_bytes()[2..]);
     }
     Some(path)
@@ -145,7 +175,7 @@ fn unescaped(text: &str) -> Option<Vec<u8>> {
 
 #[cfg(test)]
 mod tests {
-    use super::{escaped, part_count, part_place, unescaped, Entry, Manifest, PART};
+    use super::{escaped, part_count, part_place, shown, unescaped, Entry, Manifest, PART};
     use dequmlo::Root;
 
     const EMPTY: Entry = Entry {
@@ -179,8 +209,44 @@ mod tests {
             assert_eq!(escaped(path), text);
             assert_eq!(unescaped(text).unwrap(), path);
         }
-        for text in ["\\", "\\0", "a\\0g", "\\é"] {
+        for text in ["\\", "\\0", "a\\0g", "\\é", "\\+f", "\\0A"] {
             assert_eq!(unescaped(text), None, "{text}");
+        }
+    }
+
+    /// Two spellings of one name, and what a terminal acts on, are shown by their bytes, and read back.
+    #[test]
+    fn a_path_as_it_is_shown() {
+        for (path, text) in [
+            ("plans/grundriß é 立面図", "plans/grundriß é 立面図"),
+            ("e\u{301}", "e\\cc\\81"),
+            ("a\u{202e}b\u{85}", "a\\e2\\80\\aeb\\c2\\85"),
+            ("\u{301}", "\\cc\\81"),
+            ("two\nlines\\ ", "two\\0alines\\5c\\20"),
+        ] {
+            assert_eq!(shown(path.as_bytes()), text);
+            assert_eq!(unescaped(text).unwrap(), path.as_bytes());
+        }
+        assert_eq!(shown(b"\xe0\xa6\xff"), "\\e0\\a6\\ff");
+    }
+
+    #[test]
+    fn a_file_by_what_is_shown_of_it_or_by_its_bytes() {
+        let paths = [&b"a\\0a"[..], b"a\n", b"b\\c", b"c\xff"];
+        let mut files = paths.map(|path| file(path, 1)).to_vec();
+        files.sort_by(|a, b| a.path.cmp(&b.path));
+        let manifest = Manifest(files);
+        let path = |text: &[u8]| manifest.named(text).map(|entry| &entry.path[..]);
+        for file in &manifest.0 {
+            assert_eq!(path(shown(&file.path).as_bytes()), Some(&file.path[..]));
+        }
+        assert_eq!(path(b"a\\0a"), Some(&b"a\n"[..]));
+        assert_eq!(path(b"a\\5c0a"), Some(&b"a\\0a"[..]));
+        for text in [&b"a\n"[..], b"b\\c", b"c\xff"] {
+            assert_eq!(path(text), Some(text));
+        }
+        for text in [&b"a"[..], b"b\\5c", b"\\62\\5cd", b""] {
+            assert_eq!(path(text), None);
         }
     }
 

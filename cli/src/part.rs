@@ -2,18 +2,18 @@
 //! what is opened and checked is that part.
 
 use crate::format::all_known;
-use crate::manifest::{part_place, Manifest, MANIFEST, PART};
+use crate::manifest::{part_place, shown, Entry, Manifest, MANIFEST, PART};
 use crate::opened::Opened;
 use crate::options::Options;
 use crate::outcome::{Failure, Outcome};
-use crate::project::{root_of, written_path};
+use crate::project::root_of;
 use crate::questions::offsets;
 use crate::reading::{inside, unreadable, Unread};
 use crate::seal::{Seal, SEAL_FOLDER};
 use crate::shape::Shape;
 use crate::statement::another_key_in;
-use crate::table::{room_for, variables, MOST_BYTES};
-use dequmlo::{Sizes, Threads};
+use crate::table::{room_to_commit, variables, MOST_BYTES};
+use dequmlo::{Root, Sizes, Threads};
 use std::os::unix::ffi::OsStrExt;
 use std::path::Path;
 
@@ -26,11 +26,32 @@ pub struct Part {
     pub bytes: usize,
     index: usize,
     count: usize,
-    /// The project's manifest, as it was written.
-    pub manifest: Vec<u8>,
 }
 
 impl Part {
+    /// A part of a file, counted from 0.
+    pub fn of(entry: &Entry, index: usize) -> Part {
+        let (start, bytes) = part_place(entry.bytes, index);
+        Part {
+            path: entry.path.clone(),
+            start,
+            bytes,
+            index,
+            count: entry.parts.len(),
+        }
+    }
+
+    /// Every part of a manifest that has this root, as a table of 2^n words.
+    pub fn all_of(manifest: &Manifest, root: Root, n: usize) -> Vec<Part> {
+        let mut found = Vec::new();
+        for entry in &manifest.0 {
+            let indices = (0..entry.parts.len()).filter(|index| entry.parts[*index] == root);
+            found.extend(indices.map(|index| Part::of(entry, index)));
+        }
+        found.retain(|part| variables(part.bytes) == n);
+        found
+    }
+
     /// What a record of this part opens, at its offset in the whole file.
     pub fn placed(&self, opened: Opened) -> Opened {
         match self.count {
@@ -46,7 +67,7 @@ impl Part {
 
     /// The file, and which part of it where it has several.
     pub fn name(&self) -> String {
-        let path = written_path(&self.path);
+        let path = shown(&self.path);
         let end = self.start + self.bytes as u64;
         match self.count {
             1 => path,
@@ -89,7 +110,7 @@ pub fn manifest_in(
     if bytes.len() > MOST_BYTES || variables(bytes.len()) != *n {
         return another("it has another size".into());
     }
-    room_for(&seal.shape)?;
+    room_to_commit(&seal.shape)?;
     match root_of(&bytes, Threads::all(), seal.key(), domain, *widths, *k) {
         Ok(root) if root == seal.root => (),
         Ok(root) => {
@@ -183,27 +204,18 @@ fn part_seal(
 ) -> Result<Seal, Failure> {
     let path = options.path("--file").unwrap_or_default();
     let path = path.as_os_str().as_bytes();
-    let entry = manifest.find(path).ok_or_else(|| {
+    let entry = manifest.named(path).ok_or_else(|| {
         Failure(format!(
             "the project has no file {}; its {MANIFEST} lists {} files",
-            written_path(path),
+            shown(path),
             manifest.0.len()
         ))
     })?;
-    let count = entry.parts.len();
-    let index = part_asked(options, entry.bytes, count)?;
-    let (start, size) = part_place(entry.bytes, index);
+    let index = part_asked(options, entry.bytes, entry.parts.len())?;
+    let part = Part::of(entry, index);
     let shape = Shape {
-        n: variables(size),
+        n: variables(part.bytes),
         ..seal.shape
-    };
-    let part = Part {
-        path: entry.path.clone(),
-        start,
-        bytes: size,
-        index,
-        count,
-        manifest: bytes,
     };
     let about = format!(
         "What is asked about is the file {}. The project's root is {}, and the one below is that of the file, or of its part.",
@@ -217,6 +229,7 @@ fn part_seal(
         shape,
         root: entry.parts[index],
         part: Some(part),
+        manifest: Some(bytes),
         ..seal
     })
 }

@@ -1,11 +1,11 @@
 //! The files of a project's folder, and their parts committed on all cores, one part to a core at a time.
 
-use crate::manifest::{escaped, part_count, part_place, Entry, Manifest};
+use crate::manifest::{part_count, part_place, Entry, Manifest};
 use crate::outcome::{Failure, Outcome};
 use crate::progress::Progress;
-use crate::reading::{listed_stretch, shown_name, unreadable, Stretch, Unread};
+use crate::reading::{listed_stretch, unreadable, Stretch, Unread};
 use crate::steady::State;
-use crate::table::{room_for_many, table_in, table_of, variables};
+use crate::table::{room_to_commit_many, table_in, table_of};
 use dequmlo::{Buffers, Deposit, Key, Refusal, Root, Threads, Widths, Word};
 use std::ffi::OsStr;
 use std::mem;
@@ -21,11 +21,6 @@ pub fn file_path(folder: &Path, below: &[u8]) -> PathBuf {
         return folder.into();
     }
     folder.join(OsStr::from_bytes(below))
-}
-
-/// A path of a project as its manifest writes it, for a person.
-pub fn written_path(path: &[u8]) -> String {
-    shown_name(OsStr::new(&escaped(path)))
 }
 
 /// The bytes of a part of a file, in place of what is there. The file must be in the state in which it was listed, before and after.
@@ -188,9 +183,9 @@ fn committed(
     // The largest first, so that no core is left with one of them at the end, and that the buffers of a thread's first part serve for all others.
     let size = |(file, part): &Job| part_place(files[*file].1.length, *part).1;
     jobs.sort_by_key(|job| std::cmp::Reverse(size(job)));
-    let largest = variables(jobs.first().map_or(0, size));
+    let largest = jobs.first().map_or(0, size);
     let wanted = under.threads.number().min(jobs.len()).max(1);
-    let threads = room_for_many(widths, largest, k, wanted).map_err(Stop::Failed)?;
+    let threads = room_to_commit_many(widths, largest, k, wanted).map_err(Stop::Failed)?;
 
     let work = Work::new(&jobs, files.iter().map(|(_, state)| state.length).sum());
     thread::scope(|scope| {

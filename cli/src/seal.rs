@@ -29,6 +29,9 @@ const MOST_OF_A_SUMMARY: usize = 16_384;
 /// The folder that `--seal` names, for what is said where it is missing.
 pub const SEAL_FOLDER: &str = "the folder that `seal commit` wrote";
 
+/// How the summary of a project's seal begins to say what it stands for.
+const OF_A_PROJECT: &str = "It stands for the project";
+
 pub struct Seal {
     pub shape: Shape,
     pub sizes: Sizes,
@@ -43,6 +46,8 @@ pub struct Seal {
     pub notes: Vec<String>,
     /// Where it is that of a part of a project, which one.
     pub part: Option<Part>,
+    /// And the project's manifest, as it was written.
+    pub manifest: Option<Vec<u8>>,
     /// The key of its trees, where it is keyed and was read with it.
     pub key: Option<Key>,
 }
@@ -78,6 +83,12 @@ impl Seal {
         self.key.as_ref()
     }
 
+    /// Whether it stands for a project: it has a manifest, or its summary says so.
+    pub fn is_a_project_s(&self, folder: &Path) -> bool {
+        let said = self.summary.as_ref();
+        folder.join(MANIFEST).exists() || said.map_or(false, |line| line.starts_with(OF_A_PROJECT))
+    }
+
     /// The files of a seal, for a file of so many bytes.
     pub fn files(shape: &Shape, root: &Root, file: &str, bytes: usize) -> Vec<Named> {
         let Shape { n, k, widths, .. } = shape;
@@ -108,7 +119,7 @@ impl Seal {
         manifest: &Manifest,
     ) -> Vec<Named> {
         let summary = format!(
-            "{}\n\nIt stands for the project {project}: {} of {} bytes in all, in {}.\n\
+            "{}\n\n{OF_A_PROJECT} {project}: {} of {} bytes in all, in {}.\n\
              {MANIFEST} lists them with the root of each part, and the root below is that of {MANIFEST}, as a table of {} words (n = {}, k = {}), under the base domain {} and the {} set of widths.\n{}Root: {root}\n\n\
              Whoever keeps this root can check that what a holder shows later is what was deposited:\n`seal open` makes what is shown of a file, `seal check` \
              checks it, `seal verify` says what has changed.\n\n{}",
@@ -167,6 +178,7 @@ fn parts(folder: &Path, older: bool) -> Result<Seal, Failure> {
         vouched: lines.is_some(),
         notes,
         part: None,
+        manifest: None,
         key: None,
     })
 }

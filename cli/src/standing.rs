@@ -8,7 +8,7 @@ use crate::project::file_path;
 use crate::reading::{shown_path, steady_stretch, unreadable, Stretch};
 use crate::seal::Seal;
 use crate::shape::Shape;
-use crate::table::{read_table, room_for, table_of};
+use crate::table::{read_table, room_to_fold, table_of};
 use dequmlo::{Deposit, Folded, HalfFolded, Refusal, Threads, Word};
 use std::path::{Path, PathBuf};
 
@@ -29,7 +29,7 @@ impl Standing {
         if table.len() != seal.sizes.table_words {
             return Err(another_file(&path).into());
         }
-        room_for(&seal.shape)?;
+        room_to_fold(&seal.shape)?;
         progress.say(&format!("committing {} words ..", table.len()));
         let Shape {
             k, domain, widths, ..
@@ -48,7 +48,7 @@ impl Standing {
         seal: &Seal,
         progress: &Progress,
     ) -> Result<Standing, Ended> {
-        room_for(&seal.shape)?;
+        room_to_fold(&seal.shape)?;
         progress.say(&format!("checking levels 0 to {} ..", begun.level()));
         Ok(Standing::TakenUp(begun.take_up(threads, seal.key())?))
     }

@@ -3,7 +3,7 @@
 
 use crate::folder::{not_ours, Kind};
 use crate::outcome::Failure;
-use crate::reading::{lies_in, listed, reason};
+use crate::reading::{leads_through, listed, reason};
 use crate::system::try_lock;
 use std::ffi::{OsStr, OsString};
 use std::fs::{self, File, OpenOptions};
@@ -234,7 +234,7 @@ pub fn settled(folder: &Path, kind: Kind) -> Vec<String> {
         .unwrap_or_default()
 }
 
-/// Fails where a file of its own cannot be made at a path: something stands there, or it is in a folder that others prepared.
+/// Fails where a file of its own cannot be made at a path: something stands there, or it leads into a folder that others prepared, or through it.
 pub fn may_be_made(path: &Path, prepared: &Path) -> Result<(), Failure> {
     let shown = path.display();
     if fs::symlink_metadata(path).is_ok() {
@@ -243,9 +243,9 @@ pub fn may_be_made(path: &Path, prepared: &Path) -> Result<(), Failure> {
         )));
     }
     let folder = parent(path);
-    if lies_in(folder, prepared) {
+    if leads_through(folder, prepared) {
         return Err(Failure(format!(
-            "{shown} would lie in the opening; name a file elsewhere"
+            "{shown} would lie in the opening, or leads through it; name a file elsewhere"
         )));
     }
     if !folder.is_dir() {

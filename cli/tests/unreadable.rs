@@ -80,7 +80,7 @@ fn what_could_not_be_read_for_programs() {
         &[
             "\"verdict\": \"could-not-run\", \"accepted\": false, \"exit\": 2",
             "\"sentence\": \"it cannot be said whether house is the project that was sealed: 1 file or folder could not be read, or changed meanwhile.",
-            "\"changed\": [], \"missing\": [], \"new\": [], \"moved\": [], \"unreadable\": [{\"path\": \"b.txt\", \"why\": \"Input/output error\"}]",
+            "\"changed\": [], \"missing\": [], \"new\": [], \"moved\": [], \"unreadable\": [{\"path\": \"b.txt\", \"why\": \"Input/output error\", \"kind\": \"file\"}]",
         ],
     );
     desk.write("house/a.txt", b"another plan\n");
@@ -88,8 +88,8 @@ fn what_could_not_be_read_for_programs() {
         1,
         &[
             "\"verdict\": \"refused\"",
-            "\"changed\": [\"a.txt, which had 2100 bytes and has 13\"]",
-            "\"unreadable\": [{\"path\": \"b.txt\", \"why\": \"Input/output error\"}]",
+            "\"changed\": [{\"path\": \"a.txt\", \"kind\": \"length\", \"first_differing\": {\"from\": 0, \"to\": 2099}, \"bytes_then\": 2100, \"bytes_now\": 13}]",
+            "\"unreadable\": [{\"path\": \"b.txt\", \"why\": \"Input/output error\", \"kind\": \"file\"}]",
         ],
     );
 }
@@ -153,7 +153,7 @@ fn a_moved_file_is_known_by_its_bytes() {
     );
     run.does_not_say(&["changed", "missing: a", "missing: p", "new: n", "new: z"]);
     desk.run(&format!("{VERIFY} --json"))
-        .says(1, &["\"moved\": [{\"from\": \"a.txt\", \"to\": \"z.txt\"}, {\"from\": \"plans/c.txt\", \"to\": \"notes/section.txt\"}]"]);
+        .says(1, &["\"moved\": [{\"from\": \"a.txt\", \"to\": \"z.txt\", \"kind\": \"file\"}, {\"from\": \"plans/c.txt\", \"to\": \"notes/section.txt\", \"kind\": \"file\"}]"]);
 }
 
 #[test]

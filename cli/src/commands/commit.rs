@@ -10,7 +10,7 @@ use crate::progress::Progress;
 use crate::reading::{lies_in, shown_path};
 use crate::seal::Seal;
 use crate::shape::Shape;
-use crate::table::{read_table, room_for};
+use crate::table::{read_table, room_to_commit};
 use crate::writing::{beside, Target};
 use dequmlo::{Deposit, Parameters, Root, Widths};
 use std::path::Path;
@@ -53,7 +53,7 @@ pub fn run(options: &Options) -> Result<Outcome, Failure> {
         widths,
         key: key.map(CheckValue::of),
     };
-    room_for(&shape)?;
+    room_to_commit(&shape)?;
     let progress = Progress::start();
     progress.say(&format!("committing {} words ..", table.words.len()));
     let root = match Deposit::commit_on(threads, key, &shape.domain, widths, k, &table.words) {

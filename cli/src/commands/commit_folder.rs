@@ -4,10 +4,10 @@ use crate::commands::commit::told_key;
 use crate::folder::Kind;
 use crate::json::Json;
 use crate::key::{self, CheckValue, Given};
-use crate::manifest::{counted, Manifest, MANIFEST};
+use crate::manifest::{counted, shown, Manifest, MANIFEST};
 use crate::options::Options;
 use crate::outcome::{Failure, Outcome, Verdict};
-use crate::project::{file_path, manifest_of, root_of, written_path, Under};
+use crate::project::{file_path, manifest_of, root_of, Under};
 use crate::reading::{lies_in, reason, shown_path, unreadable};
 use crate::seal::Seal;
 use crate::shape::Shape;
@@ -120,7 +120,7 @@ fn not_a_project(project: &Path, found: &Walked) -> Option<String> {
     let names: Vec<String> = found
         .others
         .iter()
-        .map(|(path, what)| format!("{} is {what}", written_path(path)))
+        .map(|(path, what)| format!("{} is {what}", shown(path)))
         .collect();
     Some(format!(
         "{project} holds what is neither a file nor a folder, and a seal stands for files alone: {}. Take it out, or put the file itself in its place",

@@ -73,7 +73,7 @@ fn opened(options: &Options, threads: Threads, seal: &Seal) -> Result<Outcome, E
             let folded = standing.fold(threads, &asked.challenges)?;
             let opening = asked.opening(&seal.shape, &folded)?;
             asked.kept(&opening.roots, Some(opening.claim))?;
-            let manifest = seal.part.as_ref().map(|part| part.manifest.clone());
+            let manifest = seal.manifest.clone();
             notes.extend(target.write(&opening.files(&name, &asked.drawn, manifest))?);
             told(&opening, target.folder(), asked.first_round().is_some())
         }

@@ -12,7 +12,7 @@ use crate::progress::Progress;
 use crate::seal::{Seal, SEAL_FOLDER};
 use crate::shape::Shape;
 use crate::statement::{another_key_in, checker_s_seal};
-use crate::table::{read_table, room_for, Table};
+use crate::table::{read_table, room_to_commit, Table};
 use dequmlo::{Deposit, Threads, Word};
 use std::collections::BTreeMap;
 use std::path::Path;
@@ -43,6 +43,13 @@ pub fn run(options: &Options) -> Result<Outcome, Failure> {
         return verify_folder::run(file, threads, &folder, seal)
             .map(|outcome| key::found(outcome, value));
     }
+    if seal.is_a_project_s(&folder) {
+        return Err(Failure(format!(
+            "{} is a project's seal, and {} is a file: `seal verify FOLDER` says of the project's folder whether it is still the one that was sealed",
+            folder.display(),
+            file.display()
+        )));
+    }
     // A file that is too large for any seal is not the one that was sealed.
     let table = read_table(file)?.ok();
     let same = match &table {
@@ -66,7 +73,7 @@ fn has_root(seal: &Seal, threads: Threads, table: &Table) -> Result<bool, Failur
     if table.words.len() != seal.sizes.table_words {
         return Ok(false);
     }
-    room_for(&seal.shape)?;
+    room_to_commit(&seal.shape)?;
     let progress = Progress::start();
     progress.say(&format!("committing {} words ..", table.words.len()));
     let Shape {
