@@ -420,13 +420,17 @@ def answered(name, check, *given, yes="yes"):
     return True
 
 
+# More files than a seal has: the manifest of a project may be in parts.
+MOST_FILES = 10_000
+
+
 def read_seal(folder, older, key_file):
     """The mode, the base domain, the set of widths, n, k and the root, of a seal that is said to be older or not, with the file of its key or none. One whose
     check lines are not its files' is damaged (SPECIFICATION 15.5)."""
     if not folder.is_dir():
         raise CannotCheck(f"there is no seal {folder}")
     check = folder / "check.txt"
-    listed = [re.fullmatch("([0-9a-fA-F]{64})  (.*)", line) for line in written(check, 1024)] if os.path.lexists(check) else None
+    listed = [re.fullmatch("([0-9a-fA-F]{64})  (.*)", line) for line in written(check, 128 * MOST_FILES)] if os.path.lexists(check) else None
     if listed is not None and not all(listed):
         raise CannotCheck(f"the seal is damaged: {check} is not a list of digests")
     then = None if listed is None else {line.group(2): line.group(1).lower() for line in listed}
@@ -478,7 +482,7 @@ OTHER_FILES = 8 + 100
 
 def roots_of(opening, asked, n, kept):
     """The roots that an opening is checked under, if the opening is one at all: not too many files, and no text of another format."""
-    if sum(1 for _ in opening.iterdir()) > OTHER_FILES + max(40, len(asked.at)):
+    if sum(1 for _ in opening.iterdir()) > OTHER_FILES + max(40, len(asked.at)) + getattr(asked, "more_files", 0):
         raise CannotCheck("it holds more files than an opening has")
     for name in ("parameters.txt", "challenges.txt"):
         try:

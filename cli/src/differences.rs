@@ -1,9 +1,9 @@
 //! What differs between a project that was sealed and its folder as it is now, file by file; and what cannot be said because it cannot be read.
 
 use crate::json::Json;
-use crate::manifest::{part_count, part_place, shown, Entry, Manifest};
+use crate::manifest::{part_count, part_place, shown, Entry, Form, Manifest};
 use crate::outcome::Outcome;
-use crate::project::Committed;
+use crate::project::{Committed, Mark};
 use crate::walk::Said;
 use dequmlo::Root;
 use std::collections::{BTreeMap, HashMap, HashSet};
@@ -53,11 +53,14 @@ pub struct Unreadable {
 /// What a project is made of.
 const FILE: &str = "a file";
 const FOLDER: &str = "a folder";
+const EMPTY_FOLDER: &str = "an empty folder";
 
 /// The folder as it is now.
 pub struct Now<'a> {
     /// Rising by the bytes of their paths.
     pub files: &'a [Committed],
+    /// The folders in which there is nothing, rising.
+    pub folders: &'a [Vec<u8>],
     /// What is neither a file nor a folder, with what it is.
     pub others: &'a [(Vec<u8>, &'static str)],
     /// What could not be looked at or did not stay as it was, with the reason.
@@ -70,21 +73,43 @@ impl Now<'_> {
         place.ok().map(|place| &self.files[place])
     }
 
+    /// Whether a folder is there, with something in it or not.
+    fn has_folder(&self, path: &[u8]) -> bool {
+        let folder = path.to_vec();
+        let others = self.others.iter().map(|(path, _)| &path[..]);
+        let unread = self.unread.iter().map(|(path, _)| &path[..]);
+        self.folders.binary_search(&folder).is_ok()
+            || is_above(path, self.files, |file| &file.path)
+            || is_above(path, self.folders, |folder| folder)
+            || others.chain(unread).any(|other| is_below(other, path))
+    }
+
     /// Whether it cannot be said what is at a path: nobody could look at it, or into a folder above it.
     fn is_hidden(&self, path: &[u8]) -> bool {
-        let above = |(unread, _): &Said| match path.strip_prefix(&unread[..]) {
-            Some(rest) => rest.is_empty() || rest[0] == b'/',
-            None => false,
-        };
-        self.unread.iter().any(above)
+        let hides = |(unread, _): &Said| path == unread || is_below(path, unread);
+        self.unread.iter().any(hides)
     }
+}
+
+/// Whether a path lies below a folder.
+fn is_below(path: &[u8], folder: &[u8]) -> bool {
+    let rest = path.strip_prefix(folder);
+    rest.map_or(false, |rest| rest.first() == Some(&b'/'))
+}
+
+/// Whether one of these things, which rise by their paths, lies below a folder.
+fn is_above<T>(folder: &[u8], things: &[T], path: fn(&T) -> &Vec<u8>) -> bool {
+    let start = [folder, b"/"].concat();
+    let first = things.partition_point(|thing| *path(thing) < start);
+    let thing = things.get(first);
+    thing.map_or(false, |thing| path(thing).starts_with(&start))
 }
 
 impl Differences {
     pub fn between(then: &Manifest, now: &Now) -> Differences {
         let mut found = Differences::default();
         let mut missing = Vec::new();
-        for entry in &then.0 {
+        for entry in &then.files {
             match now.find(&entry.path) {
                 Some(file) => found.changed.extend(changed(entry, file)),
                 None if now.is_hidden(&entry.path) => (),
@@ -94,6 +119,9 @@ impl Differences {
         let is_new = |file: &&Committed| then.find(&file.path).is_none();
         let new: Vec<&Committed> = now.files.iter().filter(is_new).collect();
         found.told_apart(missing, new);
+        if then.form == Form::Second {
+            found.empty_folders(then, now);
+        }
         let others = now.others.iter();
         found.new.extend(others.map(|(path, what)| Thing {
             path: shown(path),
@@ -108,15 +136,19 @@ impl Differences {
     fn told_apart(&mut self, missing: Vec<&Entry>, new: Vec<&Committed>) {
         let mut by_parts: HashMap<(u64, Vec<Root>), Vec<&[u8]>> = HashMap::new();
         for file in new.iter().rev().filter(|file| file.bytes > 0) {
-            if let Some(entry) = file.entry() {
-                let paths = by_parts.entry((file.bytes, entry.parts)).or_default();
+            let [roots, digests] = [|mark: &Mark| mark.root, |mark: &Mark| mark.digest];
+            if let Some(parts) = file.marks(roots).or_else(|| file.marks(digests)) {
+                let paths = by_parts.entry((file.bytes, parts)).or_default();
                 paths.push(&file.path);
             }
         }
         let mut taken = HashSet::new();
         for entry in missing {
-            let key = (entry.bytes, entry.parts.clone());
-            match by_parts.get_mut(&key).and_then(Vec::pop) {
+            let mut by = |parts: &Vec<Root>| {
+                let paths = by_parts.get_mut(&(entry.bytes, parts.clone()));
+                paths.and_then(Vec::pop)
+            };
+            match by(&entry.parts).or_else(|| by(&entry.digests)) {
                 Some(to) => {
                     self.moved.push(Moved {
                         from: shown(&entry.path),
@@ -129,6 +161,24 @@ impl Differences {
         }
         let left = new.iter().filter(|file| !taken.contains(&file.path[..]));
         self.new.extend(left.map(|file| a_file(&file.path)));
+    }
+
+    /// Empty folders that are gone, and that came where nothing was sealed. One that has something in it now is there, and what is in it is new.
+    fn empty_folders(&mut self, then: &Manifest, now: &Now) {
+        let folder = |path: &Vec<u8>| Thing {
+            path: shown(path),
+            kind: EMPTY_FOLDER,
+        };
+        let is_gone = |path: &&Vec<u8>| !now.has_folder(path) && !now.is_hidden(path);
+        self.missing
+            .extend(then.folders.iter().filter(is_gone).map(folder));
+        let is_new = |path: &&Vec<u8>| {
+            then.folders.binary_search(path).is_err()
+                && !is_above(path, &then.files, |file| &file.path)
+                && !is_above(path, &then.folders, |folder| folder)
+        };
+        self.new
+            .extend(now.folders.iter().filter(is_new).map(folder));
     }
 
     /// Whether anything is known to differ.
@@ -251,7 +301,7 @@ impl Unreadable {
 
 /// What something is, without its article.
 fn noun(kind: &'static str) -> &'static str {
-    kind.strip_prefix("a ").unwrap_or(kind)
+    kind.split_once(' ').map_or(kind, |(_, noun)| noun)
 }
 
 fn a_file(path: &[u8]) -> Thing {
@@ -285,11 +335,7 @@ fn kind_of(path: &[u8], then: &Manifest, now: &Now) -> Option<&'static str> {
     if now.find(path).is_some() || then.find(path).is_some() {
         return Some(FILE);
     }
-    let is_above = |entry: &Entry| match entry.path.strip_prefix(path) {
-        Some(rest) => rest.first() == Some(&b'/'),
-        None => false,
-    };
-    then.0.iter().any(is_above).then_some(FOLDER)
+    is_above(path, &then.files, |file| &file.path).then_some(FOLDER)
 }
 
 /// How a file differs from the one of the same path that was sealed, as far as it could be read; none where no difference is known.
@@ -300,8 +346,7 @@ fn changed(then: &Entry, now: &Committed) -> Option<Changed> {
     };
     let differs = |part: &usize| {
         let is_as_long = place(then.bytes, *part) == place(now.bytes, *part);
-        let roots = (then.parts.get(*part), now.parts.get(*part));
-        !is_as_long || matches!(roots, (Some(then), Some(Ok(now))) if now != then)
+        !is_as_long || is_another(then, *part, now.parts.get(*part))
     };
     let most = then.bytes.max(now.bytes);
     let part = (0..part_count(most)).find(differs)?;
@@ -315,31 +360,57 @@ fn changed(then: &Entry, now: &Committed) -> Option<Changed> {
     })
 }
 
+/// Whether a part is known not to be the one that was sealed.
+fn is_another(then: &Entry, part: usize, now: Option<&Result<Mark, String>>) -> bool {
+    let now = match now {
+        Some(Ok(now)) => now,
+        _ => return false,
+    };
+    let differ = |then: Option<&Root>, now: Option<Root>| matches!((then, now), (Some(then), Some(now)) if *then != now);
+    differ(then.parts.get(part), now.root) || differ(then.digests.get(part), now.digest)
+}
+
 #[cfg(test)]
 mod tests {
     use super::{Changed, Differences, Moved, Now, Thing, Unreadable, FILE, FOLDER};
-    use crate::manifest::{part_count, Entry, Manifest, PART};
-    use crate::project::Committed;
+    use crate::manifest::{part_count, Entry, Form, Manifest, PART};
+    use crate::project::{Committed, Mark};
     use dequmlo::Root;
 
-    /// A file of so many bytes, each part of which has a root of these numbers.
+    /// A file of so many bytes, each part of which has a root and a digest of these numbers.
     fn sealed(path: &str, bytes: u64, root: u8) -> Entry {
+        let parts = (0..part_count(bytes)).map(|part| root + part as u8);
         Entry {
             path: path.as_bytes().to_vec(),
             bytes,
-            parts: (0..part_count(bytes))
-                .map(|part| Root([root + part as u8; 32]))
-                .collect(),
+            parts: parts.clone().map(|number| Root([number; 32])).collect(),
+            digests: parts.map(|number| Root([number + 100; 32])).collect(),
         }
     }
 
     fn now(path: &str, bytes: u64, root: u8) -> Committed {
         let entry = sealed(path, bytes, root);
+        let marks = entry.parts.iter().zip(&entry.digests);
+        let mark = |(root, digest): (&Root, &Root)| {
+            Ok(Mark {
+                root: Some(*root),
+                digest: Some(*digest),
+            })
+        };
         Committed {
-            path: entry.path,
+            path: entry.path.clone(),
             bytes,
-            parts: entry.parts.into_iter().map(Ok).collect(),
+            parts: marks.map(mark).collect(),
         }
+    }
+
+    /// The same of which the digests alone are known.
+    fn digested(path: &str, bytes: u64, root: u8) -> Committed {
+        let mut file = now(path, bytes, root);
+        for part in file.parts.iter_mut().flatten() {
+            part.root = None;
+        }
+        file
     }
 
     /// The same with a part that cannot be read.
@@ -354,10 +425,22 @@ mod tests {
         let unread: Vec<_> = unread.iter().map(said).collect();
         let now = Now {
             files,
+            folders: &[],
             others: &[],
             unread: &unread,
         };
-        Differences::between(&Manifest(then.to_vec()), &now)
+        Differences::between(&manifest(then, &[]), &now)
+    }
+
+    fn manifest(files: &[Entry], folders: &[&str]) -> Manifest {
+        Manifest {
+            form: Form::Second,
+            files: files.to_vec(),
+            folders: folders
+                .iter()
+                .map(|path| path.as_bytes().to_vec())
+                .collect(),
+        }
     }
 
     fn things(paths: &[&str]) -> Vec<Thing> {
@@ -427,7 +510,10 @@ mod tests {
         let bytes = [PART + 5, PART - 1];
         assert_eq!(found(shorter), [changed("a", bytes, 0, PART - 1)]);
         let mut other = unread(whole, 0);
-        other.parts[1] = Ok(Root([7; 32]));
+        other.parts[1] = Ok(Mark {
+            root: Some(Root([7; 32])),
+            digest: None,
+        });
         let bytes = [PART + 5; 2];
         assert_eq!(found(other.clone()), [changed("a", bytes, PART, PART + 4)]);
         assert_eq!(between(&then, &[other], &[]).unreadable.len(), 1);
@@ -498,5 +584,77 @@ mod tests {
         // Of two missing files with the same bytes one was moved; an empty file may be any; what cannot be read may be any too.
         assert_eq!(found.missing, things(&["b", "d"]));
         assert_eq!(found.new, things(&["y", "zz"]));
+    }
+
+    #[test]
+    fn digests_tell_what_roots_do() {
+        let then = [
+            sealed("a", 5, 1),
+            sealed("b", PART + 5, 2),
+            sealed("c", 5, 3),
+        ];
+        let files = [
+            digested("b", PART + 5, 2),
+            digested("d", 5, 1),
+            digested("e", 5, 8),
+        ];
+        let found = between(&then, &files, &[]);
+        assert_eq!(found.changed, []);
+        assert_eq!(found.moved[0].to, "d");
+        assert_eq!((found.missing, found.new), (things(&["c"]), things(&["e"])));
+        let other = digested("b", PART + 5, 9);
+        let found = between(&then[1..2], &[other], &[]).changed;
+        assert_eq!(found, [changed("b", [PART + 5; 2], 0, PART - 1)]);
+        // One of the two is enough.
+        for change in [
+            |mark: &mut Mark| mark.root = None,
+            |mark: &mut Mark| mark.digest = None,
+        ] {
+            let mut file = now("a", 5, 9);
+            file.parts.iter_mut().flatten().for_each(change);
+            assert_eq!(between(&then[..1], &[file], &[]).changed.len(), 1);
+        }
+    }
+
+    /// What differs in empty folders, of which these were sealed and these are there now.
+    fn of_folders(form: Form, then: &[&str], files: &[Committed], now: &[&str]) -> Differences {
+        let folders: Vec<Vec<u8>> = now.iter().map(|path| path.as_bytes().to_vec()).collect();
+        let now = Now {
+            files,
+            folders: &folders,
+            others: &[],
+            unread: &[("hidden".into(), "Permission denied".into())],
+        };
+        let then = manifest(&[sealed("a/b", 5, 1)], then);
+        Differences::between(&Manifest { form, ..then }, &now)
+    }
+
+    #[test]
+    fn empty_folders_that_are_gone_or_came() {
+        let here = [now("a/b", 5, 1)];
+        let folders = |paths: &[&str]| -> Vec<Thing> {
+            let folder = |path: &&str| Thing {
+                path: path.to_string(),
+                kind: "an empty folder",
+            };
+            paths.iter().map(folder).collect()
+        };
+        let found = of_folders(
+            Form::Second,
+            &["c", "d/e", "hidden/f"],
+            &here,
+            &["c", "d", "g"],
+        );
+        assert_eq!(found.missing, folders(&["d/e"]));
+        assert_eq!(found.new, folders(&["g"]));
+        assert_eq!(found.new[0].told(), "g, which is an empty folder");
+        // A folder that was emptied was there before, and one that was filled is there still.
+        let found = of_folders(Form::Second, &[], &[], &["a"]);
+        assert_eq!((found.missing, found.new), (things(&["a/b"]), Vec::new()));
+        let filled = [now("a/b", 5, 1), now("c/d", 5, 2)];
+        let found = of_folders(Form::Second, &["c"], &filled, &[]);
+        assert_eq!((found.missing, found.new), (Vec::new(), things(&["c/d"])));
+        // A seal of the first form says nothing of them.
+        assert!(!of_folders(Form::First, &[], &here, &["g"]).any());
     }
 }

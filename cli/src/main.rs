@@ -8,6 +8,7 @@ mod clock;
 mod commands;
 mod console;
 mod differences;
+mod digest;
 mod drawing;
 mod folder;
 mod format;
@@ -18,6 +19,7 @@ mod json;
 mod key;
 mod lines;
 mod manifest;
+mod manifest_files;
 #[cfg(test)]
 mod manifest_mutants;
 mod old_words;

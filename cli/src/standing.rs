@@ -1,11 +1,12 @@
 //! The levels that stand before `seal open` folds: level 0 of the sealed file, or those of interrupted work.
 
 use crate::begun::Begun;
+use crate::manifest::counted;
 use crate::outcome::{Ended, Failure};
 use crate::part::Part;
 use crate::progress::Progress;
 use crate::project::file_path;
-use crate::reading::{shown_path, steady_stretch, unreadable, Stretch};
+use crate::reading::{shown_path, steady_stretch, unreadable, Stretch, Unread};
 use crate::seal::Seal;
 use crate::shape::Shape;
 use crate::table::{read_table, room_to_fold, table_of};
@@ -30,7 +31,8 @@ impl Standing {
             return Err(another_file(&path).into());
         }
         room_to_fold(&seal.shape)?;
-        progress.say(&format!("committing {} words ..", table.len()));
+        let working = counted(threads.number(), "thread");
+        progress.say(&format!("committing {} words on {working} ..", table.len()));
         let Shape {
             k, domain, widths, ..
         } = &seal.shape;
@@ -86,10 +88,20 @@ fn read(file: &Path, seal: &Seal) -> Result<(Vec<Word>, PathBuf), Ended> {
         .into()),
         None => Ok((read_table(file)??.words, file.into())),
         Some(part) => {
-            let path = file_path(file, &part.path);
+            let path = of_project(file, part)?;
             Ok((read_part(&path, part)??, path))
         }
     }
+}
+
+/// The path of a part's file: below the project's folder, or what is named itself where that is a file.
+fn of_project(named: &Path, part: &Part) -> Result<PathBuf, Failure> {
+    if named.is_dir() {
+        return Ok(file_path(named, &part.path));
+    }
+    named
+        .canonicalize()
+        .map_err(|e| unreadable(named, Unread::from(e)))
 }
 
 /// The table of a part of a project's file, as the file is now: with a byte more where it does not end with the part.

@@ -2,7 +2,7 @@
 
 mod desk;
 
-use desk::{kept, Desk, CHECK, CHECK_UNKEPT, FORMAT, KEPT};
+use desk::{in_the_first_form, kept, Desk, CHECK, CHECK_UNKEPT, FORMAT, KEPT};
 use std::fs;
 use std::path::Path;
 
@@ -180,10 +180,19 @@ fn projects_are_accepted(desk: &Desk, profile: &str, widths: &str) {
         "commit house --profile {profile} --widths {widths} --out house.again"
     ))
     .says(0, &[]);
-    assert_eq!(
-        desk.value("house.again/root.txt"),
-        desk.value("house.seal/root.txt")
-    );
+    // The manifest has more in it now, and the same roots.
+    let [again, then] = ["house.again", "house.seal"]
+        .map(|seal| in_the_first_form(&desk.text(&format!("{seal}/manifest.txt"))));
+    assert_eq!(again, then);
+    desk.run("verify house --seal house.seal --json")
+        .says(0, &["\"compared_by\": \"roots\""]);
+    desk.run("verify house --seal house.again --json")
+        .says(0, &["\"compared_by\": \"digests\""]);
+    desk.write("house/plans/north.txt", b"another");
+    for seal in ["house.seal", "house.again"] {
+        desk.run(&format!("verify house --seal {seal}"))
+            .says(1, &["changed: plans/north.txt, which had "]);
+    }
 }
 
 #[test]

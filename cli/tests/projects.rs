@@ -75,7 +75,7 @@ fn the_manifest_has_every_file_in_one_form_and_its_root_is_the_project_s() {
     paths.sort();
     let expected: Vec<&str> = paths.iter().map(|(_, text)| *text).collect();
     assert_eq!(written, expected);
-    assert!(text.starts_with("format 1\nfile 9 b1/back"));
+    assert!(text.starts_with("format 2\nfile 9 b1/back"));
     // Each part and the manifest are sealed as files are.
     for (file, root) in [
         ("house.seal/manifest.txt", desk.value("house.seal/root.txt")),
@@ -101,8 +101,9 @@ fn the_manifest_has_every_file_in_one_form_and_its_root_is_the_project_s() {
 /// The root in the line behind a file's.
 fn part_root(manifest: &str, file: &str) -> String {
     let mut lines = manifest.lines().skip_while(|line| *line != file);
-    let part = lines.nth(1).unwrap();
-    part.strip_prefix("part ").unwrap().into()
+    let part: Vec<&str> = lines.nth(1).unwrap().split(' ').collect();
+    assert_eq!((part.len(), part[0]), (3, "part"));
+    part[1].into()
 }
 
 #[test]
@@ -113,8 +114,6 @@ fn the_same_files_have_the_same_root_wherever_and_whenever_they_are_sealed() {
         .current_dir(&desk.0)
         .status();
     assert!(copied.unwrap().success());
-    // A folder without files leaves no trace.
-    fs::create_dir_all(desk.path("copy/nothing/in/it")).unwrap();
     desk.run("commit copy/").says(0, &["root "]);
     assert_eq!(
         desk.read("copy.seal/root.txt"),
@@ -297,11 +296,11 @@ fn a_refusal_says_whether_the_manifest_or_a_record_failed() {
         );
         run.does_not_say(&[": accepted", "position"]);
     }
-    let newer = sound.replacen("format 1", "format 2", 1);
+    let newer = sound.replacen("format 2", "format 3", 1);
     desk.write("house.opening/manifest.txt", newer.as_bytes());
     desk.run(CHECK).says(
         1,
-        &["manifest: refused: house.opening/manifest.txt says that it is of format 2"],
+        &["manifest: refused: house.opening/manifest.txt says that it is of format 3, and this program, "],
     );
     fs::remove_file(desk.path("house.opening/manifest.txt")).unwrap();
     desk.run(CHECK)
@@ -795,7 +794,7 @@ fn a_record_that_shows_another_length_than_the_manifest_is_refused() {
 fn a_file_is_not_verified_by_a_project_s_seal() {
     let desk = sealed("project-file");
     let verify = "verify house.seal/manifest.txt --seal house.seal";
-    let said = "house.seal is a project's seal, and house.seal/manifest.txt is a file";
+    let said = "house.seal is a project's seal, and house.seal/manifest.txt is a file; the project has 16 files: ";
     desk.run(verify).says(2, &[said]);
     desk.run("verify house/plan.txt --seal house.seal")
         .says(2, &["house.seal is a project's seal"]);
@@ -832,4 +831,103 @@ fn an_opening_of_one_of_two_files_with_the_same_bytes_is_shown() {
         .replace("part ", "part 0");
     desk.write("house.opening/manifest.txt", other.as_bytes());
     desk.run("show house.opening").does_not_say(&["note: "]);
+}
+
+/// By default the digests that the manifest keeps are compared, which is said; with --full every part is committed anew.
+#[test]
+fn a_project_is_verified_by_digests_or_in_full() {
+    let desk = sealed("project-digests");
+    let note = "note: the parts were compared by the BLAKE3 digests that the manifest keeps; --full commits each part anew\n";
+    desk.run(VERIFY).says(0, &["yes: ", note]);
+    let full = format!("{VERIFY} --full");
+    desk.run(&full).does_not_say(&["note: "]);
+    for (line, by) in [(VERIFY, "digests"), (&full, "roots")] {
+        let run = desk.run(&format!("{line} --json"));
+        run.says(0, &[&format!("\"compared_by\": \"{by}\"")]);
+    }
+    // The digest is that of the part's bytes.
+    let text = desk.text("house.seal/manifest.txt");
+    let digest = dequmlo::Root(dequmlo::digest(&plan()).unwrap()).to_string();
+    let root = part_root(&text, "file 960 plan.txt");
+    assert!(text.contains(&format!("file 960 plan.txt\npart {root} {digest}\n")));
+    desk.damage("house/plan.txt", 500);
+    fs::rename(desk.path("house/b1"), desk.path("house/b3")).unwrap();
+    for line in [VERIFY, &full] {
+        desk.run(line).says(
+            1,
+            &[
+                "no: house is not the project that was sealed\nchanged: plan.txt\n",
+                "moved: b1/end\\20, which is now b3/end\\20\n",
+            ],
+        );
+    }
+    // A seal that has lost its manifest, or whose manifest is damaged, is one whose folder is committed anew.
+    desk.damage("house/plan.txt", 500);
+    fs::rename(desk.path("house/b3"), desk.path("house/b1")).unwrap();
+    desk.damage("house.seal/manifest.txt", 100);
+    desk.run(&format!("{VERIFY} --json"))
+        .says(0, &["yes: ", "\"compared_by\": \"roots\""]);
+    fs::remove_file(desk.path("house.seal/manifest.txt")).unwrap();
+    desk.run(VERIFY).says(0, &["yes: "]);
+    desk.folder("house/more");
+    desk.run(VERIFY).says(1, &["no: "]);
+}
+
+/// A digest in the manifest is under the project's root: another one is another project's.
+#[test]
+fn the_root_covers_the_digests() {
+    let desk = sealed("project-covered");
+    desk.run(OPEN).says(0, &[]);
+    desk.keep_roots("house.opening");
+    let text = desk.text("house.seal/manifest.txt");
+    let digest = dequmlo::Root(dequmlo::digest(&plan()).unwrap()).to_string();
+    let other = dequmlo::Root(dequmlo::digest(b"another").unwrap()).to_string();
+    let changed = text.replace(&digest, &other);
+    assert_ne!(changed, text);
+    desk.write("house.opening/manifest.txt", changed.as_bytes());
+    desk.run(CHECK).says(1, &["manifest: refused: "]);
+    desk.write("house.seal/manifest.txt", changed.as_bytes());
+    desk.write("house/plan.txt", b"another");
+    desk.run(VERIFY)
+        .says(2, &["the seal in house.seal is damaged: its manifest.txt"]);
+}
+
+/// A folder in which there is nothing is in the manifest, and is missed, or new.
+#[test]
+fn empty_folders_are_listed() {
+    let desk = sealed("project-folders");
+    let without = desk.value("house.seal/root.txt");
+    fs::create_dir_all(desk.path("house/nothing/in it\n")).unwrap();
+    desk.run(VERIFY)
+        .says(1, &["new: nothing/in it\\0a, which is an empty folder\n"]);
+    desk.run("commit house --force").says(0, &["16 files, "]);
+    assert_ne!(desk.value("house.seal/root.txt"), without);
+    let text = desk.text("house.seal/manifest.txt");
+    assert!(
+        text.contains("\nfolder nothing/in it\\0a\nfile 960 plan.txt\n"),
+        "{text}"
+    );
+    assert_eq!(text.matches("folder ").count(), 1);
+    desk.run(VERIFY).says(0, &["yes: "]);
+    desk.run(&format!("{VERIFY} --full")).says(0, &["yes: "]);
+    fs::remove_dir(desk.path("house/nothing/in it\n")).unwrap();
+    desk.run(VERIFY).says(
+        1,
+        &[
+            "missing: nothing/in it\\0a, which is an empty folder\n",
+            "no: ",
+        ],
+    );
+    desk.run(&format!("{VERIFY} --json")).says(
+        1,
+        &["\"missing\": [{\"path\": \"nothing/in it\\\\0a\", \"kind\": \"empty folder\"}], \"new\": []"],
+    );
+    fs::remove_dir(desk.path("house/nothing")).unwrap();
+    desk.run(VERIFY)
+        .says(1, &["missing: nothing/in it\\0a, which is an empty folder"]);
+    // One that has something in it now is there.
+    put(&desk, "house", b"nothing/in it\n/new", b"");
+    let run = desk.run(VERIFY);
+    run.says(1, &["new: nothing/in it\\0a/new\n"]);
+    run.does_not_say(&["missing"]);
 }

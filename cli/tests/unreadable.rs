@@ -8,6 +8,9 @@ use std::fs;
 
 const VERIFY: &str = "verify house --seal house.seal";
 
+/// What is said beside every answer.
+const BY: &str = "note: the parts were compared by the BLAKE3 digests that the manifest keeps; --full commits each part anew\n";
+
 const SAID: &str = "seal: it cannot be said whether house is the project that was sealed: 1 file or folder could not be read, or changed meanwhile. All that could be read is as it was sealed\n";
 
 /// A sealed project of a few files.
@@ -49,7 +52,7 @@ fn a_file_that_cannot_be_read_is_listed_and_the_others_are_verified() {
     for (disk, listed) in &BAD {
         let run = desk.on(disk, VERIFY);
         run.says(2, &[]);
-        assert_eq!((&*run.out, &*run.err), (*listed, SAID));
+        assert_eq!((&*run.out, &*run.err), (&*format!("{listed}{BY}"), SAID));
     }
     desk.write("house/a.txt", b"another plan\n");
     fs::remove_file(desk.path("house/notes/e.txt")).unwrap();

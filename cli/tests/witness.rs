@@ -1046,7 +1046,19 @@ fn the_witness_knows_a_manifest_by_its_form() {
         (sound.replace("960 b", "960 ./b"), 1),
         (format!("{sound}{twice}"), 1),
         (format!("{sound}{part}\n"), 1),
-        (sound.replace("format 1\n", ""), 1),
+        (sound.replace("format 2\n", ""), 1),
+        (sound.replace("format 2", "format 1"), 1),
+        (desk::in_the_first_form(&sound), 0),
+        (
+            desk::in_the_first_form(&sound).replace("format 1", "format 2"),
+            1,
+        ),
+        (sound.replace("file 960 b", "folder a\nfile 960 b"), 0),
+        (
+            sound.replace("file 960 b", "folder a\nfolder a/c\nfile 960 b"),
+            1,
+        ),
+        (format!("{}folder c\n", desk::in_the_first_form(&sound)), 1),
         (format!("{sound} "), 1),
         (sound.replace('\n', "\r\n"), 1),
     ] {

@@ -195,7 +195,7 @@ impl Asked {
     fn read(options: &Options, seal: &Seal) -> Result<Asked, Failure> {
         match requested(options, seal)? {
             Some(request) => Asked::by_request(request),
-            None => Asked::by_options(options, &seal.shape),
+            None => Asked::by_options(options, seal),
         }
     }
 
@@ -216,10 +216,11 @@ impl Asked {
         Ok(asked)
     }
 
-    fn by_options(options: &Options, shape: &Shape) -> Result<Asked, Failure> {
+    fn by_options(options: &Options, seal: &Seal) -> Result<Asked, Failure> {
+        let shape = &seal.shape;
         let asked = Asked {
             challenges: challenges(options, shape.n)?.map(|(words, _)| words),
-            positions: positions(options, shape)?,
+            positions: positions(options, shape, seal.part.is_some())?,
             request: None,
         };
         let own = options.has("--own-questions");

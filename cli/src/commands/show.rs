@@ -6,16 +6,15 @@ use crate::hex;
 use crate::json::Json;
 use crate::key;
 use crate::lines::{items, most_bytes};
-use crate::manifest::{shown, Manifest, MANIFEST};
+use crate::manifest::shown;
 use crate::opened::{as_digits, as_text, Opened};
 use crate::opening::{record_name, record_position, ROOTS};
 use crate::options::Options;
 use crate::outcome::{Failure, Outcome, Verdict};
-use crate::part::Part;
+use crate::part::{unchecked_manifest, Part};
 use crate::reading::{inside, listed, reason, text_inside, unreadable};
 use crate::shape::{Shape, PARAMETERS};
 use crate::shown::some_of;
-use crate::table::MOST_BYTES;
 use dequmlo::Root;
 use std::path::Path;
 
@@ -120,11 +119,10 @@ fn first_line(folder: &Path) -> Option<String> {
 /// The parts of a project of which it may be an opening, by the manifest in it and the root that it was made for; where several have the same bytes, the one that
 /// the summary names, if it names one. None where there is no manifest.
 fn parts(folder: &Path, n: usize, summary: Option<&str>) -> Option<Vec<Part>> {
-    let manifest = inside(folder, MANIFEST, MOST_BYTES).ok()?;
-    let manifest = String::from_utf8(manifest).ok()?;
+    let manifest = unchecked_manifest(folder)?;
     let roots = text_inside(folder, ROOTS, most_bytes(n + 1, 64)).ok()?;
     let roots: Vec<Root> = items(&folder.join(ROOTS), &roots).ok()?;
-    let mut found = Part::all_of(&Manifest::of_text(&manifest)?, *roots.first()?, n);
+    let mut found = Part::all_of(&manifest, *roots.first()?, n);
     let is_named = |part: &Part| {
         let line = format!("{} {}.", Kind::Opening.heading(), part.name());
         Some(&line[..]) == summary
