@@ -400,7 +400,9 @@ fn the_witness_numbers_each_damage_of_the_tail() {
 fn the_witness_accepts_what_earlier_versions_wrote() {
     let desk = Desk::new("witness-fixtures");
     let fixtures = concat!(env!("CARGO_MANIFEST_DIR"), "/tests/fixtures/v1");
-    for version in ["0.1.0", "0.2.0", "0.3.0", "0.4.0", "0.5.0", "0.6.0"] {
+    for version in [
+        "0.1.0", "0.2.0", "0.3.0", "0.4.0", "0.5.0", "0.6.0", "0.10.0",
+    ] {
         let folder = format!("{fixtures}/{version}");
         fs::copy(
             format!("{folder}/plan.txt.opening/challenges.txt"),
