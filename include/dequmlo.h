@@ -34,9 +34,9 @@
 
 /* The version of this header, which is that of the archive beside it. */
 #define DEQUMLO_VERSION_MAJOR 0
-#define DEQUMLO_VERSION_MINOR 9
+#define DEQUMLO_VERSION_MINOR 10
 #define DEQUMLO_VERSION_PATCH 0
-#define DEQUMLO_VERSION "0.9.0"
+#define DEQUMLO_VERSION "0.10.0"
 
 /* The sets of widths. The present one has groups of 8 words in levels of 16 words or more, the wide one groups of 32 in levels of 64 or more. Shorter
    levels have groups of 2 words under either, and a level of one word has one. Seals that were made before version 0.6.0 have the present set. */

@@ -266,6 +266,22 @@ def check_query(mode, base, widths, n, k, position, challenges, roots, record):
         ask(26, folded(a, b, challenges[l]) == c, l)
 
 
+def check_length(n, position, length, record):
+    """SPECIFICATION 16.5: an accepted record of a part of a project shows no other length than the manifest says, if it shows one."""
+    group = Reader(record).query()[0][3]
+    last = 2 ** n - 1 - position // len(group) * len(group)
+    if 0 <= last < len(group) and int.from_bytes(group[last], "little") != length:
+        raise No(f"it shows a length of {int.from_bytes(group[last], 'little')} bytes, and the manifest says {length}")
+
+
+def check_record_of(length, *given):
+    """A record by 8.6 and, where a manifest says how many bytes were sealed, by that."""
+    check_query(*given)
+    _, _, _, n, _, position, _, _, record = given
+    if length is not None:
+        check_length(n, position, length, record)
+
+
 def check_tail(mode, base, widths, n, k, root, claim, record):
     """SPECIFICATION 8.7."""
     ask(4, 1 <= n <= 20 and k <= 4)
@@ -404,13 +420,17 @@ def answered(name, check, *given, yes="yes"):
     return True
 
 
+# More files than a seal has: the manifest of a project may be in parts.
+MOST_FILES = 10_000
+
+
 def read_seal(folder, older, key_file):
     """The mode, the base domain, the set of widths, n, k and the root, of a seal that is said to be older or not, with the file of its key or none. One whose
     check lines are not its files' is damaged (SPECIFICATION 15.5)."""
     if not folder.is_dir():
         raise CannotCheck(f"there is no seal {folder}")
     check = folder / "check.txt"
-    listed = [re.fullmatch("([0-9a-fA-F]{64})  (.*)", line) for line in written(check, 1024)] if os.path.lexists(check) else None
+    listed = [re.fullmatch("([0-9a-fA-F]{64})  (.*)", line) for line in written(check, 128 * MOST_FILES)] if os.path.lexists(check) else None
     if listed is not None and not all(listed):
         raise CannotCheck(f"the seal is damaged: {check} is not a list of digests")
     then = None if listed is None else {line.group(2): line.group(1).lower() for line in listed}
@@ -462,7 +482,7 @@ OTHER_FILES = 8 + 100
 
 def roots_of(opening, asked, n, kept):
     """The roots that an opening is checked under, if the opening is one at all: not too many files, and no text of another format."""
-    if sum(1 for _ in opening.iterdir()) > OTHER_FILES + max(40, len(asked.at)):
+    if sum(1 for _ in opening.iterdir()) > OTHER_FILES + max(40, len(asked.at)) + getattr(asked, "more_files", 0):
         raise CannotCheck("it holds more files than an opening has")
     for name in ("parameters.txt", "challenges.txt"):
         try:
@@ -474,7 +494,7 @@ def roots_of(opening, asked, n, kept):
     return kept if kept is not None else digests(opening / "roots.txt", n + 1)
 
 
-def check_record(asked, opening, position, size, given):
+def check_record(asked, opening, position, size, length, given):
     """Prints the answer for a position. Whether it is yes."""
     path = opening / f"query-{position}.record"
     if not os.path.lexists(path):
@@ -487,12 +507,12 @@ def check_record(asked, opening, position, size, given):
         return False
     mode, base, widths, n, k, challenges, roots = given
     given = (mode, base, widths, n, k, position, challenges, roots, record)
-    return answered(f"position {position}", check_query, *given, yes="yes" if asked.roots is not None else "yes on level 0")
+    return answered(f"position {position}", check_record_of, length, *given, yes="yes" if asked.roots is not None else "yes on level 0")
 
 
-def check_opening(asked, mode, base, widths, n, k, root):
+def check_opening(asked, mode, base, widths, n, k, root, length=None):
     """Prints an answer for each position and one for the tail. The exit status. Level 0's root is the office's, whatever the opening says; the other roots count
-    where the checker kept them. What the opening lacks is the holder's, and a no."""
+    where the checker kept them. What the opening lacks is the holder's, and a no. A manifest says how many bytes were sealed under the root."""
     opening = Path(asked.OPENING)
     if not opening.is_dir():
         raise CannotCheck(f"there is no opening {opening}")
@@ -512,7 +532,7 @@ def check_opening(asked, mode, base, widths, n, k, root):
         print(f"position {position}: no: the opening has {files[position]} files for it")
     yes = not doubles
     for position in asked.at:
-        yes &= check_record(asked, opening, position, query_bytes, (mode, base, widths, n, k, challenges, roots))
+        yes &= check_record(asked, opening, position, query_bytes, length, (mode, base, widths, n, k, challenges, roots))
     try:
         shown = opening / "claim.txt"
         claim = expected if expected is not None else word(shown, one(shown, lines(shown, most_bytes(1, 32))))

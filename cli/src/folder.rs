@@ -3,7 +3,7 @@
 
 use crate::begun::piece_of;
 use crate::check_lines::{CheckLines, CHECK};
-use crate::manifest::MANIFEST;
+use crate::manifest_files::is_of_a_manifest;
 use crate::opening::record_position;
 use crate::reading::{inside, listed, reason, shown_name};
 use std::ffi::OsStr;
@@ -98,8 +98,8 @@ impl Kind {
     fn may_have(self, name: &str) -> bool {
         match self {
             _ if name == CHECK => true,
-            Kind::Seal => name == MANIFEST,
-            Kind::Opening => name == MANIFEST || record_position(name).is_some(),
+            Kind::Seal => is_of_a_manifest(name),
+            Kind::Opening => is_of_a_manifest(name) || record_position(name).is_some(),
             Kind::Begun => piece_of(name).is_some(),
             Kind::Request => ["roots.txt", "claim.txt", "positions.txt"].contains(&name),
             _ => false,

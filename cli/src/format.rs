@@ -16,9 +16,17 @@ pub const PROGRAM: &str = concat!("seal ", env!("CARGO_PKG_VERSION"));
 /// More than the bytes of a first line with a format.
 const FIRST_LINE: usize = 64;
 
+/// The formats of manifests that this program reads; it writes the last.
+const OF_MANIFESTS: [&str; 2] = [FORMAT, "2"];
+
+/// The first line of a text of this format.
+pub fn first_line(format: &str) -> String {
+    format!("format {format}\n")
+}
+
 /// A text as it is written into a file.
 pub fn marked(text: &str) -> String {
-    format!("format {FORMAT}\n{text}")
+    format!("{}{text}", first_line(FORMAT))
 }
 
 /// The last line of a summary.
@@ -35,7 +43,7 @@ pub struct Body<'a> {
 impl<'a> Body<'a> {
     /// Fails where the text is of another format.
     pub fn of(path: &Path, text: &'a str) -> Result<Body<'a>, Failure> {
-        known(path, text)?;
+        known(path, text, &[FORMAT])?;
         let marked = stated(text).is_some();
         let end = text.find('\n').map_or(text.len(), |end| end + 1);
         let text = if marked { &text[end..] } else { text };
@@ -55,22 +63,40 @@ impl<'a> Body<'a> {
 /// Fails where one of these files of a folder is of another format. No more than the first line is read: what is wrong with the rest is said
 /// where it is needed.
 pub fn all_known(folder: &Path, names: &[&str]) -> Result<(), Failure> {
-    names
-        .iter()
-        .try_for_each(|name| match inside(folder, name, FIRST_LINE) {
-            Ok(bytes) => known(&folder.join(name), &String::from_utf8_lossy(&bytes)),
-            Err(_) => Ok(()),
-        })
+    let of_format = |name: &&str| in_format(folder, name, &[FORMAT]);
+    names.iter().try_for_each(of_format)
 }
 
-fn known(path: &Path, text: &str) -> Result<(), Failure> {
+/// The same of a manifest, which has formats of its own.
+pub fn known_manifest(folder: &Path, name: &str) -> Result<(), Failure> {
+    in_format(folder, name, &OF_MANIFESTS)
+}
+
+fn in_format(folder: &Path, name: &str, formats: &[&str]) -> Result<(), Failure> {
+    match inside(folder, name, FIRST_LINE) {
+        Ok(bytes) => known(
+            &folder.join(name),
+            &String::from_utf8_lossy(&bytes),
+            formats,
+        ),
+        Err(_) => Ok(()),
+    }
+}
+
+fn known(path: &Path, text: &str, formats: &[&str]) -> Result<(), Failure> {
     match stated(text) {
-        Some(format) if format != FORMAT => {
+        Some(format) if !formats.contains(&format) => {
             let format: String = format.chars().take(FIRST_LINE).collect();
+            let noun = if formats.len() == 1 {
+                "format"
+            } else {
+                "formats"
+            };
             Err(Failure(format!(
-                "{} says that it is of format {}, and this program, {PROGRAM}, knows format {FORMAT} alone; a newer program may know it",
+                "{} says that it is of format {}, and this program, {PROGRAM}, knows {noun} {} alone; a newer program may know it",
                 path.display(),
-                shown_name(OsStr::new(&format))
+                shown_name(OsStr::new(&format)),
+                formats.join(" and ")
             )))
         }
         _ => Ok(()),

@@ -64,9 +64,10 @@ const COMMANDS: [Command; 13] = [
     },
     Command {
         name: "verify",
-        usage: "seal verify FILE|FOLDER --seal FOLDER [--opening FOLDER] [--threads N]",
+        usage: "seal verify FILE|FOLDER --seal FOLDER [--opening FOLDER] [--full] [--threads N]",
         does: "Says whether a file is still the one that was sealed. Where it is not and an opening shows old words, says where it first differs.\n    \
-               Of a project it lists which files changed, are missing, are new, were moved or cannot be read.",
+               Of a project it lists which files changed, are missing, are new, were moved or cannot be read. It compares the digests that the seal keeps; with\n    \
+               --full, and under a seal of before version 0.10.0, it commits every part anew.",
         takes: &commands::verify::TAKEN,
     },
     Command {

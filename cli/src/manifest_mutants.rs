@@ -1,7 +1,7 @@
 //! The reader of manifests on texts that were changed at random, beside that of tools/check_project.py: neither ends with a fault, and both take the same texts
 //! for manifests, with the same files.
 
-use crate::manifest::{Entry, Manifest, PART};
+use crate::manifest::{Entry, Form, Manifest, PART};
 use dequmlo::Root;
 use std::io::{Read, Write};
 use std::process::{Child, Command, Stdio};
@@ -30,11 +30,14 @@ while True:
 fn known(text: &[u8]) -> u64 {
     let manifest = std::str::from_utf8(text).ok().and_then(Manifest::of_text);
     let files = match manifest {
-        Some(Manifest(files)) => files,
+        Some(manifest) => manifest.files,
         None => return 0,
     };
     let mut known = 1 + files.len() as u64;
-    for Entry { path, bytes, parts } in files {
+    for Entry {
+        path, bytes, parts, ..
+    } in files
+    {
         let sum: u64 = path.iter().map(|byte| u64::from(*byte)).sum();
         known = known
             .wrapping_mul(31)
@@ -58,7 +61,7 @@ impl Drawn {
 }
 
 /// Pieces that a reader may stumble over.
-const PIECES: [&[u8]; 24] = [
+const PIECES: [&[u8]; 27] = [
     b"\n",
     b"\r\n",
     b" ",
@@ -78,6 +81,9 @@ const PIECES: [&[u8]; 24] = [
     b"file ",
     b"part ",
     b"format 1\n",
+    b"format 2\n",
+    b"folder ",
+    b"folder b\n",
     b"18446744073709551615",
     b"18446744073692774416",
     b"16777201",
@@ -122,10 +128,12 @@ fn lines_swapped(text: &mut Vec<u8>, drawn: &mut Drawn) {
 
 /// Manifests of which the mutants are made.
 fn sound() -> Vec<Vec<u8>> {
+    let roots = |parts: usize| (0..parts).map(|part| Root([part as u8; 32]));
     let file = |path: &[u8], bytes: u64, parts: usize| Entry {
         path: path.to_vec(),
         bytes,
-        parts: (0..parts).map(|part| Root([part as u8; 32])).collect(),
+        parts: roots(parts).collect(),
+        digests: roots(parts).collect(),
     };
     let all = [
         vec![],
@@ -137,8 +145,32 @@ fn sound() -> Vec<Vec<u8>> {
             file(b"c ", 9, 1),
         ],
     ];
-    all.map(|files| Manifest(files).text().into_bytes())
-        .to_vec()
+    let first = |mut files: Vec<Entry>| {
+        files.iter_mut().for_each(|file| file.digests.clear());
+        let form = Form::First;
+        Manifest {
+            files,
+            ..Manifest::empty(form)
+        }
+    };
+    let second = |files: Vec<Entry>| Manifest {
+        form: Form::Second,
+        files,
+        folders: [&b"A"[..], b"a/b", b"a b/\\", b"b"]
+            .map(|path| path.to_vec())
+            .to_vec(),
+    };
+    let mut sound = Vec::new();
+    for files in all {
+        let mut folders = second(files.clone());
+        folders.folders.sort();
+        if folders.files.iter().any(|file| file.path == b"a") {
+            folders.folders.retain(|path| path != b"a/b");
+        }
+        let manifests = [first(files.clone()), folders];
+        sound.extend(manifests.map(|manifest| manifest.text().into_bytes()));
+    }
+    sound
 }
 
 /// The answers of the second witness to some texts.

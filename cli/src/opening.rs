@@ -15,7 +15,6 @@ use crate::check_lines::with_check_lines;
 use crate::folder::{Kind, Named, SUMMARY};
 use crate::format::signature;
 use crate::lines;
-use crate::manifest::MANIFEST;
 use crate::shape::{Shape, PARAMETERS};
 use dequmlo::{QueryRecord, Root, TailRecord, Word};
 
@@ -36,8 +35,8 @@ pub struct Opening {
 }
 
 impl Opening {
-    /// The files of an opening; a project's has its manifest too.
-    pub fn files(&self, file: &str, drawn: &str, manifest: Option<Vec<u8>>) -> Vec<Named> {
+    /// The files of an opening; a project's has those of its manifest too.
+    pub fn files(&self, file: &str, drawn: &str, manifest: &[Named]) -> Vec<Named> {
         let positions: Vec<String> = self.queries.iter().map(|(p, _)| p.to_string()).collect();
         let summary = format!(
             "{} {file}.\n\nRecords at {} positions: {}.\nThe challenges: {drawn}.\nMade for the root: {}\nTerminal claim: {}\n{}\n\
@@ -58,7 +57,7 @@ impl Opening {
             (TAIL.into(), self.tail.bytes().to_vec()),
             (SUMMARY.into(), summary.into_bytes()),
         ];
-        files.extend(manifest.map(|bytes| (MANIFEST.into(), bytes)));
+        files.extend(manifest.iter().cloned());
         files.extend(
             self.queries
                 .iter()

@@ -27,13 +27,14 @@ const fn option(name: &'static str, value: &'static str, means: &'static str) ->
 }
 
 /// Every option, in the order of the help.
-pub const OPTIONS: [Known; 32] = [
+pub const OPTIONS: [Known; 33] = [
     option("--seal", "FOLDER", "the seal, as `seal commit` wrote it"),
     option("--older", "", "the seal names neither k nor a base domain and was made before version 0.4.0; `seal explain older` says more"),
     option("--asked", "FOLDER", "the request that `seal ask` wrote; it has challenges, positions, roots and claim"),
     option("--answer", "FOLDER", "the holder's answer to a request without positions, as `seal open` wrote it"),
     option("--by", "TEXT", "who asks: a name that the request has for people"),
     option("--opening", "FOLDER", "the opening that names the challenges and the roots, or that shows words of the sealed file"),
+    option("--full", "", "of a project: commits each part anew, where its digest would be compared"),
     option("--profile", "NAME", "k and the base domain by a name: default, fastchunk, balanced, compactwrap, deepwrap, firstdefault"),
     option("--k", "K", "k by itself, from 0 to 4, together with --domain"),
     option("--domain", "TEXT", "the base domain by itself, at most 200 bytes, together with --k"),

@@ -16,6 +16,8 @@ pub enum Verdict {
     OwnQuestions,
     /// The words of level 0 are accepted. The tail and the claim are not, because nobody kept the roots that they are under.
     PartlyAccepted,
+    /// What was checked is sound under roots that nobody kept, so that nothing is accepted.
+    NotAccepted,
     /// Something could not be read, and nothing that could be read decides.
     CouldNotRun,
 }
@@ -26,7 +28,7 @@ impl Verdict {
             Verdict::Done | Verdict::Accepted => 0,
             Verdict::Refused => 1,
             Verdict::CouldNotRun => 2,
-            Verdict::OwnQuestions | Verdict::PartlyAccepted => 3,
+            Verdict::OwnQuestions | Verdict::PartlyAccepted | Verdict::NotAccepted => 3,
         }
     }
 
@@ -37,6 +39,7 @@ impl Verdict {
             Verdict::Refused => "refused",
             Verdict::OwnQuestions => "own-questions",
             Verdict::PartlyAccepted => "partly-accepted",
+            Verdict::NotAccepted => "not-accepted",
             Verdict::CouldNotRun => "could-not-run",
         }
     }

@@ -1,19 +1,22 @@
 //! The part of a project that a command is about: the project's manifest leads from the project's root to the root of a part of one file, and
 //! what is opened and checked is that part.
 
-use crate::format::all_known;
-use crate::manifest::{part_place, Manifest, MANIFEST, PART};
+use crate::digest::Digester;
+use crate::folder::Named;
+use crate::format::known_manifest;
+use crate::manifest::{counted, part_place, shown, Entry, Manifest, MANIFEST, PART};
+use crate::manifest_files::{part_name, List};
 use crate::opened::Opened;
 use crate::options::Options;
 use crate::outcome::{Failure, Outcome};
-use crate::project::{root_of, written_path};
+use crate::project::root_of;
 use crate::questions::offsets;
 use crate::reading::{inside, unreadable, Unread};
 use crate::seal::{Seal, SEAL_FOLDER};
 use crate::shape::Shape;
 use crate::statement::another_key_in;
-use crate::table::{room_for, variables, MOST_BYTES};
-use dequmlo::{Sizes, Threads};
+use crate::table::{room_to_commit, variables, MOST_BYTES};
+use dequmlo::{Root, Sizes, Threads};
 use std::os::unix::ffi::OsStrExt;
 use std::path::Path;
 
@@ -26,11 +29,32 @@ pub struct Part {
     pub bytes: usize,
     index: usize,
     count: usize,
-    /// The project's manifest, as it was written.
-    pub manifest: Vec<u8>,
 }
 
 impl Part {
+    /// A part of a file, counted from 0.
+    pub fn of(entry: &Entry, index: usize) -> Part {
+        let (start, bytes) = part_place(entry.bytes, index);
+        Part {
+            path: entry.path.clone(),
+            start,
+            bytes,
+            index,
+            count: entry.parts.len(),
+        }
+    }
+
+    /// Every part of a manifest that has this root, as a table of 2^n words.
+    pub fn all_of(manifest: &Manifest, root: Root, n: usize) -> Vec<Part> {
+        let mut found = Vec::new();
+        for entry in &manifest.files {
+            let indices = (0..entry.parts.len()).filter(|index| entry.parts[*index] == root);
+            found.extend(indices.map(|index| Part::of(entry, index)));
+        }
+        found.retain(|part| variables(part.bytes) == n);
+        found
+    }
+
     /// What a record of this part opens, at its offset in the whole file.
     pub fn placed(&self, opened: Opened) -> Opened {
         match self.count {
@@ -46,7 +70,7 @@ impl Part {
 
     /// The file, and which part of it where it has several.
     pub fn name(&self) -> String {
-        let path = written_path(&self.path);
+        let path = shown(&self.path);
         let end = self.start + self.bytes as u64;
         match self.count {
             1 => path,
@@ -66,12 +90,12 @@ pub enum Unfit {
     Another(String),
 }
 
-/// The manifest in a folder, committed again and found to have the seal's root, with its bytes.
+/// The manifest in a folder, committed again and found to have the seal's root, with its files.
 pub fn manifest_in(
     folder: &Path,
     seal: &Seal,
-) -> Result<Result<(Manifest, Vec<u8>), Unfit>, Failure> {
-    all_known(folder, &[MANIFEST])?;
+) -> Result<Result<(Manifest, Vec<Named>), Unfit>, Failure> {
+    known_manifest(folder, MANIFEST)?;
     let another = |what: String| Ok(Err(Unfit::Another(what)));
     let bytes = match inside(folder, MANIFEST, MOST_BYTES) {
         Ok(bytes) => bytes,
@@ -89,7 +113,7 @@ pub fn manifest_in(
     if bytes.len() > MOST_BYTES || variables(bytes.len()) != *n {
         return another("it has another size".into());
     }
-    room_for(&seal.shape)?;
+    room_to_commit(&seal.shape)?;
     match root_of(&bytes, Threads::all(), seal.key(), domain, *widths, *k) {
         Ok(root) if root == seal.root => (),
         Ok(root) => {
@@ -100,14 +124,73 @@ pub fn manifest_in(
         }
         Err(refusal) => return another(refusal.to_string()),
     }
-    let text = std::str::from_utf8(&bytes).ok();
-    match text.and_then(Manifest::of_text) {
-        Some(manifest) => Ok(Ok((manifest, bytes))),
+    let text = std::str::from_utf8(&bytes).unwrap_or_default();
+    let manifest = match List::of_text(text) {
+        None => Manifest::of_text(text).map(|manifest| (manifest, Vec::new())),
+        Some(list) => match parts_in(folder, &list, &Digester::of(seal.key()))? {
+            Err(what) => return another(what),
+            Ok(parts) => manifest_in_parts(&parts).map(|manifest| (manifest, parts)),
+        },
+    };
+    match manifest {
+        Some((manifest, parts)) => {
+            let mut files: Vec<Named> = vec![(MANIFEST.into(), bytes)];
+            files.extend(parts);
+            Ok(Ok((manifest, files)))
+        }
         None => another(
             "it has the seal's root, but it is no manifest: the seal stands for another file"
                 .into(),
         ),
     }
+}
+
+/// The parts of a manifest that a list names; in a sentence, which of them is missing or another. Fails where the disk does.
+fn parts_in(
+    folder: &Path,
+    list: &List,
+    digester: &Digester,
+) -> Result<Result<Vec<Named>, String>, Failure> {
+    let mut parts = Vec::new();
+    for (index, digest) in list.digests.iter().enumerate() {
+        let (name, size) = (part_name(index), list.size(index));
+        match inside(folder, &name, size) {
+            Ok(part) if part.len() == size && digester.digest(&part) == *digest => {
+                parts.push((name, part));
+            }
+            Ok(_) => return Ok(Err(format!("{name} is not the part of it that was sealed"))),
+            Err(e @ Unread::Failed(_)) => return Err(unreadable(&folder.join(name), e)),
+            Err(e) => return Ok(Err(format!("{name}: {e}"))),
+        }
+    }
+    Ok(Ok(parts))
+}
+
+/// The manifest that these parts make, if they make one.
+fn manifest_in_parts(parts: &[Named]) -> Option<Manifest> {
+    let bytes: Vec<&[u8]> = parts.iter().map(|(_, part)| &part[..]).collect();
+    Manifest::of_text(&String::from_utf8(bytes.concat()).ok()?)
+}
+
+/// The most parts of a manifest that are read before anything of it is checked.
+const MOST_PARTS: usize = 64;
+
+/// The manifest that a folder has, of which nothing is checked but its form; none where it has more parts than are read so.
+pub fn unchecked_manifest(folder: &Path) -> Option<Manifest> {
+    let bytes = inside(folder, MANIFEST, MOST_BYTES).ok()?;
+    let text = String::from_utf8(bytes).ok()?;
+    let list = match List::of_text(&text) {
+        None => return Manifest::of_text(&text),
+        Some(list) if list.digests.len() > MOST_PARTS => return None,
+        Some(list) => list,
+    };
+    let part = |index| {
+        let (name, size) = (part_name(index), list.size(index));
+        let part = inside(folder, &name, size).ok()?;
+        (part.len() == size).then_some((name, part))
+    };
+    let parts: Option<Vec<Named>> = (0..list.digests.len()).map(part).collect();
+    manifest_in_parts(&parts?)
 }
 
 /// That an opening shows another manifest than the project's, in a sentence; with the project's seal.
@@ -132,26 +215,29 @@ pub fn asked_seal(
     let seal = Seal::read(&folder, options.has("--older"))?.with_key(&folder, options)?;
     if options.path("--file").is_none() {
         // What the holder puts into an opening does not decide what is asked about.
-        if folder.join(MANIFEST).exists() {
+        if !folder.join(MANIFEST).exists() {
+            return Ok(Ok(seal));
+        }
+        let own = unchecked_manifest(&folder);
+        if own.map_or(true, |manifest| manifest.only_file().is_none()) {
             return Err(Failure(format!(
                 "{} is a project's: --file PATH says which file of the project is asked about",
                 folder.display()
             )));
         }
-        return Ok(Ok(seal));
     }
     let refused = |mut seal: Seal, sentence| {
         let note = opening.and_then(|opening| another_key_in(&seal, opening));
         seal.notes.extend(note);
         Ok(Err(RefusedManifest { seal, sentence }))
     };
-    let known = opening.map(|opening| all_known(opening, &[MANIFEST]));
+    let known = opening.map(|opening| known_manifest(opening, MANIFEST));
     if let Some(Err(Failure(sentence))) = known {
         return refused(seal, sentence);
     }
     let found = manifest_in(opening.unwrap_or(&folder), &seal)?;
     match (found, opening) {
-        (Ok((manifest, bytes)), _) => part_seal(options, seal, &manifest, bytes).map(Ok),
+        (Ok((manifest, files)), _) => part_seal(options, seal, &manifest, files).map(Ok),
         (Err(Unfit::Missing), Some(_)) => refused(seal, format!(
             "the opening shows no {MANIFEST}, so no file of a project can be checked; ask the holder for it"
         )),
@@ -179,31 +265,14 @@ fn part_seal(
     options: &Options,
     seal: Seal,
     manifest: &Manifest,
-    bytes: Vec<u8>,
+    files: Vec<Named>,
 ) -> Result<Seal, Failure> {
-    let path = options.path("--file").unwrap_or_default();
-    let path = path.as_os_str().as_bytes();
-    let entry = manifest.find(path).ok_or_else(|| {
-        Failure(format!(
-            "the project has no file {}; its {MANIFEST} lists {} files",
-            written_path(path),
-            manifest.0.len()
-        ))
-    })?;
-    let count = entry.parts.len();
-    let index = part_asked(options, entry.bytes, count)?;
-    let (start, size) = part_place(entry.bytes, index);
+    let entry = asked_file(options, manifest)?;
+    let index = part_asked(options, entry.bytes, entry.parts.len())?;
+    let part = Part::of(entry, index);
     let shape = Shape {
-        n: variables(size),
+        n: variables(part.bytes),
         ..seal.shape
-    };
-    let part = Part {
-        path: entry.path.clone(),
-        start,
-        bytes: size,
-        index,
-        count,
-        manifest: bytes,
     };
     let about = format!(
         "What is asked about is the file {}. The project's root is {}, and the one below is that of the file, or of its part.",
@@ -217,7 +286,28 @@ fn part_seal(
         shape,
         root: entry.parts[index],
         part: Some(part),
+        manifest: files,
         ..seal
+    })
+}
+
+/// The file that the options ask about: the one that they name, or the only one.
+fn asked_file<'a>(options: &Options, manifest: &'a Manifest) -> Result<&'a Entry, Failure> {
+    let named = match options.path("--file") {
+        Some(path) => path,
+        None => {
+            return manifest.only_file().ok_or_else(|| {
+                Failure("--file PATH says which file of the project is asked about".into())
+            })
+        }
+    };
+    let path = named.as_os_str().as_bytes();
+    manifest.named(path).ok_or_else(|| {
+        Failure(format!(
+            "the project has no file {}; its {MANIFEST} lists {}",
+            shown(path),
+            counted(manifest.files.len(), "file")
+        ))
     })
 }
 

@@ -1,11 +1,14 @@
-//! The files of a project's folder, and their parts committed on all cores, one part to a core at a time.
+//! The files of a project, and their parts committed or digested on all cores, one part to a core at a time.
 
-use crate::manifest::{escaped, part_count, part_place, Entry, Manifest};
+use crate::digest::Digester;
+use crate::folder::Named;
+use crate::manifest::{counted, part_count, part_place, Entry, Form, Manifest};
+use crate::manifest_files;
 use crate::outcome::{Failure, Outcome};
 use crate::progress::Progress;
-use crate::reading::{listed_stretch, shown_name, unreadable, Stretch, Unread};
+use crate::reading::{listed_stretch, unreadable, Stretch, Unread};
 use crate::steady::State;
-use crate::table::{room_for_many, table_in, table_of, variables};
+use crate::table::{room_to_commit_many, table_in, table_of};
 use dequmlo::{Buffers, Deposit, Key, Refusal, Root, Threads, Widths, Word};
 use std::ffi::OsStr;
 use std::mem;
@@ -23,9 +26,22 @@ pub fn file_path(folder: &Path, below: &[u8]) -> PathBuf {
     folder.join(OsStr::from_bytes(below))
 }
 
-/// A path of a project as its manifest writes it, for a person.
-pub fn written_path(path: &[u8]) -> String {
-    shown_name(OsStr::new(&escaped(path)))
+/// Where a project lies.
+#[derive(Clone, Copy)]
+pub enum Place<'a> {
+    /// A folder, with its files below it.
+    Folder(&'a Path),
+    /// The one file of the project, whatever its name.
+    File(&'a Path),
+}
+
+impl Place<'_> {
+    pub fn path(&self, below: &[u8]) -> PathBuf {
+        match self {
+            Place::Folder(folder) => file_path(folder, below),
+            Place::File(file) => file.to_path_buf(),
+        }
+    }
 }
 
 /// The bytes of a part of a file, in place of what is there. The file must be in the state in which it was listed, before and after.
@@ -75,6 +91,25 @@ pub fn root_of(
     Deposit::commit_on(threads, key, domain, widths, k, &table).map(|deposit| deposit.root())
 }
 
+/// The root of a project: that of its manifest, or of the list of the manifest's parts.
+pub fn project_root(manifest: &Manifest, under: Under) -> Result<Root, Refusal> {
+    let files = manifest_files::files(manifest, &Digester::of(under.key));
+    root_of_files(&files, under)
+}
+
+/// The same of a manifest as files, of which the first is committed.
+pub fn root_of_files(files: &[Named], under: Under) -> Result<Root, Refusal> {
+    let Under {
+        threads,
+        key,
+        domain,
+        widths,
+        k,
+        ..
+    } = under;
+    root_of(&files[0].1, threads, key, domain, widths, k)
+}
+
 /// What a thread keeps from one part to the next, so that the system makes its pages once.
 #[derive(Default)]
 struct Kept {
@@ -85,13 +120,14 @@ struct Kept {
 
 impl Kept {
     /// The root of the bytes that were read.
-    fn root(
-        &mut self,
-        key: Option<&Key>,
-        domain: &[u8],
-        widths: Widths,
-        k: usize,
-    ) -> Result<Root, Refusal> {
+    fn root(&mut self, under: &Under) -> Result<Root, Refusal> {
+        let Under {
+            key,
+            domain,
+            widths,
+            k,
+            ..
+        } = *under;
         table_in(&mut self.table, &self.bytes).expect("no more bytes than a deposit has");
         let buffers = mem::take(&mut self.buffers);
         let threads = Threads::of(1);
@@ -100,9 +136,41 @@ impl Kept {
         self.buffers = deposit.into_buffers();
         Ok(root)
     }
+
+    /// What is made of the bytes that were read.
+    fn mark(&mut self, under: &Under, digester: &Digester) -> Result<Mark, Refusal> {
+        Ok(Mark {
+            digest: under
+                .made
+                .has_digests()
+                .then(|| digester.digest(&self.bytes)),
+            root: match under.made.has_roots() {
+                true => Some(self.root(under)?),
+                false => None,
+            },
+        })
+    }
 }
 
-/// By what the parts of a project are committed, and on how many threads.
+/// What is made of each part of a project.
+#[derive(Clone, Copy, Debug, PartialEq, Eq)]
+pub enum Made {
+    Roots,
+    Digests,
+    Both,
+}
+
+impl Made {
+    fn has_roots(self) -> bool {
+        self != Made::Digests
+    }
+
+    fn has_digests(self) -> bool {
+        self != Made::Roots
+    }
+}
+
+/// By what the parts of a project are committed, what is made of them, and on how many threads.
 #[derive(Clone, Copy)]
 pub struct Under<'a> {
     pub threads: Threads,
@@ -110,54 +178,84 @@ pub struct Under<'a> {
     pub domain: &'a [u8],
     pub widths: Widths,
     pub k: usize,
+    pub made: Made,
 }
 
-/// A file of a project as it is now: the root of each part, or why the part could not be read.
+/// What is known of the bytes of a part: its root, its digest, or both.
+#[derive(Clone, Copy, Debug, PartialEq, Eq)]
+pub struct Mark {
+    pub root: Option<Root>,
+    pub digest: Option<Root>,
+}
+
+/// A file of a project as it is now: what is known of each part, or why the part could not be read.
 #[derive(Clone, Debug, PartialEq, Eq)]
 pub struct Committed {
     pub path: Vec<u8>,
     pub bytes: u64,
-    pub parts: Vec<Result<Root, String>>,
+    pub parts: Vec<Result<Mark, String>>,
 }
 
 impl Committed {
-    /// The file as a manifest has it; none where a part could not be read.
-    pub fn entry(&self) -> Option<Entry> {
-        let parts: Result<Vec<Root>, &String> = self
-            .parts
-            .iter()
-            .map(Result::as_ref)
-            .map(|part| part.copied())
-            .collect();
+    /// The file as a manifest of this form has it; none where a part could not be read, or not all that the form has was made.
+    pub fn entry(&self, form: Form) -> Option<Entry> {
+        let digests = match form {
+            Form::First => Some(Vec::new()),
+            Form::Second => self.marks(|mark| mark.digest),
+        };
         Some(Entry {
             path: self.path.clone(),
             bytes: self.bytes,
-            parts: parts.ok()?,
+            parts: self.marks(|mark| mark.root)?,
+            digests: digests?,
         })
+    }
+
+    /// The roots of its parts, or the digests; none where not all were made.
+    pub fn marks(&self, kind: fn(&Mark) -> Option<Root>) -> Option<Vec<Root>> {
+        let mark = |part: &Result<Mark, String>| part.as_ref().ok().and_then(kind);
+        self.parts.iter().map(mark).collect()
     }
 }
 
-/// The manifest of these files of a folder. Fails at the first file that cannot be read, or is changed meanwhile.
+/// The manifest of these files, and of these empty folders. Fails at the first file that cannot be read, or is changed meanwhile.
 pub fn manifest_of(
-    folder: &Path,
+    place: Place,
     files: &[(Vec<u8>, State)],
+    folders: &[Vec<u8>],
     under: Under,
 ) -> Result<Manifest, Stop> {
     let unread = |path: &Path, e: Unread| Err(Stop::Failed(unreadable(path, e)));
-    let committed = committed(folder, files, under, &part_of_file, &unread)?;
-    let entries = committed.iter().filter_map(Committed::entry);
-    Ok(Manifest(entries.collect()))
+    let made = Made::Both;
+    let committed = committed(
+        place,
+        files,
+        Under { made, ..under },
+        &part_of_file,
+        &unread,
+    )?;
+    let form = Form::Second;
+    let entries = committed.iter().filter_map(|file| file.entry(form));
+    Ok(Manifest {
+        form,
+        files: entries.collect(),
+        folders: folders.to_vec(),
+    })
 }
 
-/// These files of a folder as they are now. A file that cannot be read, or is changed meanwhile, keeps nothing from the others.
+/// These files of a project as they are now. A file that cannot be read, or is changed meanwhile, keeps nothing from the others.
 pub fn committed_as_far_as_read(
-    folder: &Path,
+    place: Place,
     files: &[(Vec<u8>, State)],
     under: Under,
 ) -> Result<Vec<Committed>, Stop> {
-    committed(folder, files, under, &part_of_file, &|_, e| {
-        Ok(e.to_string())
-    })
+    committed(
+        place,
+        files,
+        under,
+        &part_of_file,
+        &|_, e| Ok(e.to_string()),
+    )
 }
 
 /// Reads a part of a file, in place of what is there: of the file at a path, in the state in which it was listed.
@@ -166,21 +264,14 @@ type ReadPart = dyn Fn(&mut Vec<u8>, &Path, State, usize) -> Result<(), Unread> 
 /// What becomes of a part that was not read: the reason for the list, or the end of the work.
 type OnUnread = dyn Fn(&Path, Unread) -> Result<String, Stop> + Sync;
 
-/// The parts of these files committed, a part to a thread at a time.
+/// The parts of these files committed or digested, a part to a thread at a time.
 fn committed(
-    folder: &Path,
+    place: Place,
     files: &[(Vec<u8>, State)],
     under: Under,
     read: &ReadPart,
     on_unread: &OnUnread,
 ) -> Result<Vec<Committed>, Stop> {
-    let Under {
-        key,
-        domain,
-        widths,
-        k,
-        ..
-    } = under;
     let mut jobs: Vec<Job> = Vec::new();
     for (file, (_, state)) in files.iter().enumerate() {
         jobs.extend((0..part_count(state.length)).map(|part| (file, part)));
@@ -188,23 +279,28 @@ fn committed(
     // The largest first, so that no core is left with one of them at the end, and that the buffers of a thread's first part serve for all others.
     let size = |(file, part): &Job| part_place(files[*file].1.length, *part).1;
     jobs.sort_by_key(|job| std::cmp::Reverse(size(job)));
-    let largest = variables(jobs.first().map_or(0, size));
+    let largest = jobs.first().map_or(0, size);
     let wanted = under.threads.number().min(jobs.len()).max(1);
-    let threads = room_for_many(widths, largest, k, wanted).map_err(Stop::Failed)?;
+    let threads = match under.made {
+        Made::Digests => wanted,
+        _ => room_to_commit_many(under.widths, largest, under.k, wanted).map_err(Stop::Failed)?,
+    };
 
-    let work = Work::new(&jobs, files.iter().map(|(_, state)| state.length).sum());
+    let digester = Digester::of(under.key);
+    let bytes = files.iter().map(|(_, state)| state.length).sum();
+    let work = Work::new(&jobs, bytes, under.made, threads);
     thread::scope(|scope| {
         for _ in 0..threads {
             scope.spawn(|| {
                 let mut kept = Kept::default();
                 work.take(|(file, part)| {
                     let (path, state) = &files[file];
-                    let path = file_path(folder, path);
+                    let path = place.path(path);
                     if let Err(e) = read(&mut kept.bytes, &path, *state, part) {
                         return on_unread(&path, e).map(|why| (Err(why), 0));
                     }
-                    let root = kept.root(key, domain, widths, k).map_err(Stop::Refused)?;
-                    Ok((Ok(root), kept.bytes.len()))
+                    let mark = kept.mark(&under, &digester).map_err(Stop::Refused)?;
+                    Ok((Ok(mark), kept.bytes.len()))
                 })
             });
         }
@@ -221,12 +317,13 @@ fn committed(
 /// A part of a project: the number of its file, and its own in the file.
 type Job = (usize, usize);
 
-/// What came of a part: its root, or why it could not be read.
-type Done = Result<Root, String>;
+/// What came of a part, or why it could not be read.
+type Done = Result<Mark, String>;
 
-/// The parts that are to be committed, and the roots of those that are.
+/// The parts that are to be committed or digested, and what came of those that are.
 struct Work<'a> {
     jobs: &'a [Job],
+    doing: String,
     next: AtomicUsize,
     bytes: u64,
     bytes_done: AtomicU64,
@@ -236,9 +333,14 @@ struct Work<'a> {
 }
 
 impl<'a> Work<'a> {
-    fn new(jobs: &'a [Job], bytes: u64) -> Work<'a> {
+    fn new(jobs: &'a [Job], bytes: u64, made: Made, threads: usize) -> Work<'a> {
+        let doing = match made {
+            Made::Digests => "comparing digests",
+            _ => "committing",
+        };
         Work {
             jobs,
+            doing: format!("{doing} on {}", counted(threads, "thread")),
             next: AtomicUsize::new(0),
             bytes,
             bytes_done: AtomicU64::new(0),
@@ -267,8 +369,9 @@ impl<'a> Work<'a> {
         let bytes = self.bytes_done.fetch_add(size, Ordering::Relaxed) + size;
         let (all, mega) = (self.jobs.len(), 1_000_000);
         let (now, whole) = (bytes / mega, self.bytes / mega);
+        let doing = &self.doing;
         self.progress.say(&format!(
-            "committing: {parts} of {all} parts, {now} of {whole} MB .."
+            "{doing}: {parts} of {all} parts, {now} of {whole} MB .."
         ));
     }
 
@@ -282,8 +385,8 @@ impl<'a> Work<'a> {
 
 #[cfg(test)]
 mod tests {
-    use super::{committed, part_of_file, Committed, Stop, Under};
-    use crate::manifest::PART;
+    use super::{committed, part_of_file, Made, Place, Stop, Under};
+    use crate::manifest::{Form, PART};
     use crate::reading::{Stretch, Unread};
     use crate::steady::State;
     use dequmlo::{Threads, Widths};
@@ -298,6 +401,7 @@ mod tests {
             domain: b"d",
             widths: Widths::Present,
             k: 1,
+            made: Made::Both,
         }
     }
 
@@ -382,8 +486,9 @@ mod tests {
     fn a_read_that_fails_in_the_middle_of_a_file_keeps_nothing_from_the_others() {
         let bytes = [7; 3000];
         let (folder, files) = folder("disk", &[("a", &bytes), ("b", &bytes), ("c", &bytes)]);
+        let place = Place::Folder(&folder);
         let all = committed(
-            &folder,
+            place,
             &files,
             under(),
             &part_of_file,
@@ -391,14 +496,35 @@ mod tests {
         );
         let all = all.ok().unwrap();
         let said = |_: &Path, e: Unread| Ok(e.to_string());
-        let found = committed(&folder, &files, under(), &with_a_bad_disk, &said);
+        let found = committed(place, &files, under(), &with_a_bad_disk, &said);
         let found = found.ok().unwrap();
         assert_eq!((&found[0], &found[2]), (&all[0], &all[2]));
         assert_eq!(found[1].parts, [Err("Input/output error".to_string())]);
-        assert_eq!(found.iter().filter_map(Committed::entry).count(), 2);
+        assert_eq!(
+            found
+                .iter()
+                .filter_map(|file| file.entry(Form::Second))
+                .count(),
+            2
+        );
+        // Of the digests alone no manifest is made, and nothing else differs.
+        let made = Made::Digests;
+        let digests = committed(
+            place,
+            &files,
+            Under { made, ..under() },
+            &part_of_file,
+            &said,
+        );
+        let digests = digests.ok().unwrap();
+        assert_eq!(
+            digests[0].marks(|mark| mark.digest),
+            all[0].marks(|mark| mark.digest)
+        );
+        assert_eq!(digests[0].entry(Form::First), None);
         // A commit ends there.
         let ends = |_: &Path, e| Err(Stop::Failed(crate::outcome::Failure(format!("{e}"))));
-        let ended = committed(&folder, &files, under(), &with_a_bad_disk, &ends);
+        let ended = committed(place, &files, under(), &with_a_bad_disk, &ends);
         assert!(matches!(ended, Err(Stop::Failed(_))));
         fs::remove_dir_all(folder).unwrap();
     }

@@ -104,10 +104,15 @@ pub fn challenges(options: &Options, n: usize) -> Result<Option<(Vec<Word>, Stri
     }
 }
 
-/// The positions that the options name, or that a seed draws, rising, each once; none where they name none. `--count 0` names the empty list.
-pub fn positions(options: &Options, shape: &Shape) -> Result<Option<Vec<usize>>, Failure> {
+/// The positions that the options name, or that a seed draws, rising, each once; none where they name none. `--count 0` names the empty list. Offsets are those of
+/// a file, of which the shape may be that of a part.
+pub fn positions(
+    options: &Options,
+    shape: &Shape,
+    is_part: bool,
+) -> Result<Option<Vec<usize>>, Failure> {
     if let Some(offsets) = offsets(options)? {
-        return places(options, shape, &offsets).map(Some);
+        return places(options, shape, is_part, &offsets).map(Some);
     }
     let count = options.number("--count")?;
     let given = match (options.text("--at")?, options.path("--positions")) {
@@ -146,14 +151,18 @@ pub fn offsets(options: &Options) -> Result<Option<Vec<u64>>, Failure> {
 }
 
 /// The positions of the words that hold these bytes of a file, or of a part of one, rising, each once.
-fn places(options: &Options, shape: &Shape, offsets: &[u64]) -> Result<Vec<usize>, Failure> {
+fn places(
+    options: &Options,
+    shape: &Shape,
+    is_part: bool,
+    offsets: &[u64],
+) -> Result<Vec<usize>, Failure> {
     if let Some(name) = ["--at", "--positions", "--count"]
         .iter()
         .find(|name| options.given(name))
     {
         return Err(Failure(format!("--offset excludes {name}")));
     }
-    let is_part = options.given("--file");
     let words = 1u64 << shape.n;
     let mut positions = BTreeSet::new();
     for offset in offsets {

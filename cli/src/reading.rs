@@ -191,12 +191,10 @@ pub fn reason(e: &std::io::Error) -> String {
 
 /// A name that somebody else chose, on one line and without characters that a terminal acts on.
 pub fn shown_name(name: &OsStr) -> String {
-    let acts =
-        |c: char| c.is_control() || matches!(c, '\u{2028}'..='\u{202e}' | '\u{2066}'..='\u{2069}');
     name.to_string_lossy()
         .chars()
         .flat_map(|c| {
-            let escaped: Vec<char> = if acts(c) {
+            let escaped: Vec<char> = if acts_on_a_terminal(c) {
                 c.escape_unicode().collect()
             } else {
                 vec![c]
@@ -204,6 +202,11 @@ pub fn shown_name(name: &OsStr) -> String {
             escaped
         })
         .collect()
+}
+
+/// Whether a terminal does something else with a character than show it.
+pub fn acts_on_a_terminal(c: char) -> bool {
+    c.is_control() || matches!(c, '\u{2028}'..='\u{202e}' | '\u{2066}'..='\u{2069}')
 }
 
 /// A path as it is shown, by the same rule.

@@ -83,7 +83,7 @@ fn verdict_box(verdict: Verdict, sentence: &str) -> String {
         Verdict::Accepted => ("verdict", "✓ ACCEPTED"),
         Verdict::Refused => ("verdict no", "✗ REFUSED"),
         Verdict::PartlyAccepted => ("verdict no", "– PARTLY ACCEPTED"),
-        Verdict::OwnQuestions | Verdict::Done | Verdict::CouldNotRun => {
+        Verdict::OwnQuestions | Verdict::NotAccepted | Verdict::Done | Verdict::CouldNotRun => {
             ("verdict no", "– NO ACCEPTANCE")
         }
     };

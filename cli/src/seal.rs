@@ -26,8 +26,14 @@ pub const ROOT: &str = "root.txt";
 /// More than a summary has whose file's name is as long as a name can be.
 const MOST_OF_A_SUMMARY: usize = 16_384;
 
+/// More files than a seal has: its manifest is in parts where a deposit does not hold it.
+const MOST_FILES: usize = 10_000;
+
 /// The folder that `--seal` names, for what is said where it is missing.
 pub const SEAL_FOLDER: &str = "the folder that `seal commit` wrote";
+
+/// How the summary of a project's seal begins to say what it stands for.
+const OF_A_PROJECT: &str = "It stands for the project";
 
 pub struct Seal {
     pub shape: Shape,
@@ -43,6 +49,8 @@ pub struct Seal {
     pub notes: Vec<String>,
     /// Where it is that of a part of a project, which one.
     pub part: Option<Part>,
+    /// And the files of the project's manifest, as they were written.
+    pub manifest: Vec<Named>,
     /// The key of its trees, where it is keyed and was read with it.
     pub key: Option<Key>,
 }
@@ -78,6 +86,12 @@ impl Seal {
         self.key.as_ref()
     }
 
+    /// Whether it stands for a project: it has a manifest, or its summary says so.
+    pub fn is_a_project_s(&self, folder: &Path) -> bool {
+        let said = self.summary.as_ref();
+        folder.join(MANIFEST).exists() || said.map_or(false, |line| line.starts_with(OF_A_PROJECT))
+    }
+
     /// The files of a seal, for a file of so many bytes.
     pub fn files(shape: &Shape, root: &Root, file: &str, bytes: usize) -> Vec<Named> {
         let Shape { n, k, widths, .. } = shape;
@@ -106,14 +120,15 @@ impl Seal {
         root: &Root,
         project: &str,
         manifest: &Manifest,
+        manifest_files: Vec<Named>,
     ) -> Vec<Named> {
         let summary = format!(
-            "{}\n\nIt stands for the project {project}: {} of {} bytes in all, in {}.\n\
+            "{}\n\n{OF_A_PROJECT} {project}: {} of {} bytes in all, in {}.\n\
              {MANIFEST} lists them with the root of each part, and the root below is that of {MANIFEST}, as a table of {} words (n = {}, k = {}), under the base domain {} and the {} set of widths.\n{}Root: {root}\n\n\
              Whoever keeps this root can check that what a holder shows later is what was deposited:\n`seal open` makes what is shown of a file, `seal check` \
              checks it, `seal verify` says what has changed.\n\n{}",
             Kind::Seal.heading(),
-            counted(manifest.0.len(), "file"),
+            counted(manifest.files.len(), "file"),
             manifest.bytes(),
             counted(manifest.parts(), "part"),
             1usize << shape.n,
@@ -124,12 +139,13 @@ impl Seal {
             shape.key_sentence(),
             signature()
         );
-        with_check_lines(vec![
+        let mut files = vec![
             (PARAMETERS.into(), shape.file()),
             (ROOT.into(), lines::file(&[root])),
-            (MANIFEST.into(), manifest.text().into_bytes()),
-            (SUMMARY.into(), summary.into_bytes()),
-        ])
+        ];
+        files.extend(manifest_files);
+        files.push((SUMMARY.into(), summary.into_bytes()));
+        with_check_lines(files)
     }
 }
 
@@ -145,7 +161,7 @@ fn parts(folder: &Path, older: bool) -> Result<Seal, Failure> {
             notes.push(format!("the seal's {name} has blanks, line ends or capital digits that `seal commit` does not write; its content counts"));
         }
     }
-    let lines = CheckLines::read(folder, 8)?;
+    let lines = CheckLines::read(folder, MOST_FILES)?;
     match &lines {
         Some(lines) => {
             agreed(lines, PARAMETERS, &parameters.written)?;
@@ -167,6 +183,7 @@ fn parts(folder: &Path, older: bool) -> Result<Seal, Failure> {
         vouched: lines.is_some(),
         notes,
         part: None,
+        manifest: Vec::new(),
         key: None,
     })
 }

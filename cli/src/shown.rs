@@ -5,7 +5,7 @@ use crate::check_lines::{CheckLines, CHECK};
 use crate::folder::Kind;
 use crate::format::all_known;
 use crate::lines::{items, most_bytes, one};
-use crate::manifest::MANIFEST;
+use crate::manifest_files::is_of_a_manifest;
 use crate::opening::{
     meant_position, record_name, record_position, CHALLENGES, CLAIM, ROOTS, TAIL,
 };
@@ -26,8 +26,8 @@ const OTHER_FILES: usize = 8 + 100;
 pub struct Shown {
     folder: PathBuf,
     sizes: Sizes,
-    /// Whether it is checked as one of a project, whose manifest was looked at before.
-    is_a_project_s: bool,
+    /// The files of the manifest of a project, which were looked at before.
+    manifest: Vec<String>,
     /// Every name, and whether it is a regular file.
     names: Vec<(OsString, bool)>,
     lines: Option<CheckLines>,
@@ -118,7 +118,7 @@ impl Shown {
                 folder.display()
             )));
         }
-        let most = OTHER_FILES + records.max(40);
+        let most = OTHER_FILES + records.max(40) + seal.manifest.len();
         let names = match listed(folder, most).map_err(|e| unreadable(folder, reason(&e)))? {
             Some(names) => names,
             None => {
@@ -172,7 +172,9 @@ impl Shown {
     pub fn unchecked(&self, positions: &[usize]) -> Vec<String> {
         let known = |name: &OsString| match name.to_str().and_then(record_position) {
             Some(position) => positions.binary_search(&position).is_ok(),
-            None if name == MANIFEST => self.is_a_project_s,
+            None if name.to_str().map_or(false, is_of_a_manifest) => {
+                self.manifest.iter().any(|known| name == &known[..])
+            }
             None => Kind::Opening.has(name),
         };
         self.names
@@ -284,7 +286,7 @@ fn parts(
     let shown = Shown {
         folder: folder.into(),
         sizes: seal.sizes,
-        is_a_project_s: seal.part.is_some(),
+        manifest: seal.manifest.iter().map(|(name, _)| name.clone()).collect(),
         names,
         // Check lines that cannot be read are as good as none; they decide nothing.
         lines: CheckLines::read(folder, most).unwrap_or(None),

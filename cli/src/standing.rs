@@ -1,14 +1,15 @@
 //! The levels that stand before `seal open` folds: level 0 of the sealed file, or those of interrupted work.
 
 use crate::begun::Begun;
+use crate::manifest::counted;
 use crate::outcome::{Ended, Failure};
 use crate::part::Part;
 use crate::progress::Progress;
 use crate::project::file_path;
-use crate::reading::{shown_path, steady_stretch, unreadable, Stretch};
+use crate::reading::{shown_path, steady_stretch, unreadable, Stretch, Unread};
 use crate::seal::Seal;
 use crate::shape::Shape;
-use crate::table::{read_table, room_for, table_of};
+use crate::table::{read_table, room_to_fold, table_of};
 use dequmlo::{Deposit, Folded, HalfFolded, Refusal, Threads, Word};
 use std::path::{Path, PathBuf};
 
@@ -29,8 +30,9 @@ impl Standing {
         if table.len() != seal.sizes.table_words {
             return Err(another_file(&path).into());
         }
-        room_for(&seal.shape)?;
-        progress.say(&format!("committing {} words ..", table.len()));
+        room_to_fold(&seal.shape)?;
+        let working = counted(threads.number(), "thread");
+        progress.say(&format!("committing {} words on {working} ..", table.len()));
         let Shape {
             k, domain, widths, ..
         } = &seal.shape;
@@ -48,7 +50,7 @@ impl Standing {
         seal: &Seal,
         progress: &Progress,
     ) -> Result<Standing, Ended> {
-        room_for(&seal.shape)?;
+        room_to_fold(&seal.shape)?;
         progress.say(&format!("checking levels 0 to {} ..", begun.level()));
         Ok(Standing::TakenUp(begun.take_up(threads, seal.key())?))
     }
@@ -86,10 +88,20 @@ fn read(file: &Path, seal: &Seal) -> Result<(Vec<Word>, PathBuf), Ended> {
         .into()),
         None => Ok((read_table(file)??.words, file.into())),
         Some(part) => {
-            let path = file_path(file, &part.path);
+            let path = of_project(file, part)?;
             Ok((read_part(&path, part)??, path))
         }
     }
+}
+
+/// The path of a part's file: below the project's folder, or what is named itself where that is a file.
+fn of_project(named: &Path, part: &Part) -> Result<PathBuf, Failure> {
+    if named.is_dir() {
+        return Ok(file_path(named, &part.path));
+    }
+    named
+        .canonicalize()
+        .map_err(|e| unreadable(named, Unread::from(e)))
 }
 
 /// The table of a part of a project's file, as the file is now: with a byte more where it does not end with the part.

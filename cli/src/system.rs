@@ -2,7 +2,7 @@
 //! as the archive).
 
 use std::fs::File;
-use std::io::{Error, ErrorKind};
+use std::io::{Error, ErrorKind, Write};
 use std::os::raw::{c_int, c_uint};
 use std::os::unix::io::AsRawFd;
 use std::sync::atomic::{compiler_fence, Ordering};
@@ -11,6 +11,8 @@ extern "C" {
     fn signal(number: c_int, handler: usize) -> usize;
     fn flock(file: c_int, operation: c_int) -> c_int;
     fn isatty(file: c_int) -> c_int;
+    fn fallocate(file: c_int, mode: c_int, start: i64, size: i64) -> c_int;
+    fn syncfs(file: c_int) -> c_int;
     fn getrandom(bytes: *mut u8, length: usize, flags: c_uint) -> isize;
 }
 
@@ -24,6 +26,8 @@ const SIG_DFL: usize = 0;
 const LOCK_EX: c_int = 2;
 const LOCK_NB: c_int = 4;
 const EWOULDBLOCK: i32 = 11;
+const ENOSYS: i32 = 38;
+const EOPNOTSUPP: i32 = 95;
 
 /// A closed pipe ends this program silently, as it ends other programs.
 pub fn end_at_a_closed_pipe() {
@@ -40,6 +44,31 @@ pub fn stderr_is_a_terminal() -> bool {
 pub fn try_lock(file: &File) -> bool {
     let locked = unsafe { flock(file.as_raw_fd(), LOCK_EX | LOCK_NB) } == 0;
     locked || Error::last_os_error().raw_os_error() != Some(EWOULDBLOCK)
+}
+
+/// Has the file system set so many bytes aside for a new file; fails where it has not so many. Where it cannot do that, a few bytes are written.
+pub fn reserve(mut file: &File, bytes: u64) -> Result<(), Error> {
+    let size = i64::try_from(bytes).unwrap_or(i64::MAX);
+    if unsafe { fallocate(file.as_raw_fd(), 0, 0, size) } == 0 {
+        return Ok(());
+    }
+    let e = Error::last_os_error();
+    match e.raw_os_error() {
+        Some(ENOSYS | EOPNOTSUPP) => file.write_all(&[0; 4096]),
+        _ => Err(e),
+    }
+}
+
+/// Has everything that was written to the file system of this file or folder on the disk. False where the system has no such call.
+pub fn sync_all_files(file: &File) -> Result<bool, Error> {
+    if unsafe { syncfs(file.as_raw_fd()) } == 0 {
+        return Ok(true);
+    }
+    let e = Error::last_os_error();
+    match e.raw_os_error() {
+        Some(ENOSYS) => Ok(false),
+        _ => Err(e),
+    }
 }
 
 /// Zeros in place of these bytes, by writes that the compiler may not leave out though nothing reads them.

@@ -47,7 +47,7 @@ pub fn table_of(bytes: &[u8]) -> Result<Vec<Word>, String> {
 pub fn table_in(table: &mut Vec<Word>, bytes: &[u8]) -> Result<(), String> {
     if bytes.len() > MOST_BYTES {
         return Err(format!(
-            "the file has more than {MOST_BYTES} bytes, the most that a deposit has (n = 20); divide it and seal each part"
+            "the file has more than {MOST_BYTES} bytes, the most that a deposit has (n = 20)"
         ));
     }
     let count = words_of(bytes.len());
@@ -62,21 +62,47 @@ pub fn table_in(table: &mut Vec<Word>, bytes: &[u8]) -> Result<(), String> {
     Ok(())
 }
 
-/// Fails where there is no memory for the table, all levels and trees of a deposit of this shape, and the room for a fold. (Memory that runs out
-/// later would end the program without a sentence.)
-pub fn room_for(shape: &Shape) -> Result<(), Failure> {
-    room_for_many(shape.widths, shape.n, shape.k, 1).map(|_| ())
+/// Fails where there is no memory for what committing a table of this shape asks of the system beside the table. (Memory that runs out later would end
+/// the program without a sentence.)
+pub fn room_to_commit(shape: &Shape) -> Result<(), Failure> {
+    room(shape.widths, shape.n, shape.k, 1, buffers).map(|_| ())
 }
 
-/// How many deposits of these widths, n and k there is memory for at once, up to so many; fails where there is none for one.
-pub fn room_for_many(widths: Widths, n: usize, k: usize, most: usize) -> Result<usize, Failure> {
+/// The bytes of the buffers of a deposit: the gammas, and the levels with their trees, of which committing fills the first.
+fn buffers(sizes: &Sizes) -> usize {
+    16 * (sizes.gamma_words + sizes.levels_words) + sizes.trees_bytes
+}
+
+/// How many files of so many bytes there is memory to commit at once, each with its bytes and its table, up to so many; fails where there is none for one.
+pub fn room_to_commit_many(
+    widths: Widths,
+    bytes: usize,
+    k: usize,
+    most: usize,
+) -> Result<usize, Failure> {
+    let taken = |sizes: &Sizes| bytes + 16 * sizes.table_words + buffers(sizes);
+    room(widths, variables(bytes), k, most, taken)
+}
+
+/// Fails where there is no memory for a deposit of this shape and what folding it takes beside: half a codeword, and a copy of the table.
+pub fn room_to_fold(shape: &Shape) -> Result<(), Failure> {
+    let bytes = |sizes: &Sizes| 16 * (sizes.half_words + sizes.table_words) + buffers(sizes);
+    room(shape.widths, shape.n, shape.k, 1, bytes).map(|_| ())
+}
+
+/// How many times there is memory for what these sizes take, up to so many; fails where it is not there once.
+fn room(
+    widths: Widths,
+    n: usize,
+    k: usize,
+    most: usize,
+    bytes: impl Fn(&Sizes) -> usize,
+) -> Result<usize, Failure> {
     // The library refuses parameters that no deposit has; there is nothing to make room for.
-    let sizes = match Sizes::of(widths, n, k) {
-        Ok(sizes) => sizes,
+    let bytes = match Sizes::of(widths, n, k) {
+        Ok(sizes) => bytes(&sizes),
         Err(_) => return Ok(most),
     };
-    let words = sizes.levels_words + sizes.half_words + sizes.table_words;
-    let bytes = 16 * words + sizes.trees_bytes;
     let room = |times: &usize| Vec::<u8>::new().try_reserve_exact(times * bytes).is_ok();
     (1..=most).rev().find(room).ok_or_else(|| {
         Failure(format!(

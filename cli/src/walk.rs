@@ -2,13 +2,13 @@
 
 use crate::outcome::Failure;
 use crate::project::file_path;
-use crate::reading::{not_a_file, reason, unreadable};
-use crate::steady::{State, LOOKS, TICK};
+use crate::reading::{not_a_file, reason, unreadable, Unread};
+use crate::steady::{self, State, LOOKS, TICK};
 use std::collections::BTreeMap;
 use std::fs::{self, DirEntry};
 use std::io;
 use std::os::unix::ffi::OsStrExt;
-use std::path::Path;
+use std::path::{Path, PathBuf};
 use std::thread;
 
 /// What is said of a file that was not the same before and after.
@@ -24,13 +24,15 @@ pub type Said = (Vec<u8>, String);
 pub struct Walked {
     /// Each file's path below the folder and its state, rising by the bytes of the paths.
     pub files: Vec<(Vec<u8>, State)>,
+    /// The path of each folder in which there is nothing, rising.
+    pub folders: Vec<Vec<u8>>,
     /// What is neither a file nor a folder, with what it is.
     pub others: Vec<(Vec<u8>, &'static str)>,
     /// What could not be looked at, with the reason; of a folder, nothing is known of what is below it.
     pub unread: Vec<Said>,
 }
 
-/// Every file below a folder. No link is followed, and what cannot be looked at is listed as such; fails where that is the folder itself.
+/// Every file below a folder, and every folder there in which there is nothing. No link is followed, and what cannot be looked at is listed as such; fails where that is the folder itself.
 pub fn walked(folder: &Path) -> Result<Walked, Failure> {
     let mut found = Walked::default();
     let mut fresh = Vec::new();
@@ -44,7 +46,9 @@ pub fn walked(folder: &Path) -> Result<Walked, Failure> {
                 continue;
             }
         };
+        let mut is_empty = true;
         for entry in entries {
+            is_empty = false;
             let looked = entry
                 .map_err(|e| (below.clone(), e))
                 .and_then(|entry| look(&entry, &below));
@@ -57,9 +61,13 @@ pub fn walked(folder: &Path) -> Result<Walked, Failure> {
                 Err((name, e)) => found.unread.push((name, reason(&e))),
             }
         }
+        if is_empty && !below.is_empty() {
+            found.folders.push(below);
+        }
     }
     settle(folder, fresh, &mut found);
     found.files.sort_by(|a, b| a.0.cmp(&b.0));
+    found.folders.sort();
     found.others.sort();
     found.unread.sort();
     Ok(found)
@@ -114,6 +122,17 @@ fn settle(folder: &Path, mut fresh: Vec<Vec<u8>>, found: &mut Walked) {
     found.unread.extend(changing);
 }
 
+/// A file that the command line names, a link to one followed: its path, and its state when it is not fresh. Fails where it is none.
+pub fn one_file(path: &Path) -> Result<(PathBuf, State), Failure> {
+    let failed = |e: io::Error| unreadable(path, Unread::from(e));
+    let target = path.canonicalize().map_err(failed)?;
+    let state = steady::settled(|| fs::symlink_metadata(&target).map(|found| State::of(&found)));
+    let state = state.map_err(failed)?;
+    state
+        .map(|state| (target, state))
+        .ok_or_else(|| unreadable(path, Unread::Changed))
+}
+
 /// What is not the same in two looks at a folder, the second of which was taken after its files were read.
 pub fn between(before: &Walked, after: &Walked) -> Vec<Said> {
     let [then, now] = [before, after].map(states);
@@ -136,7 +155,8 @@ fn states(walked: &Walked) -> BTreeMap<&[u8], Option<State>> {
     let files = walked.files.iter().map(|(path, s)| (&path[..], Some(*s)));
     let others = walked.others.iter().map(|(path, _)| (&path[..], None));
     let unread = walked.unread.iter().map(|(path, _)| (&path[..], None));
-    files.chain(others).chain(unread).collect()
+    let folders = walked.folders.iter().map(|path| (&path[..], None));
+    files.chain(others).chain(unread).chain(folders).collect()
 }
 
 #[cfg(test)]
@@ -159,12 +179,14 @@ mod tests {
         fs::write(folder.join("sub/other"), b"plans").unwrap();
         fs::rename(folder.join("sub/other"), folder.join("sub/replaced")).unwrap();
         std::os::unix::fs::symlink("same", folder.join("link")).unwrap();
+        fs::create_dir_all(folder.join("sub/empty/folder")).unwrap();
         let said = between(&before, &walked(&folder).unwrap());
         let expected = [
             ("changed", CHANGED),
             ("link", ADDED),
             ("removed", REMOVED),
             ("sub/added", ADDED),
+            ("sub/empty/folder", ADDED),
             ("sub/replaced", CHANGED),
         ];
         assert_eq!(

@@ -1,10 +1,10 @@
 //! Folders written whole and then renamed, so that nobody sees half of one. Nothing is replaced unless that is asked for, and then only what
 //! this program wrote; of two runs into one folder one wins. What an interrupted run left behind is said and cleared.
 
-use crate::folder::{not_ours, Kind};
+use crate::folder::{not_ours, Kind, SUMMARY};
 use crate::outcome::Failure;
-use crate::reading::{lies_in, listed, reason};
-use crate::system::try_lock;
+use crate::reading::{leads_through, listed, reason};
+use crate::system::{reserve, sync_all_files, try_lock};
 use std::ffi::{OsStr, OsString};
 use std::fs::{self, File, OpenOptions};
 use std::io::{self, Write};
@@ -15,6 +15,12 @@ use std::time::{Duration, Instant};
 
 /// How long a run waits for another that writes beside it.
 const PATIENCE: Duration = Duration::from_secs(20);
+
+/// What a folder takes beside the files whose size is known before: its texts, and what the file system keeps of it.
+pub const ROOM: u64 = 1 << 16;
+
+/// How many files are each had written to the disk by themselves; more are by one call for the whole file system.
+const FEW: usize = 16;
 
 /// A folder that a command is going to write.
 pub struct Target {
@@ -48,11 +54,36 @@ impl Target {
         let mut target = Target::at(folder, kind)?;
         let notes = target.settle()?;
         target.seen = identity(folder);
-        target.may_write(force).map_err(|Failure(sentence)| {
+        let tried = target.may_write(force).and_then(|()| target.has_room(ROOM));
+        tried.map_err(|Failure(sentence)| {
             let said: String = notes.iter().map(|note| format!(" ({note})")).collect();
             Failure(format!("{sentence}{said}"))
         })?;
         Ok((target, notes))
+    }
+
+    /// Fails where no folder of so many bytes can be written here: by making one and removing it, before the work and not after it. Where another run is
+    /// writing here just now, nothing is tried.
+    pub fn has_room(&self, bytes: u64) -> Result<(), Failure> {
+        let held = self.open_parent()?;
+        if !try_lock(&held) {
+            return Ok(());
+        }
+        let new = self.beside("unfinished");
+        let tried = fs::create_dir(&new).and_then(|()| {
+            let tried = File::create(new.join(SUMMARY)).and_then(|file| reserve(&file, bytes));
+            let removed = remove(&new, self.kind);
+            tried.and(removed)
+        });
+        tried.map_err(|e| self.failed(e))
+    }
+
+    fn failed(&self, e: io::Error) -> Failure {
+        Failure(format!(
+            "cannot write {}: {}",
+            self.folder.display(),
+            reason(&e)
+        ))
     }
 
     fn at(folder: &Path, kind: Kind) -> Result<Target, Failure> {
@@ -86,13 +117,6 @@ impl Target {
     pub fn write<B: AsRef<[u8]>>(&self, files: &[(String, B)]) -> Result<Vec<String>, Failure> {
         let held = self.lock()?;
         let notes = self.clear_leftovers()?;
-        let failed = |e: io::Error| {
-            Failure(format!(
-                "cannot write {}: {}",
-                self.folder.display(),
-                reason(&e)
-            ))
-        };
         if identity(&self.folder) != self.seen {
             return Err(Failure(format!(
                 "another run wrote {} in the meantime, or somebody changed it; it is left as it is, and nothing of this run is kept",
@@ -103,7 +127,7 @@ impl Target {
         let new = self.beside("unfinished");
         if let Err(e) = fill(&new, files).and_then(|()| self.put_in_place(&new)) {
             let _ = remove(&new, self.kind);
-            return Err(failed(e));
+            return Err(self.failed(e));
         }
         synced(&held);
         Ok(notes)
@@ -234,7 +258,7 @@ pub fn settled(folder: &Path, kind: Kind) -> Vec<String> {
         .unwrap_or_default()
 }
 
-/// Fails where a file of its own cannot be made at a path: something stands there, or it is in a folder that others prepared.
+/// Fails where a file of its own cannot be made at a path: something stands there, or it leads into a folder that others prepared, or through it.
 pub fn may_be_made(path: &Path, prepared: &Path) -> Result<(), Failure> {
     let shown = path.display();
     if fs::symlink_metadata(path).is_ok() {
@@ -243,9 +267,9 @@ pub fn may_be_made(path: &Path, prepared: &Path) -> Result<(), Failure> {
         )));
     }
     let folder = parent(path);
-    if lies_in(folder, prepared) {
+    if leads_through(folder, prepared) {
         return Err(Failure(format!(
-            "{shown} would lie in the opening; name a file elsewhere"
+            "{shown} would lie in the opening, or leads through it; name a file elsewhere"
         )));
     }
     if !folder.is_dir() {
@@ -325,17 +349,27 @@ fn remove(folder: &Path, kind: Kind) -> io::Result<()> {
     fs::remove_dir(folder)
 }
 
+/// Writes the files of a new folder, and has all of them on the disk when it returns.
 fn fill<B: AsRef<[u8]>>(folder: &Path, files: &[(String, B)]) -> io::Result<()> {
     fs::create_dir(folder)?;
+    let is_each = files.len() <= FEW;
     for (name, bytes) in files {
         let mut file = OpenOptions::new()
             .write(true)
             .create_new(true)
             .open(folder.join(name))?;
         file.write_all(bytes.as_ref())?;
-        file.sync_all()?;
+        if is_each {
+            file.sync_all()?;
+        }
     }
-    synced(&File::open(folder)?);
+    let opened = File::open(folder)?;
+    if !is_each && !sync_all_files(&opened)? {
+        for (name, _) in files {
+            File::open(folder.join(name))?.sync_all()?;
+        }
+    }
+    synced(&opened);
     Ok(())
 }
 

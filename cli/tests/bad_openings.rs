@@ -324,6 +324,7 @@ fn the_witness_takes_no_project_s_seal_for_a_file_s() {
     let desk = Desk::new("bad-project");
     desk.folder("house");
     desk.write("house/plan.txt", &desk::plan());
+    desk.write("house/list", b"");
     desk.run("commit house").says(0, &[]);
     desk.run(
         "open house.seal/manifest.txt --seal house.seal --seed dice --at 0 --out plan.txt.opening",

@@ -2,7 +2,7 @@
 
 mod desk;
 
-use desk::{kept, Desk, CHECK, CHECK_UNKEPT, FORMAT, KEPT};
+use desk::{in_the_first_form, kept, Desk, CHECK, CHECK_UNKEPT, FORMAT, KEPT};
 use std::fs;
 use std::path::Path;
 
@@ -100,16 +100,20 @@ fn folders(folder: &Path) -> Vec<String> {
 #[test]
 fn what_earlier_versions_made_is_accepted() {
     let versions = folders(&kept(""));
-    for known in ["0.1.0", "0.2.0", "0.3.0", "0.4.0", "0.5.0", "0.6.0"] {
+    for known in [
+        "0.1.0", "0.2.0", "0.3.0", "0.4.0", "0.5.0", "0.6.0", "0.10.0",
+    ] {
         assert!(versions.iter().any(|v| v == known), "{known} is missing");
     }
     for version in versions {
         let desk = Desk::kept(&format!("kept-{version}"), &version);
-        // The default had other numbers before version 0.4.0, and its seals name them. What is kept of 0.6.0 is of the wide set; before, there was one.
-        let (profile, widths) = match version.as_str() {
-            "0.1.0" | "0.2.0" | "0.3.0" => ("firstdefault", "present"),
-            "0.4.0" | "0.5.0" => ("default", "present"),
-            _ => ("default", "wide"),
+        // The default had other numbers before version 0.4.0, and its seals name them. What is kept from 0.6.0 on is of the wide set; before, there was one.
+        // A manifest has digests from 0.10.0 on.
+        let (profile, widths, compared_by) = match version.as_str() {
+            "0.1.0" | "0.2.0" | "0.3.0" => ("firstdefault", "present", "roots"),
+            "0.4.0" | "0.5.0" => ("default", "present", "roots"),
+            "0.6.0" => ("default", "wide", "roots"),
+            _ => ("default", "wide", "digests"),
         };
         let accepted =
             "verdict: accepted: 3 records and the tail, fewer than the 40 positions of the profile";
@@ -138,7 +142,7 @@ fn what_earlier_versions_made_is_accepted() {
         // Requests and projects came with version 0.3.0.
         if version != "0.1.0" && version != "0.2.0" {
             requests_are_accepted(&desk);
-            projects_are_accepted(&desk, profile, widths);
+            projects_are_accepted(&desk, profile, widths, compared_by);
         }
         desk.write(KEPT, &plan_s);
         // A damaged one is still told from a sound one.
@@ -158,7 +162,7 @@ fn requests_are_accepted(desk: &Desk) {
         .says(0, &["drew 40 positions"]);
 }
 
-fn projects_are_accepted(desk: &Desk, profile: &str, widths: &str) {
+fn projects_are_accepted(desk: &Desk, profile: &str, widths: &str, compared_by: &str) {
     let of = "--seal house.seal --file plans/north.txt";
     desk.run("verify house --seal house.seal")
         .says(0, &["yes: house is the project that was sealed"]);
@@ -180,10 +184,23 @@ fn projects_are_accepted(desk: &Desk, profile: &str, widths: &str) {
         "commit house --profile {profile} --widths {widths} --out house.again"
     ))
     .says(0, &[]);
-    assert_eq!(
-        desk.value("house.again/root.txt"),
-        desk.value("house.seal/root.txt")
-    );
+    let [again, then] =
+        ["house.again", "house.seal"].map(|seal| desk.text(&format!("{seal}/manifest.txt")));
+    if compared_by == "digests" {
+        assert_eq!(again, then);
+    } else {
+        // The manifest has more in it now, and the same roots.
+        assert_eq!(in_the_first_form(&again), then);
+    }
+    desk.run("verify house --seal house.seal --json")
+        .says(0, &[&format!("\"compared_by\": \"{compared_by}\"")]);
+    desk.run("verify house --seal house.again --json")
+        .says(0, &["\"compared_by\": \"digests\""]);
+    desk.write("house/plans/north.txt", b"another");
+    for seal in ["house.seal", "house.again"] {
+        desk.run(&format!("verify house --seal {seal}"))
+            .says(1, &["changed: plans/north.txt, which had "]);
+    }
 }
 
 #[test]

@@ -261,17 +261,6 @@ fn files_of_every_small_size() {
 }
 
 #[test]
-fn a_file_too_large() {
-    let desk = Desk::new("too-large");
-    desk.write("large", &vec![0; 16_777_201]);
-    desk.run("commit large").says(
-        1,
-        &["refused: the file has more than 16777200 bytes, the most that a deposit has (n = 20)"],
-    );
-    assert_eq!(desk.names("."), ["large"]);
-}
-
-#[test]
 fn parameters_of_one_s_own() {
     let desk = Desk::new("own-parameters");
     desk.write("f", b"words");

@@ -75,7 +75,7 @@ fn the_manifest_has_every_file_in_one_form_and_its_root_is_the_project_s() {
     paths.sort();
     let expected: Vec<&str> = paths.iter().map(|(_, text)| *text).collect();
     assert_eq!(written, expected);
-    assert!(text.starts_with("format 1\nfile 9 b1/back"));
+    assert!(text.starts_with("format 2\nfile 9 b1/back"));
     // Each part and the manifest are sealed as files are.
     for (file, root) in [
         ("house.seal/manifest.txt", desk.value("house.seal/root.txt")),
@@ -101,8 +101,9 @@ fn the_manifest_has_every_file_in_one_form_and_its_root_is_the_project_s() {
 /// The root in the line behind a file's.
 fn part_root(manifest: &str, file: &str) -> String {
     let mut lines = manifest.lines().skip_while(|line| *line != file);
-    let part = lines.nth(1).unwrap();
-    part.strip_prefix("part ").unwrap().into()
+    let part: Vec<&str> = lines.nth(1).unwrap().split(' ').collect();
+    assert_eq!((part.len(), part[0]), (3, "part"));
+    part[1].into()
 }
 
 #[test]
@@ -113,8 +114,6 @@ fn the_same_files_have_the_same_root_wherever_and_whenever_they_are_sealed() {
         .current_dir(&desk.0)
         .status();
     assert!(copied.unwrap().success());
-    // A folder without files leaves no trace.
-    fs::create_dir_all(desk.path("copy/nothing/in/it")).unwrap();
     desk.run("commit copy/").says(0, &["root "]);
     assert_eq!(
         desk.read("copy.seal/root.txt"),
@@ -149,7 +148,7 @@ fn what_is_no_file_is_refused_by_name() {
         &[
             "refused: house holds what is neither a file nor a folder",
             "b1/link is a link",
-            "folder\\u{202e}link is a link",
+            "folder\\e2\\80\\aelink is a link",
         ],
     );
     fs::remove_file(desk.path("house/b1/link")).unwrap();
@@ -297,11 +296,11 @@ fn a_refusal_says_whether_the_manifest_or_a_record_failed() {
         );
         run.does_not_say(&[": accepted", "position"]);
     }
-    let newer = sound.replacen("format 1", "format 2", 1);
+    let newer = sound.replacen("format 2", "format 3", 1);
     desk.write("house.opening/manifest.txt", newer.as_bytes());
     desk.run(CHECK).says(
         1,
-        &["manifest: refused: house.opening/manifest.txt says that it is of format 2"],
+        &["manifest: refused: house.opening/manifest.txt says that it is of format 3, and this program, "],
     );
     fs::remove_file(desk.path("house.opening/manifest.txt")).unwrap();
     desk.run(CHECK)
@@ -487,7 +486,10 @@ fn what_changed_is_missing_or_is_new() {
     desk.run(&format!("{VERIFY} --json")).says(
         1,
         &[
-            "\"changed\": [\"b2/план, which had 36 bytes and has 25\", \"plan.txt\"], \"missing\": [\"b2/평면도 📐\", \"empty\"], \"new\": [\"b1/new\\\\0aone\", \"link, which is a link\"]",
+            "\"changed\": [{\"path\": \"b2/план\", \"kind\": \"length\", \"first_differing\": {\"from\": 0, \"to\": 35}, \"bytes_then\": 36, \"bytes_now\": 25}, \
+             {\"path\": \"plan.txt\", \"kind\": \"bytes\", \"first_differing\": {\"from\": 0, \"to\": 959}, \"bytes_then\": 960, \"bytes_now\": 960}], \
+             \"missing\": [{\"path\": \"b2/평면도 📐\", \"kind\": \"file\"}, {\"path\": \"empty\", \"kind\": \"file\"}], \
+             \"new\": [{\"path\": \"b1/new\\\\0aone\", \"kind\": \"file\"}, {\"path\": \"link\", \"kind\": \"link\"}]",
             "\"verdict\": \"refused\", \"accepted\": false, \"exit\": 1",
         ],
     );
@@ -615,6 +617,22 @@ fn a_large_file_is_sealed_in_parts() {
         &["position 49: accepted; it shows bytes 16777968 to 16778095 of the file", "note: the file that is asked about is large, part 2 of 2, bytes 16777200 to 16778199\n"],
     );
     desk.run(&format!("{check} --part 2 --at 49")).says(0, &[]);
+    let shown = desk.run("show house.opening");
+    shown.says(
+        0,
+        &[
+            "position 49: bytes 16777968 to 16778095 of the file",
+            "\n  16777968  ",
+            "note: by its manifest this is an opening of the file large, part 2 of 2, bytes 16777200 to 16778199, and the offsets are the file's",
+        ],
+    );
+    desk.run("show house.opening --json").says(
+        0,
+        &[
+            "\"file\": \"large\"",
+            "{\"position\": 49, \"offset\": 16777968, ",
+        ],
+    );
     desk.run(VERIFY).says(0, &[]);
     desk.damage("house/large", PART + 5);
     desk.run(VERIFY)
@@ -684,4 +702,232 @@ fn one_file_in_one_part_is_said_so() {
     let summary = desk.text("house.seal/summary.txt");
     let line = "It stands for the project house: 1 file of 6 bytes in all, in 1 part.\n";
     assert!(summary.contains(line), "{summary}");
+}
+
+/// Of what is shown of a path, `--file` takes back all; two spellings of one name are not shown alike.
+#[test]
+fn a_path_is_named_as_it_is_shown() {
+    let desk = Desk::new("project-named");
+    let mut paths: Vec<Vec<u8>> = NAMES.iter().map(|(path, _)| path.to_vec()).collect();
+    for path in [
+        "é",
+        "e\u{301}",
+        "a\u{202e}b",
+        "한",
+        "\u{1112}\u{1161}\u{11ab}",
+        "x\\0a",
+        "x\n",
+    ] {
+        paths.push(path.into());
+    }
+    for path in &paths {
+        put(&desk, "house", path, path);
+    }
+    desk.run("commit house").says(0, &[]);
+    fs::rename(desk.path("house"), desk.path("aside")).unwrap();
+    desk.folder("house");
+    let shown = desk.run(VERIFY).out;
+    let shown: Vec<&str> = shown
+        .lines()
+        .filter_map(|line| line.strip_prefix("missing: "))
+        .collect();
+    assert_eq!(shown.len(), paths.len());
+    for text in ["é", "e\\cc\\81", "a\\e2\\80\\aeb", "한", "x\\5c0a", "x\\0a"] {
+        assert!(shown.contains(&text), "{text} is not in {shown:?}");
+    }
+    fs::remove_dir(desk.path("house")).unwrap();
+    fs::rename(desk.path("aside"), desk.path("house")).unwrap();
+    let of = "--seal house.seal --seed dice --offset 0 --force --file";
+    let open = |path: &OsStr| {
+        let words = format!("open house {of}");
+        let words: Vec<&OsStr> = words.split(' ').map(OsStr::new).collect();
+        desk.seal(words.into_iter().chain([path]))
+    };
+    for text in &shown {
+        open(OsStr::new(text)).says(0, &["opened 1 position"]);
+        let summary = desk.text("house.opening/summary.txt");
+        let line = format!("An opening of the sealed file {text}.\n");
+        assert!(summary.starts_with(&line), "{line} {summary}");
+    }
+    // The bytes of a path are taken too, unless they are what is shown of another.
+    for path in &paths {
+        open(OsStr::from_bytes(path)).says(0, &[]);
+    }
+    open(OsStr::new("x\\0A")).says(2, &["the project has no file x\\5c0A"]);
+}
+
+/// A project whose manifest says another length than was sealed under the root that it names.
+#[test]
+fn a_record_that_shows_another_length_than_the_manifest_is_refused() {
+    let desk = sealed("project-length");
+    desk.run("open house --seal house.seal --file plan.txt --seed dice --at 0,63")
+        .says(0, &[]);
+    desk.keep_roots("house.opening");
+    let check = "check house.opening --seal house.seal --file plan.txt --seed dice --roots kept-roots.txt --at";
+    desk.run(&format!("{check} 0,63"))
+        .says(0, &["position 63: accepted; it shows "]);
+    let text = desk.text("house.seal/manifest.txt");
+    let other = text.replace("file 960 plan.txt", "file 961 plan.txt");
+    desk.write("other.txt", other.as_bytes());
+    desk.run("commit other.txt").says(0, &[]);
+    fs::copy(
+        desk.path("other.txt"),
+        desk.path("house.opening/manifest.txt"),
+    )
+    .unwrap();
+    let check = check.replace("house.seal", "other.txt.seal");
+    desk.run(&format!("{check} 0,63")).says(
+        1,
+        &[
+            "position 0: accepted; ",
+            "position 63: refused: the record leads to the root that the manifest names, and shows that 960 bytes were sealed under it, where the manifest says 961",
+            "verdict: refused",
+        ],
+    );
+    // What shows no length is what was sealed, whatever the manifest says of it.
+    desk.run(&format!("{check} 0"))
+        .says(0, &["position 0: accepted"]);
+}
+
+/// A project's root is that of its manifest, and the manifest is not what the seal stands for.
+#[test]
+fn a_file_is_not_verified_by_a_project_s_seal() {
+    let desk = sealed("project-file");
+    let verify = "verify house.seal/manifest.txt --seal house.seal";
+    let said = "house.seal is a project's seal, and house.seal/manifest.txt is a file; the project has 16 files: ";
+    desk.run(verify).says(2, &[said]);
+    desk.run("verify house/plan.txt --seal house.seal")
+        .says(2, &["house.seal is a project's seal"]);
+    // The summary says it too.
+    fs::rename(
+        desk.path("house.seal/manifest.txt"),
+        desk.path("manifest.txt"),
+    )
+    .unwrap();
+    desk.run("verify manifest.txt --seal house.seal")
+        .says(2, &["house.seal is a project's seal"]);
+    // A manifest that was sealed as a file is one.
+    desk.run("commit manifest.txt").says(0, &[]);
+    desk.run("verify manifest.txt --seal manifest.txt.seal")
+        .says(0, &["yes: "]);
+}
+
+/// An opening whose manifest has its root twice is of either; the summary says of which.
+#[test]
+fn an_opening_of_one_of_two_files_with_the_same_bytes_is_shown() {
+    let desk = Desk::new("project-twice");
+    put(&desk, "house", b"a", &plan());
+    put(&desk, "house", b"b", &plan());
+    desk.run("commit house").says(0, &[]);
+    desk.run("open house --seal house.seal --file b --seed dice --at 3")
+        .says(0, &[]);
+    desk.run("show house.opening")
+        .says(0, &["this is an opening of the file b, and"]);
+    fs::remove_file(desk.path("house.opening/summary.txt")).unwrap();
+    desk.run("show house.opening")
+        .says(0, &["in which 2 parts have the same bytes: a, b. "]);
+    let other = desk
+        .text("house.seal/manifest.txt")
+        .replace("part ", "part 0");
+    desk.write("house.opening/manifest.txt", other.as_bytes());
+    desk.run("show house.opening").does_not_say(&["note: "]);
+}
+
+/// By default the digests that the manifest keeps are compared, which is said; with --full every part is committed anew.
+#[test]
+fn a_project_is_verified_by_digests_or_in_full() {
+    let desk = sealed("project-digests");
+    let note = "note: the parts were compared by the BLAKE3 digests that the manifest keeps; --full commits each part anew\n";
+    desk.run(VERIFY).says(0, &["yes: ", note]);
+    let full = format!("{VERIFY} --full");
+    desk.run(&full).does_not_say(&["note: "]);
+    for (line, by) in [(VERIFY, "digests"), (&full, "roots")] {
+        let run = desk.run(&format!("{line} --json"));
+        run.says(0, &[&format!("\"compared_by\": \"{by}\"")]);
+    }
+    // The digest is that of the part's bytes.
+    let text = desk.text("house.seal/manifest.txt");
+    let digest = dequmlo::Root(dequmlo::digest(&plan()).unwrap()).to_string();
+    let root = part_root(&text, "file 960 plan.txt");
+    assert!(text.contains(&format!("file 960 plan.txt\npart {root} {digest}\n")));
+    desk.damage("house/plan.txt", 500);
+    fs::rename(desk.path("house/b1"), desk.path("house/b3")).unwrap();
+    for line in [VERIFY, &full] {
+        desk.run(line).says(
+            1,
+            &[
+                "no: house is not the project that was sealed\nchanged: plan.txt\n",
+                "moved: b1/end\\20, which is now b3/end\\20\n",
+            ],
+        );
+    }
+    // A seal that has lost its manifest, or whose manifest is damaged, is one whose folder is committed anew.
+    desk.damage("house/plan.txt", 500);
+    fs::rename(desk.path("house/b3"), desk.path("house/b1")).unwrap();
+    desk.damage("house.seal/manifest.txt", 100);
+    desk.run(&format!("{VERIFY} --json"))
+        .says(0, &["yes: ", "\"compared_by\": \"roots\""]);
+    fs::remove_file(desk.path("house.seal/manifest.txt")).unwrap();
+    desk.run(VERIFY).says(0, &["yes: "]);
+    desk.folder("house/more");
+    desk.run(VERIFY).says(1, &["no: "]);
+}
+
+/// A digest in the manifest is under the project's root: another one is another project's.
+#[test]
+fn the_root_covers_the_digests() {
+    let desk = sealed("project-covered");
+    desk.run(OPEN).says(0, &[]);
+    desk.keep_roots("house.opening");
+    let text = desk.text("house.seal/manifest.txt");
+    let digest = dequmlo::Root(dequmlo::digest(&plan()).unwrap()).to_string();
+    let other = dequmlo::Root(dequmlo::digest(b"another").unwrap()).to_string();
+    let changed = text.replace(&digest, &other);
+    assert_ne!(changed, text);
+    desk.write("house.opening/manifest.txt", changed.as_bytes());
+    desk.run(CHECK).says(1, &["manifest: refused: "]);
+    desk.write("house.seal/manifest.txt", changed.as_bytes());
+    desk.write("house/plan.txt", b"another");
+    desk.run(VERIFY)
+        .says(2, &["the seal in house.seal is damaged: its manifest.txt"]);
+}
+
+/// A folder in which there is nothing is in the manifest, and is missed, or new.
+#[test]
+fn empty_folders_are_listed() {
+    let desk = sealed("project-folders");
+    let without = desk.value("house.seal/root.txt");
+    fs::create_dir_all(desk.path("house/nothing/in it\n")).unwrap();
+    desk.run(VERIFY)
+        .says(1, &["new: nothing/in it\\0a, which is an empty folder\n"]);
+    desk.run("commit house --force").says(0, &["16 files, "]);
+    assert_ne!(desk.value("house.seal/root.txt"), without);
+    let text = desk.text("house.seal/manifest.txt");
+    assert!(
+        text.contains("\nfolder nothing/in it\\0a\nfile 960 plan.txt\n"),
+        "{text}"
+    );
+    assert_eq!(text.matches("folder ").count(), 1);
+    desk.run(VERIFY).says(0, &["yes: "]);
+    desk.run(&format!("{VERIFY} --full")).says(0, &["yes: "]);
+    fs::remove_dir(desk.path("house/nothing/in it\n")).unwrap();
+    desk.run(VERIFY).says(
+        1,
+        &[
+            "missing: nothing/in it\\0a, which is an empty folder\n",
+            "no: ",
+        ],
+    );
+    desk.run(&format!("{VERIFY} --json")).says(
+        1,
+        &["\"missing\": [{\"path\": \"nothing/in it\\\\0a\", \"kind\": \"empty folder\"}], \"new\": []"],
+    );
+    fs::remove_dir(desk.path("house/nothing")).unwrap();
+    desk.run(VERIFY)
+        .says(1, &["missing: nothing/in it\\0a, which is an empty folder"]);
+    // One that has something in it now is there.
+    put(&desk, "house", b"nothing/in it\n/new", b"");
+    let run = desk.run(VERIFY);
+    run.says(1, &["new: nothing/in it\\0a/new\n"]);
+    run.does_not_say(&["missing"]);
 }

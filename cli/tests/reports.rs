@@ -198,6 +198,13 @@ fn a_report_replaces_nothing() {
     assert_eq!(desk.read("r.html"), b"keep");
     desk.run(&format!("{CHECK} --report plan.txt.opening/r.html"))
         .says(2, &["would lie in the opening"]);
+    // A folder's link of the holder's leads where the holder chose.
+    desk.folder("else");
+    std::os::unix::fs::symlink("../else", desk.path("plan.txt.opening/link")).unwrap();
+    desk.run(&format!("{CHECK} --report plan.txt.opening/link/r.html"))
+        .says(2, &["would lie in the opening, or leads through it"]);
+    assert!(desk.names("else").is_empty());
+    std::fs::remove_file(desk.path("plan.txt.opening/link")).unwrap();
     desk.run(&format!("{CHECK} --report absent/r.html"))
         .says(2, &["there is no folder absent"]);
     std::os::unix::fs::symlink("elsewhere", desk.path("linked.html")).unwrap();

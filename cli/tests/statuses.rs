@@ -7,7 +7,7 @@ use desk::{Desk, Run, CHECK, CHECK_UNKEPT};
 #[test]
 fn every_command_ends_with_the_status_that_is_documented() {
     let desk = Desk::opened("statuses");
-    desk.write("large", &vec![0; 16_777_201]);
+    desk.folder("bare");
     desk.write("other.txt", b"other");
     desk.run("open plan.txt --seal plan.txt.seal --seed dice --at 7 --out damaged")
         .says(0, &[]);
@@ -20,7 +20,7 @@ fn every_command_ends_with_the_status_that_is_documented() {
     let kept = "--roots roots.txt";
     let runs = [
         (0, "commit plan.txt --out a".to_string()),
-        (1, "commit large".into()),
+        (1, "commit bare".into()),
         (1, "commit plan.txt --k 5 --domain d --out b".into()),
         (2, "commit plan.txt".into()),
         (2, "commit absent".into()),

@@ -2,7 +2,8 @@
 
 mod desk;
 
-use desk::Desk;
+use desk::disk::Disk;
+use desk::{plan, Desk};
 
 /// 64 threads are more than there is work, 1 does everything in single calls; without the option there is one for each core.
 const NUMBERS: [&str; 5] = [
@@ -63,4 +64,43 @@ fn a_number_from_1() {
         .says(2, &["--threads needs a number, and `all` is none"]);
     desk.run("check plan.txt.opening --threads 2")
         .says(2, &["`seal check` takes no --threads"]);
+}
+
+/// On a terminal the line of progress says how many threads work.
+#[test]
+fn the_line_of_progress_says_how_many_threads_work() {
+    let desk = Desk::new("threads-progress");
+    desk.write("plan.txt", &plan());
+    desk.folder("house");
+    for name in ["a", "b", "c"] {
+        desk.write(&format!("house/{name}"), &plan());
+    }
+    for (line, said) in [
+        (
+            "commit plan.txt --threads 2",
+            "committing 64 words on 2 threads ..",
+        ),
+        (
+            "commit house --threads 2",
+            "committing on 2 threads: 3 of 3 parts, ",
+        ),
+        (
+            "commit house --threads 8 --force",
+            "committing on 3 threads: ",
+        ),
+        (
+            "verify house --seal house.seal --threads 1",
+            "comparing digests on 1 thread: 3 of 3 parts, ",
+        ),
+        (
+            "verify plan.txt --seal plan.txt.seal --threads 1",
+            "committing 64 words on 1 thread ..",
+        ),
+        (
+            "open plan.txt --seal plan.txt.seal --seed dice --at 0 --threads 2",
+            "folding 6 levels on 2 threads ..",
+        ),
+    ] {
+        desk.on(&Disk::Terminal, line).says(0, &[said]);
+    }
 }

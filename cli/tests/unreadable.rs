@@ -8,6 +8,9 @@ use std::fs;
 
 const VERIFY: &str = "verify house --seal house.seal";
 
+/// What is said beside every answer.
+const BY: &str = "note: the parts were compared by the BLAKE3 digests that the manifest keeps; --full commits each part anew\n";
+
 const SAID: &str = "seal: it cannot be said whether house is the project that was sealed: 1 file or folder could not be read, or changed meanwhile. All that could be read is as it was sealed\n";
 
 /// A sealed project of a few files.
@@ -49,7 +52,7 @@ fn a_file_that_cannot_be_read_is_listed_and_the_others_are_verified() {
     for (disk, listed) in &BAD {
         let run = desk.on(disk, VERIFY);
         run.says(2, &[]);
-        assert_eq!((&*run.out, &*run.err), (*listed, SAID));
+        assert_eq!((&*run.out, &*run.err), (&*format!("{listed}{BY}"), SAID));
     }
     desk.write("house/a.txt", b"another plan\n");
     fs::remove_file(desk.path("house/notes/e.txt")).unwrap();
@@ -80,7 +83,7 @@ fn what_could_not_be_read_for_programs() {
         &[
             "\"verdict\": \"could-not-run\", \"accepted\": false, \"exit\": 2",
             "\"sentence\": \"it cannot be said whether house is the project that was sealed: 1 file or folder could not be read, or changed meanwhile.",
-            "\"changed\": [], \"missing\": [], \"new\": [], \"moved\": [], \"unreadable\": [{\"path\": \"b.txt\", \"why\": \"Input/output error\"}]",
+            "\"changed\": [], \"missing\": [], \"new\": [], \"moved\": [], \"unreadable\": [{\"path\": \"b.txt\", \"why\": \"Input/output error\", \"kind\": \"file\"}]",
         ],
     );
     desk.write("house/a.txt", b"another plan\n");
@@ -88,8 +91,8 @@ fn what_could_not_be_read_for_programs() {
         1,
         &[
             "\"verdict\": \"refused\"",
-            "\"changed\": [\"a.txt, which had 2100 bytes and has 13\"]",
-            "\"unreadable\": [{\"path\": \"b.txt\", \"why\": \"Input/output error\"}]",
+            "\"changed\": [{\"path\": \"a.txt\", \"kind\": \"length\", \"first_differing\": {\"from\": 0, \"to\": 2099}, \"bytes_then\": 2100, \"bytes_now\": 13}]",
+            "\"unreadable\": [{\"path\": \"b.txt\", \"why\": \"Input/output error\", \"kind\": \"file\"}]",
         ],
     );
 }
@@ -153,7 +156,7 @@ fn a_moved_file_is_known_by_its_bytes() {
     );
     run.does_not_say(&["changed", "missing: a", "missing: p", "new: n", "new: z"]);
     desk.run(&format!("{VERIFY} --json"))
-        .says(1, &["\"moved\": [{\"from\": \"a.txt\", \"to\": \"z.txt\"}, {\"from\": \"plans/c.txt\", \"to\": \"notes/section.txt\"}]"]);
+        .says(1, &["\"moved\": [{\"from\": \"a.txt\", \"to\": \"z.txt\", \"kind\": \"file\"}, {\"from\": \"plans/c.txt\", \"to\": \"notes/section.txt\", \"kind\": \"file\"}]"]);
 }
 
 #[test]

@@ -170,8 +170,13 @@ fn a_tail_under_the_holder_s_own_roots_is_no_acceptance() {
         3,
         &["tail: sound, but under the holder's own roots, so this is no acceptance"],
     );
-    desk.run(&format!("{tail} --json"))
-        .says(3, &["\"accepted\": false", "\"own_questions\": \"roots\""]);
+    desk.run(&format!("{tail} --json")).says(
+        3,
+        &[
+            "\"verdict\": \"not-accepted\", \"accepted\": false",
+            "\"roots_kept\": false",
+        ],
+    );
     fs::copy(desk.path("plan.txt.opening/roots.txt"), desk.path("kept")).unwrap();
     desk.run(&format!("{tail} --roots kept"))
         .says(0, &["tail: accepted"]);

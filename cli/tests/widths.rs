@@ -434,7 +434,14 @@ fn a_project_under_the_wide_set() {
         ("house.seal/manifest.txt", desk.value("house.seal/root.txt")),
         (
             "house/plan.txt",
-            manifest.lines().last().unwrap().replace("part ", ""),
+            manifest
+                .lines()
+                .last()
+                .unwrap()
+                .split(' ')
+                .nth(1)
+                .unwrap()
+                .into(),
         ),
     ] {
         desk.run(&format!("commit {file} --widths wide --out one --force"))

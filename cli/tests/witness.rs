@@ -400,7 +400,9 @@ fn the_witness_numbers_each_damage_of_the_tail() {
 fn the_witness_accepts_what_earlier_versions_wrote() {
     let desk = Desk::new("witness-fixtures");
     let fixtures = concat!(env!("CARGO_MANIFEST_DIR"), "/tests/fixtures/v1");
-    for version in ["0.1.0", "0.2.0", "0.3.0", "0.4.0", "0.5.0", "0.6.0"] {
+    for version in [
+        "0.1.0", "0.2.0", "0.3.0", "0.4.0", "0.5.0", "0.6.0", "0.10.0",
+    ] {
         let folder = format!("{fixtures}/{version}");
         fs::copy(
             format!("{folder}/plan.txt.opening/challenges.txt"),
@@ -970,6 +972,50 @@ fn the_witness_on_a_keyed_project() {
         .says(1, &["manifest: no: "]);
 }
 
+/// A record that shows another length than the manifest says is refused by both, and a path is taken by both as it is shown.
+#[test]
+fn the_witness_on_lengths_and_on_paths_as_they_are_shown() {
+    let desk = Desk::new("witness-lengths");
+    desk.folder("house");
+    let paths = ["b\n", "b\\0a", "e\u{301}", "é"];
+    for path in paths {
+        desk.write(&format!("house/{path}"), &desk::plan());
+    }
+    desk.run("commit house").says(0, &[]);
+    let sound = desk.text("house.seal/manifest.txt");
+    let open = "open house --seal house.seal --seed dice --file é --at 0,59";
+    desk.run(open).says(0, &[]);
+    fs::copy(
+        desk.path("house.opening/challenges.txt"),
+        desk.path("challenges.txt"),
+    )
+    .unwrap();
+    desk.keep_roots("house.opening");
+    for shown in ["b\\0a", "b\\5c0a", "e\\cc\\81", "é", "b\n", "e\u{301}"] {
+        both_on_a_file(&desk, 0, shown.as_bytes(), "0");
+    }
+    for none in ["b\\0A", "b\\", "b\\5c\\5c0a", "\\ff"] {
+        both_on_a_file(&desk, 2, none.as_bytes(), "0");
+    }
+    // The last group has the length, and 961 bytes are as many words as 960.
+    for (length, status) in [(960, 0), (961, 1), (1000, 1)] {
+        let text = sound.replace("file 960 ", &format!("file {length} "));
+        let _ = fs::remove_dir_all(desk.path("house.seal"));
+        desk.write("manifest.txt", text.as_bytes());
+        desk.run("commit manifest.txt --out house.seal")
+            .says(0, &[]);
+        desk.write("house.opening/manifest.txt", text.as_bytes());
+        both_on_a_file(&desk, 0, b"b\n", "0");
+        let [_, witness] = both_on_a_file(&desk, status, b"b\n", "944");
+        if status > 0 {
+            let said = format!(
+                "position 59: no, it shows a length of 960 bytes, and the manifest says {length}\n"
+            );
+            witness.says(1, &["position", &said]);
+        }
+    }
+}
+
 /// Texts that a seal stands for and that are no manifests, or are.
 #[test]
 fn the_witness_knows_a_manifest_by_its_form() {
@@ -1002,7 +1048,19 @@ fn the_witness_knows_a_manifest_by_its_form() {
         (sound.replace("960 b", "960 ./b"), 1),
         (format!("{sound}{twice}"), 1),
         (format!("{sound}{part}\n"), 1),
-        (sound.replace("format 1\n", ""), 1),
+        (sound.replace("format 2\n", ""), 1),
+        (sound.replace("format 2", "format 1"), 1),
+        (desk::in_the_first_form(&sound), 0),
+        (
+            desk::in_the_first_form(&sound).replace("format 1", "format 2"),
+            1,
+        ),
+        (sound.replace("file 960 b", "folder a\nfile 960 b"), 0),
+        (
+            sound.replace("file 960 b", "folder a\nfolder a/c\nfile 960 b"),
+            1,
+        ),
+        (format!("{}folder c\n", desk::in_the_first_form(&sound)), 1),
         (format!("{sound} "), 1),
         (sound.replace('\n', "\r\n"), 1),
     ] {

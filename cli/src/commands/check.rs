@@ -195,7 +195,7 @@ impl Asked {
     fn read(options: &Options, seal: &Seal) -> Result<Asked, Failure> {
         match requested(options, seal)? {
             Some(request) => Asked::by_request(request),
-            None => Asked::by_options(options, &seal.shape),
+            None => Asked::by_options(options, seal),
         }
     }
 
@@ -216,10 +216,11 @@ impl Asked {
         Ok(asked)
     }
 
-    fn by_options(options: &Options, shape: &Shape) -> Result<Asked, Failure> {
+    fn by_options(options: &Options, seal: &Seal) -> Result<Asked, Failure> {
+        let shape = &seal.shape;
         let asked = Asked {
             challenges: challenges(options, shape.n)?.map(|(words, _)| words),
-            positions: positions(options, shape)?,
+            positions: positions(options, shape, seal.part.is_some())?,
             request: None,
         };
         let own = options.has("--own-questions");
@@ -312,12 +313,21 @@ impl Asked {
     }
 }
 
-/// What an accepted record opens, at its offset in the file.
-fn opened(seal: &Seal, position: usize, record: &QueryRecord) -> Option<Opened> {
-    let opened = Opened::of(seal.shape.n, position, record)?;
-    match &seal.part {
-        None => Some(opened),
-        Some(part) => Some(part.placed(opened)),
+/// What comes of a record that the library accepts: what it opens, at its offset in the file. Of a part of a project it may show no other length than the
+/// manifest says.
+fn accepted(seal: &Seal, position: usize, record: &QueryRecord) -> Answer {
+    let opened = Opened::of(seal.shape.n, position, record);
+    let part = match &seal.part {
+        None => return Answer::Accepted(opened),
+        Some(part) => part,
+    };
+    match opened.as_ref().and_then(Opened::length) {
+        Some(length) if length != part.bytes as u128 => Answer::Declined(format!(
+            "the record leads to the root that the manifest names, and shows that {} bytes were sealed under it, where the manifest says {}: the project was not \
+             sealed as it should be, and the manifest stands for no file",
+            length, part.bytes
+        )),
+        _ => Answer::Accepted(opened.map(|opened| part.placed(opened))),
     }
 }
 
@@ -332,7 +342,7 @@ fn records(
     for position in positions {
         let answer = match shown.record(*position)? {
             Record::Found(record) => match statement.check_query(*position, &record) {
-                Ok(()) => Answer::Accepted(opened(seal, *position, &record)),
+                Ok(()) => accepted(seal, *position, &record),
                 Err(refusal) => Answer::Refused(refusal),
             },
             Record::Missing => Answer::Declined(

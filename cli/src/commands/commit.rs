@@ -1,18 +1,20 @@
-//! `seal commit`: a file's root and parameters, as a seal. A folder is a project (commit_folder.rs).
+//! `seal commit`: a file's root and parameters, as a seal. A folder is a project, and a file that a deposit does not hold is one of one file (commit_folder.rs).
 
 use crate::commands::commit_folder;
 use crate::folder::Kind;
 use crate::json::Json;
 use crate::key::{self, CheckValue, Given};
+use crate::manifest::counted;
 use crate::options::Options;
 use crate::outcome::{Failure, Outcome, Verdict};
 use crate::progress::Progress;
 use crate::reading::{lies_in, shown_path};
 use crate::seal::Seal;
 use crate::shape::Shape;
-use crate::table::{read_table, room_for};
+use crate::table::{read_table, room_to_commit, MOST_BYTES};
 use crate::writing::{beside, Target};
 use dequmlo::{Deposit, Parameters, Root, Widths};
+use std::fs::{self, Metadata};
 use std::path::Path;
 
 pub const TAKEN: [&str; 9] = [
@@ -31,9 +33,14 @@ pub fn run(options: &Options) -> Result<Outcome, Failure> {
     options.expect(1, "one FILE or FOLDER", &TAKEN)?;
     let file = &options.operands[0];
     let threads = options.threads()?;
-    if file.is_dir() {
+    let is_project = file.is_dir() || is_in_parts(file);
+    if is_project {
         let ((k, domain), widths) = (parameters(options)?, widths(options)?);
-        return commit_folder::run(options, threads, named_key(options)?, domain, widths, k);
+        let given = named_key(options)?;
+        return match file.is_dir() {
+            true => commit_folder::run(options, threads, given, domain, widths, k),
+            false => commit_folder::run_file(options, threads, given, domain, widths, k),
+        };
     }
     let folder = options
         .path("--out")
@@ -53,9 +60,13 @@ pub fn run(options: &Options) -> Result<Outcome, Failure> {
         widths,
         key: key.map(CheckValue::of),
     };
-    room_for(&shape)?;
+    room_to_commit(&shape)?;
     let progress = Progress::start();
-    progress.say(&format!("committing {} words ..", table.words.len()));
+    let working = counted(threads.number(), "thread");
+    progress.say(&format!(
+        "committing {} words on {working} ..",
+        table.words.len()
+    ));
     let root = match Deposit::commit_on(threads, key, &shape.domain, widths, k, &table.words) {
         Ok(deposit) => deposit.root(),
         Err(refusal) => return Ok(Outcome::refused(&refusal)),
@@ -64,6 +75,12 @@ pub fn run(options: &Options) -> Result<Outcome, Failure> {
     let files = Seal::files(&shape, &root, &shown_path(file), table.bytes);
     notes.extend(target.write(&files)?);
     Ok(told(&shape, &root, file, table.bytes, target.folder()).notes(notes))
+}
+
+/// Whether a file has more bytes than a deposit: then it is sealed in parts, as a project of one file.
+fn is_in_parts(file: &Path) -> bool {
+    let is_large = |found: Metadata| found.is_file() && found.len() > MOST_BYTES as u64;
+    fs::metadata(file).map_or(false, is_large)
 }
 
 fn told(shape: &Shape, root: &Root, file: &Path, bytes: usize, folder: &Path) -> Outcome {

@@ -1,21 +1,25 @@
-//! `seal commit FOLDER`: one root for a project of many files: that of its manifest.
+//! `seal commit FOLDER`: one root for a project of many files: that of its manifest. A file that a deposit does not hold is a project of one file.
 
 use crate::commands::commit::told_key;
+use crate::digest::Digester;
 use crate::folder::Kind;
 use crate::json::Json;
 use crate::key::{self, CheckValue, Given};
-use crate::manifest::{counted, Manifest, MANIFEST};
+use crate::manifest::{counted, shown, Manifest, MANIFEST};
+use crate::manifest_files;
 use crate::options::Options;
 use crate::outcome::{Failure, Outcome, Verdict};
-use crate::project::{file_path, manifest_of, root_of, written_path, Under};
+use crate::project::{file_path, manifest_of, root_of_files, Made, Place, Under};
 use crate::reading::{lies_in, reason, shown_path, unreadable};
 use crate::seal::Seal;
 use crate::shape::Shape;
 use crate::shown::some_of;
-use crate::table::{variables, MOST_BYTES};
-use crate::walk::{between, walked, Said, Walked};
-use crate::writing::{beside, parent, Target};
+use crate::steady::State;
+use crate::table::variables;
+use crate::walk::{between, one_file, walked, Said, Walked};
+use crate::writing::{beside, parent, Target, ROOM};
 use dequmlo::{Root, Threads, Widths};
+use std::os::unix::ffi::OsStrExt;
 use std::path::{Path, PathBuf};
 
 pub fn run(
@@ -27,18 +31,17 @@ pub fn run(
     k: usize,
 ) -> Result<Outcome, Failure> {
     let project = &options.operands[0];
-    let key = given.as_ref().map(|given| &given.key);
     let folder = match options.path("--out") {
         Some(folder) => folder,
         None => beside(&named(project)?, ".seal"),
     };
-    let (target, mut notes) = Target::new(&folder, Kind::Seal, options.has("--force"))?;
     if lies_in(parent(&folder), project) {
         return Err(Failure(format!(
             "{} would lie in the project that it stands for; name a folder outside of it by --out",
             folder.display()
         )));
     }
+    let (target, notes) = Target::new(&folder, Kind::Seal, options.has("--force"))?;
     let found = walked(project)?;
     all_read(project, &found.unread)?;
     if let Some(sentence) = not_a_project(project, &found) {
@@ -46,37 +49,88 @@ pub fn run(
     }
     let under = Under {
         threads,
-        key,
+        key: given.as_ref().map(|given| &given.key),
         domain: &domain,
         widths,
         k,
+        made: Made::Both,
     };
-    let manifest = match manifest_of(project, &found.files, under) {
+    target.has_room(room_for(&found.files, &found.folders))?;
+    let place = Place::Folder(project);
+    let manifest = match manifest_of(place, &found.files, &found.folders, under) {
         Ok(manifest) => manifest,
         Err(stop) => return stop.outcome(),
     };
     all_the_same(project, &between(&found, &walked(project)?))?;
-    let text = manifest.text();
-    if text.len() > MOST_BYTES {
-        return Ok(Outcome::declined(format!(
-            "the manifest of the project has {} bytes, more than the {MOST_BYTES} that a deposit has; divide the project and seal each part",
-            text.len()
-        )));
-    }
-    let root = match root_of(text.as_bytes(), threads, key, &domain, widths, k) {
+    let name = shown_path(project);
+    let sealed = format!("the project {name}");
+    written(&manifest, under, &name, &sealed, target, notes)
+}
+
+/// Seals a file that a deposit does not hold.
+pub fn run_file(
+    options: &Options,
+    threads: Threads,
+    given: Option<Given>,
+    domain: Vec<u8>,
+    widths: Widths,
+    k: usize,
+) -> Result<Outcome, Failure> {
+    let file = &options.operands[0];
+    let out = options.path("--out");
+    let folder = out.unwrap_or_else(|| beside(file, ".seal"));
+    let (target, notes) = Target::new(&folder, Kind::Seal, options.has("--force"))?;
+    let (path, state) = one_file(file)?;
+    let called = file.file_name().unwrap_or_default().as_bytes().to_vec();
+    let files = [(called, state)];
+    target.has_room(room_for(&files, &[]))?;
+    let under = Under {
+        threads,
+        key: given.as_ref().map(|given| &given.key),
+        domain: &domain,
+        widths,
+        k,
+        made: Made::Both,
+    };
+    let manifest = match manifest_of(Place::File(&path), &files, &[], under) {
+        Ok(manifest) => manifest,
+        Err(stop) => return stop.outcome(),
+    };
+    let name = shown_path(file);
+    let sealed = format!("{name} as a project of one file, as it has more bytes than a deposit");
+    written(&manifest, under, &name, &sealed, target, notes)
+}
+
+/// The most bytes that the seal of these files and empty folders has.
+fn room_for(files: &[(Vec<u8>, State)], folders: &[Vec<u8>]) -> u64 {
+    let files = files.iter().map(|(path, state)| (&path[..], state.length));
+    ROOM + manifest_files::size(files, folders.iter().map(|path| &path[..]))
+}
+
+/// Commits the manifest and writes the seal of a project of this name, of which a person reads what was sealed.
+fn written(
+    manifest: &Manifest,
+    under: Under,
+    name: &str,
+    sealed: &str,
+    target: Target,
+    mut notes: Vec<String>,
+) -> Result<Outcome, Failure> {
+    let manifest_files = manifest_files::files(manifest, &Digester::of(under.key));
+    let root = match root_of_files(&manifest_files, under) {
         Ok(root) => root,
         Err(refusal) => return Ok(Outcome::refused(&refusal)),
     };
     let shape = Shape {
-        n: variables(text.len()),
-        k,
-        domain,
-        widths,
-        key: key.map(CheckValue::of),
+        n: variables(manifest_files[0].1.len()),
+        k: under.k,
+        domain: under.domain.to_vec(),
+        widths: under.widths,
+        key: under.key.map(CheckValue::of),
     };
-    let files = Seal::project_files(&shape, &root, &shown_path(project), &manifest);
+    let files = Seal::project_files(&shape, &root, name, manifest, manifest_files);
     notes.extend(target.write(&files)?);
-    Ok(told(&manifest, &shape, &root, project, target.folder()).notes(notes))
+    Ok(told(manifest, &shape, &root, sealed, target.folder()).notes(notes))
 }
 
 /// A folder's path with its own name at the end, as `.` has none.
@@ -120,7 +174,7 @@ fn not_a_project(project: &Path, found: &Walked) -> Option<String> {
     let names: Vec<String> = found
         .others
         .iter()
-        .map(|(path, what)| format!("{} is {what}", written_path(path)))
+        .map(|(path, what)| format!("{} is {what}", shown(path)))
         .collect();
     Some(format!(
         "{project} holds what is neither a file nor a folder, and a seal stands for files alone: {}. Take it out, or put the file itself in its place",
@@ -128,12 +182,11 @@ fn not_a_project(project: &Path, found: &Walked) -> Option<String> {
     ))
 }
 
-fn told(manifest: &Manifest, shape: &Shape, root: &Root, project: &Path, folder: &Path) -> Outcome {
+fn told(manifest: &Manifest, shape: &Shape, root: &Root, sealed: &str, folder: &Path) -> Outcome {
     let widths = shape.widths;
-    let (files, bytes, parts) = (manifest.0.len(), manifest.bytes(), manifest.parts());
+    let (files, bytes, parts) = (manifest.files.len(), manifest.bytes(), manifest.parts());
     let sentence = format!(
-        "sealed the project {}: {}, {bytes} bytes in {}, {widths} widths",
-        project.display(),
+        "sealed {sealed}: {}, {bytes} bytes in {}, {widths} widths",
         counted(files, "file"),
         counted(parts, "part")
     );
@@ -142,7 +195,7 @@ fn told(manifest: &Manifest, shape: &Shape, root: &Root, project: &Path, folder:
         .lines([
             format!("root {root}"),
             format!(
-                "the seal is in {0}, with {MANIFEST}, which lists the files; the office keeps it, the holder keeps the folder and a copy of {0}",
+                "the seal is in {0}, with {MANIFEST}, which lists the files; the office keeps it, the holder keeps what was sealed and a copy of {0}",
                 folder.display()
             ),
         ])

@@ -4,6 +4,7 @@ use crate::begun::{self, Begun};
 use crate::folder::Kind;
 use crate::json::Json;
 use crate::key;
+use crate::manifest::counted;
 use crate::opening::Opening;
 use crate::options::Options;
 use crate::outcome::{texts, Ended, Failure, Outcome, Verdict};
@@ -15,8 +16,8 @@ use crate::request::Request;
 use crate::seal::Seal;
 use crate::shape::Shape;
 use crate::standing::Standing;
-use crate::writing::{beside, settled, Target};
-use dequmlo::{Folded, HalfFolded, Refusal, Root, Threads, Word};
+use crate::writing::{beside, settled, Target, ROOM};
+use dequmlo::{Folded, HalfFolded, Refusal, Root, Sizes, Threads, Word};
 use std::path::Path;
 
 pub const TAKEN: [&str; 18] = asking_and([
@@ -53,15 +54,17 @@ fn opened(options: &Options, threads: Threads, seal: &Seal) -> Result<Outcome, E
     not_below(until, begun.as_ref())?;
     let (target, found) = target(options, &asked, until, begun.as_ref())?;
     notes.extend(found);
+    target.has_room(asked.room(seal, until))?;
     let name = name(options, seal);
     let progress = Progress::start();
     let standing = match begun {
         None => Standing::committed(&options.operands[0], threads, seal, &progress)?,
         Some(begun) => Standing::taken_up(begun, threads, seal, &progress)?,
     };
+    let working = counted(threads.number(), "thread");
     let outcome = match until {
         Some(level) => {
-            progress.say(&format!("folding up to level {level} .."));
+            progress.say(&format!("folding up to level {level} on {working} .."));
             let half = standing.fold_until(threads, &asked.challenges[..level])?;
             asked.kept(&half.roots(), None)?;
             let files = begun::files(&half, &seal.shape, &asked.challenges, &name, &asked.drawn);
@@ -69,11 +72,11 @@ fn opened(options: &Options, threads: Threads, seal: &Seal) -> Result<Outcome, E
             told_begun(&half, seal, target.folder())
         }
         None => {
-            progress.say(&format!("folding {} levels ..", seal.shape.n));
+            progress.say(&format!("folding {} levels on {working} ..", seal.shape.n));
             let folded = standing.fold(threads, &asked.challenges)?;
             let opening = asked.opening(&seal.shape, &folded)?;
             asked.kept(&opening.roots, Some(opening.claim))?;
-            let manifest = seal.part.as_ref().map(|part| part.manifest.clone());
+            let manifest = &seal.manifest;
             notes.extend(target.write(&opening.files(&name, &asked.drawn, manifest))?);
             told(&opening, target.folder(), asked.first_round().is_some())
         }
@@ -150,7 +153,7 @@ impl Asked {
     fn read(options: &Options, seal: &Seal, is_interrupted: bool) -> Result<Asked, Failure> {
         match requested(options, seal)? {
             Some(request) => Ok(Asked::by_request(request)),
-            None => Asked::by_options(options, &seal.shape, is_interrupted),
+            None => Asked::by_options(options, seal, is_interrupted),
         }
     }
 
@@ -165,11 +168,8 @@ impl Asked {
         }
     }
 
-    fn by_options(
-        options: &Options,
-        shape: &Shape,
-        is_interrupted: bool,
-    ) -> Result<Asked, Failure> {
+    fn by_options(options: &Options, seal: &Seal, is_interrupted: bool) -> Result<Asked, Failure> {
+        let shape = &seal.shape;
         let (challenges, drawn) = challenges(options, shape.n)?.ok_or_else(|| {
             Failure(
                 "`seal open` needs the checker's request, --asked FOLDER, or the checker's challenges: --challenges FILE, or --seed TEXT for trying it \
@@ -178,7 +178,7 @@ impl Asked {
             )
         })?;
         let positions =
-            match positions(options, shape)? {
+            match positions(options, shape, seal.part.is_some())? {
                 Some(positions) => positions,
                 None if is_interrupted => Vec::new(),
                 None => return Err(Failure(
@@ -193,6 +193,23 @@ impl Asked {
             positions,
             request: None,
         })
+    }
+
+    /// The bytes of what is written: the records and the manifest of an opening, or the levels of interrupted work.
+    fn room(&self, seal: &Seal, until: Option<usize>) -> u64 {
+        let Sizes {
+            codeword_words,
+            query_bytes,
+            tail_bytes,
+            ..
+        } = seal.sizes;
+        let manifest: usize = seal.manifest.iter().map(|(_, bytes)| bytes.len()).sum();
+        let level = |level: usize| 16 * (codeword_words >> level);
+        let bytes = match until {
+            Some(last) => (0..=last).map(level).sum(),
+            None => self.positions.len() * query_bytes + tail_bytes + manifest,
+        };
+        ROOM + bytes as u64
     }
 
     /// The request, where it has no positions yet.

@@ -1,17 +1,21 @@
 //! `seal show`: which bytes of the file an opening has, as text and as hexadecimal digits. It checks nothing.
 
-use crate::folder::SUMMARY;
+use crate::folder::{Kind, SUMMARY};
 use crate::format::all_known;
 use crate::hex;
 use crate::json::Json;
 use crate::key;
-use crate::manifest::MANIFEST;
+use crate::lines::{items, most_bytes};
+use crate::manifest::shown;
 use crate::opened::{as_digits, as_text, Opened};
-use crate::opening::{record_name, record_position};
+use crate::opening::{record_name, record_position, ROOTS};
 use crate::options::Options;
 use crate::outcome::{Failure, Outcome, Verdict};
-use crate::reading::{inside, listed, reason, unreadable};
+use crate::part::{unchecked_manifest, Part};
+use crate::reading::{inside, listed, reason, text_inside, unreadable};
 use crate::shape::{Shape, PARAMETERS};
+use crate::shown::some_of;
+use dequmlo::Root;
 use std::path::Path;
 
 pub const TAKEN: [&str; 1] = ["--json"];
@@ -36,13 +40,23 @@ pub fn run(options: &Options) -> Result<Outcome, Failure> {
     }
     all_known(folder, &[PARAMETERS])?;
     let parameters = Shape::read(folder)?;
+    let summary = first_line(folder);
+    let parts = parts(folder, parameters.shape.n, summary.as_deref());
+    let part = match parts.as_deref() {
+        Some([part]) => Some(part),
+        _ => None,
+    };
     let records: Vec<(usize, Option<Opened>)> = positions(folder)?
         .into_iter()
         .map(|p| {
             let bytes = inside(folder, &record_name(p), parameters.sizes.query_bytes);
             let opened = bytes
                 .ok()
-                .and_then(|bytes| Opened::of(parameters.shape.n, p, &bytes.into()));
+                .and_then(|bytes| Opened::of(parameters.shape.n, p, &bytes.into()))
+                .map(|opened| match part {
+                    Some(part) => part.placed(opened),
+                    None => opened,
+                });
             (p, opened)
         })
         .collect();
@@ -60,9 +74,6 @@ pub fn run(options: &Options) -> Result<Outcome, Failure> {
     let places = records
         .iter()
         .map(|(p, opened)| json(*p, opened.as_ref(), length));
-    let in_a_part = folder.join(MANIFEST).exists().then(|| {
-        "this is an opening of a project: the offsets are counted from the start of the file, or of the part of it that the summary names".into()
-    });
     let shape = &parameters.shape;
     let made = shape.key.map(|value| {
         format!(
@@ -71,11 +82,15 @@ pub fn run(options: &Options) -> Result<Outcome, Failure> {
         )
     });
     let outcome = Outcome::new(Verdict::Done, sentence)
-        .lines(first_line(folder))
+        .lines(summary.map(|line| format!("the holder's summary: {}", as_text(line.as_bytes()))))
         .say()
         .lines(made)
         .lines(lines)
-        .notes(in_a_part)
+        .notes(parts.as_deref().map(told_parts))
+        .found(
+            "file",
+            part.map_or(Json::Null, |part| Json::text(shown(&part.path))),
+        )
         .found("widths", Json::text(shape.widths))
         .found("places", Json::List(places.collect()));
     Ok(key::found(outcome, shape.key))
@@ -98,7 +113,41 @@ fn positions(folder: &Path) -> Result<Vec<usize>, Failure> {
 fn first_line(folder: &Path) -> Option<String> {
     let bytes = inside(folder, SUMMARY, FIRST_LINE).ok()?;
     let line = bytes.split(|b| *b == b'\n').next()?;
-    Some(format!("the holder's summary: {}", as_text(line)))
+    Some(String::from_utf8_lossy(line).into())
+}
+
+/// The parts of a project of which it may be an opening, by the manifest in it and the root that it was made for; where several have the same bytes, the one that
+/// the summary names, if it names one. None where there is no manifest.
+fn parts(folder: &Path, n: usize, summary: Option<&str>) -> Option<Vec<Part>> {
+    let manifest = unchecked_manifest(folder)?;
+    let roots = text_inside(folder, ROOTS, most_bytes(n + 1, 64)).ok()?;
+    let roots: Vec<Root> = items(&folder.join(ROOTS), &roots).ok()?;
+    let mut found = Part::all_of(&manifest, *roots.first()?, n);
+    let is_named = |part: &Part| {
+        let line = format!("{} {}.", Kind::Opening.heading(), part.name());
+        Some(&line[..]) == summary
+    };
+    if found.iter().any(is_named) {
+        found.retain(is_named);
+    }
+    Some(found)
+}
+
+/// What is said of the offsets in an opening of a project.
+fn told_parts(parts: &[Part]) -> String {
+    let names: Vec<String> = parts.iter().map(Part::name).collect();
+    match &names[..] {
+        [name] => format!(
+            "by its manifest this is an opening of the file {name}, and the offsets are the file's"
+        ),
+        [] => "this is an opening of a project, but its manifest names no part for which it was made: the offsets are counted from the start of what was opened"
+            .into(),
+        names => format!(
+            "this is an opening of a project, in which {} parts have the same bytes: {}. The offsets are counted from the start of the part",
+            names.len(),
+            some_of(names)
+        ),
+    }
 }
 
 fn told(position: usize, opened: Option<&Opened>, length: Option<u128>) -> Vec<String> {

@@ -81,7 +81,7 @@ fn sound(kept: bool, level: &[Word]) -> Outcome {
         (Verdict::Accepted, format!("tail: accepted; {what}"))
     } else {
         (
-            Verdict::OwnQuestions,
+            Verdict::NotAccepted,
             format!("tail: sound, but under the holder's own roots, so this is no acceptance (--roots FILE names roots that were kept); {what}"),
         )
     };
@@ -94,12 +94,5 @@ fn sound(kept: bool, level: &[Word]) -> Outcome {
                 .map(|(eps, word)| format!("tail {eps} {word}")),
         )
         .found("tail", texts(level))
-        .found(
-            "own_questions",
-            if kept {
-                Json::Null
-            } else {
-                Json::text("roots")
-            },
-        )
+        .found("roots_kept", Json::Bool(kept))
 }

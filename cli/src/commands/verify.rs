@@ -1,10 +1,11 @@
 //! `seal verify`: whether a file is still the one that was sealed, and where it first differs as far as an opening shows the old words. A
 //! folder is a project (verify_folder.rs).
 
-use crate::commands::verify_folder;
+use crate::commands::verify_folder::{self, Verified};
 use crate::folder::SUMMARY;
 use crate::json::Json;
 use crate::key;
+use crate::manifest::counted;
 use crate::old_words::shown_words;
 use crate::options::Options;
 use crate::outcome::{Failure, Outcome, Verdict};
@@ -12,16 +13,17 @@ use crate::progress::Progress;
 use crate::seal::{Seal, SEAL_FOLDER};
 use crate::shape::Shape;
 use crate::statement::{another_key_in, checker_s_seal};
-use crate::table::{read_table, room_for, Table};
+use crate::table::{read_table, room_to_commit, Table};
 use dequmlo::{Deposit, Threads, Word};
 use std::collections::BTreeMap;
 use std::path::Path;
 
-pub const TAKEN: [&str; 6] = [
+pub const TAKEN: [&str; 7] = [
     "--seal",
     "--older",
     "--key-file",
     "--opening",
+    "--full",
     "--threads",
     "--json",
 ];
@@ -35,13 +37,23 @@ pub fn run(options: &Options) -> Result<Outcome, Failure> {
         checker_s_seal(options, &opening)?;
     }
     let seal = Seal::read(&folder, options.has("--older"))?.with_key(&folder, options)?;
-    if file.is_dir() {
+    let is_a_project_s = file.is_dir() || seal.is_a_project_s(&folder);
+    if is_a_project_s {
         if options.given("--opening") {
             return Err(Failure("--opening goes with a file; of a project, the seal's own manifest says what changed".into()));
         }
         let value = seal.shape.key;
-        return verify_folder::run(file, threads, &folder, seal)
-            .map(|outcome| key::found(outcome, value));
+        let verified = Verified {
+            path: file,
+            seal_folder: &folder,
+            threads,
+            full: options.has("--full"),
+        };
+        let answer = match file.is_dir() {
+            true => verify_folder::run(verified, seal),
+            false => verify_folder::run_file(verified, seal),
+        };
+        return answer.map(|outcome| key::found(outcome, value));
     }
     // A file that is too large for any seal is not the one that was sealed.
     let table = read_table(file)?.ok();
@@ -66,9 +78,13 @@ fn has_root(seal: &Seal, threads: Threads, table: &Table) -> Result<bool, Failur
     if table.words.len() != seal.sizes.table_words {
         return Ok(false);
     }
-    room_for(&seal.shape)?;
+    room_to_commit(&seal.shape)?;
     let progress = Progress::start();
-    progress.say(&format!("committing {} words ..", table.words.len()));
+    let working = counted(threads.number(), "thread");
+    progress.say(&format!(
+        "committing {} words on {working} ..",
+        table.words.len()
+    ));
     let Shape {
         k, domain, widths, ..
     } = &seal.shape;

@@ -5,6 +5,10 @@
  *   DISK_RUNS      a command that is run once, before that byte or one behind it is read
  *   DISK_FAILS     reading that byte or one behind it is an input/output error
  *   DISK_DENIED    how the path of a file or a folder ends that cannot be opened
+ *   DISK_READ_ONLY no folder can be made
+ *   DISK_FULL      no room can be set aside for more than so many bytes
+ *   DISK_TERMINAL  standard error is a terminal
+ *   DISK_SYNCS     a file that gets a byte for each call that has something written to the disk
  */
 #define _GNU_SOURCE
 #include <dirent.h>
@@ -15,6 +19,7 @@
 #include <stdio.h>
 #include <stdlib.h>
 #include <string.h>
+#include <sys/stat.h>
 #include <unistd.h>
 
 static int ends_with(const char *path, const char *name) {
@@ -88,4 +93,51 @@ DIR *opendir(const char *path) {
     }
     DIR *(*real)(const char *) = dlsym(RTLD_NEXT, "opendir");
     return real(path);
+}
+
+int mkdir(const char *path, mode_t mode) {
+    if (getenv("DISK_READ_ONLY") != NULL) {
+        errno = EROFS;
+        return -1;
+    }
+    int (*real)(const char *, mode_t) = dlsym(RTLD_NEXT, "mkdir");
+    return real(path, mode);
+}
+
+int fallocate(int file, int mode, off_t start, off_t size) {
+    const char *most = getenv("DISK_FULL");
+    if (most != NULL && size > atol(most)) {
+        errno = ENOSPC;
+        return -1;
+    }
+    int (*real)(int, int, off_t, off_t) = dlsym(RTLD_NEXT, "fallocate");
+    return real(file, mode, start, size);
+}
+
+static int counted(int file, const char *name) {
+    const char *path = getenv("DISK_SYNCS");
+    FILE *counts = path == NULL ? NULL : fopen(path, "a");
+    if (counts != NULL) {
+        fputc('.', counts);
+        fclose(counts);
+    }
+    int (*real)(int) = dlsym(RTLD_NEXT, name);
+    return real(file);
+}
+
+int fsync(int file) {
+    return counted(file, "fsync");
+}
+
+int fdatasync(int file) {
+    return counted(file, "fdatasync");
+}
+
+int syncfs(int file) {
+    return counted(file, "syncfs");
+}
+
+int isatty(int file) {
+    int (*real)(int) = dlsym(RTLD_NEXT, "isatty");
+    return getenv("DISK_TERMINAL") != NULL || real(file);
 }

@@ -13,6 +13,14 @@ pub enum Disk<'a> {
     Fails(&'a str, u64),
     /// A file or a folder cannot be opened.
     Denied(&'a str),
+    /// No folder can be made; reading this file leaves a file `was-read`.
+    ReadOnly(&'a str),
+    /// There is room for so many bytes; reading this file leaves a file `was-read`.
+    Full(&'a str, u64),
+    /// Each call that has something written to the disk adds a byte to the file `syncs`.
+    Counted,
+    /// Standard error is a terminal.
+    Terminal,
 }
 
 impl Desk {
@@ -30,9 +38,23 @@ impl Desk {
                 .env("DISK_AT", at.to_string())
                 .env("DISK_FAILS", "1"),
             Disk::Denied(path) => command.env("DISK_DENIED", path),
+            Disk::ReadOnly(file) => noticed(&mut command, file).env("DISK_READ_ONLY", "1"),
+            Disk::Full(file, most) => {
+                noticed(&mut command, file).env("DISK_FULL", most.to_string())
+            }
+            Disk::Terminal => command.env("DISK_TERMINAL", "1"),
+            Disk::Counted => command.env("DISK_SYNCS", self.path("syncs")),
         };
         Run::of(&mut command)
     }
+}
+
+/// Leaves a file where this one is read.
+fn noticed<'a>(command: &'a mut Command, file: &str) -> &'a mut Command {
+    command
+        .env("DISK_FILE", format!("/{file}"))
+        .env("DISK_AT", "0")
+        .env("DISK_RUNS", "touch was-read")
 }
 
 /// The library that stands in for the disk, made once for each file of tests.

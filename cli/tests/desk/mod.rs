@@ -303,6 +303,17 @@ pub fn kept(version: &str) -> PathBuf {
         .join(version)
 }
 
+/// A manifest as it was before there were digests and folders in it.
+pub fn in_the_first_form(manifest: &str) -> String {
+    let line = |line: &str| match line.split(' ').collect::<Vec<&str>>()[..] {
+        ["format", _] => "format 1\n".into(),
+        ["folder", ..] => String::new(),
+        ["part", root, ..] => format!("part {root}\n"),
+        _ => format!("{line}\n"),
+    };
+    manifest.lines().map(line).collect()
+}
+
 /// The file that is sealed.
 pub fn plan() -> Vec<u8> {
     "a ground plan, and a section through the stairs\n"
