@@ -1,5 +1,7 @@
 // Bytes and little-endian numbers in lent slices. These are helpers for the crates above: what reaches into a slice requires that it has the
 // bytes.
+#![tactic(auto)]
+
 ghost use Rattle.std.specs.Prelude.{◌+◌, ◌-◌, ◌%◌, ◌^◌, ◌≤◌, ◌<◌, ◌≡◌, length, replicate};
 ghost use Rattle.theory_laws.specs.Lists.{part, stored, le_bytes, le_value, same};
 ghost use Rattle.bytes_numbers.specs.helpers.Put.{Put};

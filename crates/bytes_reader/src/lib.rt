@@ -1,5 +1,7 @@
 // A thin reader over lent bytes: 32 bytes from a place on, and how many are left there. A record is read through `read`. Bytes may be
 // anything. `digest_at` requires.
+#![tactic(auto)]
+
 ghost use Rattle.std.specs.Prelude.{◌≡◌, ◌+◌, ◌-◌, ◌≤◌, length};
 ghost use Rattle.theory_laws.specs.Lists.{part};
 ghost use Rattle.bytes_reader.specs.Windows.{window_at};
@@ -7,14 +9,14 @@ ghost use Rattle.bytes_reader.specs.Windows.{window_at};
 use bytes_numbers::load;
 
 // A reader over lent bytes, and how far it has read.
-#[derive(Drop)]
+#[derive(Clone, Copy)]
 pub struct RecordReader<'a> {
     pub src: &'a [u8],
     pub at: usize,
 }
 
 // The 32 bytes from a place on, zeros past the end, and how many are left from there.
-#[derive(Drop)]
+#[derive(Clone, Copy)]
 pub struct Window {
     pub bytes: [u8; 32],
     pub left: usize,

@@ -1,5 +1,7 @@
 // A list of fold calls on a committed codeword, each on the codeword and the list as the last done call left them, with every level kept: after
 // code.rs and eval.rs. These are helpers for the crates above: each requires that what it is lent has its length.
+#![tactic(auto)]
+
 ghost use Rattle.std.specs.Prelude.{◌≡◌, ◌*◌, ◌<◌, length};
 ghost use Rattle.theory_laws.specs.Table.{tab};
 ghost use Rattle.theory_field.specs.Words.{words};
@@ -12,7 +14,7 @@ use field_gf128::Word;
 use field_words::clear;
 
 // A fold call as it is lent: its n, k, original n and variable, the length of the room for its answer, in halves, and its challenge.
-#[derive(Drop)]
+#[derive(Clone, Copy)]
 pub struct FoldCall {
     pub n: usize,
     pub k: usize,
@@ -40,7 +42,7 @@ fn call_at(calls: &[usize], challenges: &[u64], i: usize) -> FoldCall
 }
 
 // Where a list of calls stands: how many are done, and where the codeword starts in the levels, in halves.
-#[derive(Drop)]
+#[derive(Clone, Copy)]
 pub struct Progress {
     pub done: usize,
     pub from: usize,

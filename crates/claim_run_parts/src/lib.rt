@@ -1,5 +1,7 @@
 // The parts of a whole run (SPECIFICATION 10.1): its questions, committing with the calls and the trees, each record built and checked, two records
 // compared, all under one set of widths and one mode. These are helpers for the whole run: most require that what they are lent has its length.
+#![tactic(auto)]
+
 pub mod questions;
 
 ghost use Rattle.std.specs.Prelude.{◌≡◌, length};

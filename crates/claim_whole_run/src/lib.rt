@@ -1,5 +1,7 @@
 // The whole run (SPECIFICATION 10.1) over plain lent buffers, after eval.rs and ring.rs. The entry is `run`; the other function requires that what it
 // is lent has its length.
+#![tactic(auto)]
+
 ghost use Rattle.field_gf128.specs.Word.{word};
 ghost use Rattle.claim_run_parts.specs.helpers.Room.{DepositLent, RecordLent};
 ghost use Rattle.claim_whole_run.specs.Whole.{given, buffers, RunLeft};
@@ -14,7 +16,7 @@ use theory_record::Trees;
 
 // What a run answers: its number; how many calls are done; what the check of the query record answered, and the number of the tail record's; and what
 // comparing the two lent records answered.
-#[derive(Drop)]
+#[derive(Clone, Copy)]
 pub struct Answers {
     pub number: u32,
     pub done: usize,

@@ -1,6 +1,8 @@
 // The code, after code.rs: the shifts L(eps), the codeword of a table, and folds. A table of words is lent as u64 halves, two to a word,
 // the low half first. A refused call changes no lent byte. `coordinate`, `shift_table` and `encode_block` require: they are helpers for the crate
 // that makes parts of the codeword one by one.
+#![tactic(auto)]
+
 ghost use Rattle.std.specs.Prelude.{◌≡◌, ◌+◌, ◌*◌, ◌^◌, ◌<◌, ◌≤◌, length};
 ghost use Rattle.theory_laws.specs.Questions.{on_done};
 ghost use Rattle.theory_field.specs.Words.{words};
@@ -274,7 +276,7 @@ pub fn encode(n: usize, k: usize, table: &[u64], gammas: &[u64], out: &mut [u64]
 // ---- folds
 
 // What `fold` answers: the number, and the n of the folded codeword, 0 where it refused.
-#[derive(Drop)]
+#[derive(Clone, Copy)]
 pub struct Folded {
     pub number: u32,
     pub n: usize,

@@ -1,5 +1,7 @@
 // Committing a table, after eval.rs: its gammas, its codeword with the list of its coordinates, and level 0's tree, into four lent buffers; and the tree
 // of any level. A refused call changes no lent byte.
+#![tactic(auto)]
+
 pub mod level;
 pub mod trees;
 

@@ -1,5 +1,7 @@
 // All levels of a committed codeword by its challenges, their trees and their roots, in one call, after eval.rs. The entry is `fold_levels`;
 // the other functions require.
+#![tactic(auto)]
+
 ghost use Rattle.std.specs.Prelude.{◌≡◌, suc, ◌*◌, ◌<◌, length, take};
 ghost use Rattle.theory_laws.specs.Questions.{on_done};
 ghost use Rattle.theory_laws.specs.Table.{tab};

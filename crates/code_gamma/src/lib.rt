@@ -1,4 +1,6 @@
 // The gammas of a base domain, after CodeParams::derive of code.rs.
+#![tactic(auto)]
+
 pub mod message;
 
 ghost use Rattle.std.specs.Prelude.{◌≡◌, ◌*◌, ◌≤◌, length};

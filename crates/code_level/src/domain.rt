@@ -7,7 +7,7 @@ ghost use Rattle.code_level.specs.Domain.{domain_number, domain_length_of};
 use crate::put_domain;
 
 // The number, and a length, 0 where it is refused.
-#[derive(Drop)]
+#[derive(Clone, Copy)]
 pub struct DomainLength {
     pub number: u32,
     pub length: usize,

@@ -1,5 +1,7 @@
 // The levels of a commitment: their widths, lengths, depths and domains. `fold_tree_width` and the functions of `domain` are entries; the
 // other functions serve the crates above and require.
+#![tactic(auto)]
+
 pub mod domain;
 
 ghost use Rattle.std.specs.Prelude.{◌≡◌, suc, ◌+◌, ◌*◌, ◌≤◌, ◌<◌, length};

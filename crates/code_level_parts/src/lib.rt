@@ -1,6 +1,8 @@
 // A level of a commitment, and its tree, in parts, for callers that divide the work: each entry makes the level's lengths, width and domain
 // itself and writes into a lent buffer of its own. A refused call changes no lent byte. The entries are `next_part`, `level_leaves` and
 // `level_parents`; the functions that do their work require.
+#![tactic(auto)]
+
 ghost use Rattle.std.specs.Prelude.{◌≡◌, suc, ◌+◌, ◌*◌, ◌/◌, ◌≤◌, ◌<◌, leb, length};
 ghost use Rattle.theory_laws.specs.Questions.{on_done};
 ghost use Rattle.theory_field.specs.Words.{words};

@@ -1,5 +1,7 @@
 // The trees of all levels by a set of widths and a mode, and their roots, each end to end, level 0 first. These are helpers for the crates above: each
 // requires that what it is lent has its length.
+#![tactic(auto)]
+
 ghost use Rattle.std.specs.Prelude.{◌≡◌, ◌+◌, ◌-◌, ◌*◌, ◌≤◌, length};
 ghost use Rattle.theory_laws.specs.Lists.{part};
 ghost use Rattle.theory_field.specs.Words.{words};

@@ -1,5 +1,7 @@
 // The levels of a codeword, end to end in one buffer: a level folded, and the next one laid behind it. These are helpers for the crates above: each
 // requires that what it is lent has its length.
+#![tactic(auto)]
+
 ghost use Rattle.std.specs.Prelude.{◌≡◌, ◌*◌, ◌<◌, ◌≤◌, length, take, drop};
 ghost use Rattle.theory_laws.specs.Questions.{on_done};
 ghost use Rattle.theory_field.specs.Words.{words};

@@ -1,6 +1,8 @@
 // The code's work in parts, for callers that divide it: a block of the codeword, half a block, and a part of a fold, each into a lent buffer of
 // its own. A refused call changes no lent byte. The entries are `codeword_block`, `codeword_half` and `fold_part`; the functions that do their
 // work require.
+#![tactic(auto)]
+
 ghost use Rattle.std.specs.Prelude.{◌≡◌, ◌+◌, ◌-◌, ◌*◌, ◌/◌, ◌^◌, ◌≤◌, ◌<◌, leb, ltb, length};
 ghost use Rattle.theory_laws.specs.Questions.{on_done};
 ghost use Rattle.theory_laws.specs.Lists.{part};

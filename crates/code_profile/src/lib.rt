@@ -1,10 +1,12 @@
 // The parameters of commitments, after `PcsParams`: the default, the five profiles, and those that a seal is checked and written under.
+#![tactic(auto)]
+
 ghost use Rattle.std.specs.Prelude.{◌≡◌};
 ghost use Rattle.theory_record.specs.Profiles.{FastChunk, Balanced, CompactWrap, DeepWrap, FirstDefault, parameters_of, fields_of};
 ghost use Rattle.theory_record.specs.Profiles.{No, default_parameters, checked_under, written_under};
 ghost use Rattle.code_profile.specs.Meaning.{parameters, profile, named};
 
-#[derive(Drop)]
+#[derive(Clone, Copy)]
 pub enum Profile {
     FastChunk,
     Balanced,
@@ -14,14 +16,14 @@ pub enum Profile {
 }
 
 // The profile that a seal or its writer names, if any.
-#[derive(Drop)]
+#[derive(Clone, Copy)]
 pub enum Named {
     No,
     Yes(Profile),
 }
 
 // k, how many queries, and the base domain: the first `length` bytes of `domain`, zeros after them.
-#[derive(Drop)]
+#[derive(Clone, Copy)]
 pub struct Parameters {
     pub k: usize,
     pub queries: usize,

@@ -1,5 +1,7 @@
 // The messages that are hashed on the way from a group of a record to the root, end to end in a lent buffer, the root's last. These are
 // helpers for the crates above: each requires that its bytes fit.
+#![tactic(auto)]
+
 ghost use Rattle.std.specs.Prelude.{◌≡◌, ◌+◌, ◌*◌, ◌≤◌, length};
 ghost use Rattle.tree_place.specs.Place.{index, number};
 ghost use Rattle.compare_chain.specs.helpers.Nodes.{LeafNoted, LeafRoom, NodeNoted, NodesRoom, nodes_into, chain_into, ChainRoom};

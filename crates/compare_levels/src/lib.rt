@@ -1,5 +1,7 @@
 // The messages nearest the root in which two accepted query records differ, at the lowest level that differs, path a before path c. These
 // are helpers for the crate above: each requires.
+#![tactic(auto)]
+
 ghost use Rattle.theory_compare.specs.Compare.{records_found};
 ghost use Rattle.compare_pick.specs.helpers.Chains.{PickedIn};
 ghost use Rattle.tree_place.specs.Place.{index};

@@ -1,5 +1,7 @@
 // The messages nearest the root in which two groups and paths for one place of a level differ. These are helpers for the crates above: each
 // requires.
+#![tactic(auto)]
+
 ghost use Rattle.std.specs.Prelude.{◌≡◌, length};
 ghost use Rattle.theory_laws.specs.Lists.{stored};
 ghost use Rattle.theory_record.specs.Domain.{level_domain};

@@ -1,5 +1,7 @@
 // The last place at which two chains of messages differ: both messages, each put into a lent buffer with zeros after it. A chain is lent end
 // to end. These are helpers for the crates above, and require.
+#![tactic(auto)]
+
 ghost use Rattle.std.specs.Prelude.{◌≡◌, ◌+◌, ◌*◌, ◌^◌, ◌≤◌, ◌<◌, length};
 ghost use Rattle.theory_laws.specs.Lists.{part};
 ghost use Rattle.theory_merkle.specs.Binding.{differing, last_differing};

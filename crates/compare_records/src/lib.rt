@@ -1,4 +1,6 @@
 // Comparing two query records. The entry is `compare`; the other functions put its questions.
+#![tactic(auto)]
+
 ghost use Rattle.std.specs.Prelude.{◌≡◌};
 ghost use Rattle.theory_compare.specs.Compare.{accepts};
 ghost use Rattle.theory_compare.specs.Lent.{compared_lent, first_left, second_left};
@@ -19,7 +21,7 @@ use tree_place::Place;
 pub const MESSAGE_BUFFER: usize = 1024;
 
 // The number of the refusal, or 0 and the lengths of the two messages.
-#[derive(Drop)]
+#[derive(Clone, Copy)]
 pub struct Compared {
     pub number: u32,
     pub first: usize,

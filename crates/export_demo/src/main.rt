@@ -1,4 +1,6 @@
 // The demonstration: a product, a square and an inverse of words, and the refusal of the word that has none.
+#![tactic(auto)]
+
 use export_text::{empty, print, with_decimal, with_text, with_word};
 use field_gf128::Word;
 

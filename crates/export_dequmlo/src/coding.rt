@@ -59,7 +59,7 @@ pub extern "C" fn dequmlo_commit(
 
 // The number, and the n of the folded codeword, 0 where it is refused.
 #[repr(C)]
-#[derive(Drop)]
+#[derive(Clone, Copy)]
 pub struct Folded {
     pub number: u32,
     pub n: usize,

@@ -9,7 +9,7 @@ use theory_record::Trees;
 
 // A key, or none: 0 is none, and then the bytes count for nothing; every other number says that the bytes are the key.
 #[repr(C)]
-#[derive(Drop)]
+#[derive(Clone, Copy)]
 pub struct Key {
     pub keyed: u32,
     pub bytes: [u8; 32],

@@ -1,6 +1,8 @@
 // The library that people link: the seal's jobs, exported to C under the prefix `dequmlo_`. Each function is one call of an entry and has
 // that entry's contract; include/dequmlo.h declares them. A lent slice is a pointer and a length; lent buffers must not overlap. A set of widths is
 // a number, and one that names none is refused with 4 before the call. A key of trees comes by value, first.
+#![tactic(auto)]
+
 pub mod blocks;
 pub mod coding;
 pub mod hashing;

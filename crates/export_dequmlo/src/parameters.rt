@@ -9,7 +9,7 @@ use code_profile::Profile;
 
 // k, how many queries, and the base domain: the first `length` bytes of `domain`, zeros after them.
 #[repr(C)]
-#[derive(Drop)]
+#[derive(Clone, Copy)]
 pub struct Parameters {
     pub k: usize,
     pub queries: usize,

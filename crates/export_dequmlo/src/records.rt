@@ -33,7 +33,7 @@ pub extern "C" fn dequmlo_build_query(
 
 // The number, and the level for 16 to 26.
 #[repr(C)]
-#[derive(Drop)]
+#[derive(Clone, Copy)]
 pub struct Checked {
     pub number: u32,
     pub level: u32,
@@ -110,7 +110,7 @@ pub extern "C" fn dequmlo_check_tail(
 
 // The number, and the lengths of the two messages, 0 where it is refused.
 #[repr(C)]
-#[derive(Drop)]
+#[derive(Clone, Copy)]
 pub struct Compared {
     pub number: u32,
     pub first: usize,

@@ -16,14 +16,14 @@ use field_gf128::Word;
 
 // 128 row coefficients by value.
 #[repr(C)]
-#[derive(Drop)]
+#[derive(Clone, Copy)]
 pub struct Coefficients {
     pub words: [Word; 128],
 }
 
 // The number, and a word, 0 where it is refused.
 #[repr(C)]
-#[derive(Drop)]
+#[derive(Clone, Copy)]
 pub struct Answered {
     pub number: u32,
     pub word: Word,

@@ -7,7 +7,7 @@ use crate::sets::set_of;
 // Words of the table, the gammas, the codeword, all levels, room for a fold and the last level; bytes of level 0's tree, of all trees, of the
 // last level's tree, of the roots, and of a query and a tail record.
 #[repr(C)]
-#[derive(Drop)]
+#[derive(Clone, Copy)]
 pub struct Sizes {
     pub number: u32,
     pub table: usize,

@@ -88,7 +88,7 @@ pub extern "C" fn dequmlo_root_of_path(
 
 // The number, and a length, 0 where it is refused.
 #[repr(C)]
-#[derive(Drop)]
+#[derive(Clone, Copy)]
 pub struct DomainLength {
     pub number: u32,
     pub length: usize,

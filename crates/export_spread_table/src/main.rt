@@ -1,5 +1,7 @@
 // The program that works out the table by which `field_gf128` squares (SPECIFICATION 2.3): its 256 entries bit by bit, in order, a line of four
 // hexadecimal digits each. tools/house holds the table in the code to what is stored of this.
+#![tactic(auto)]
+
 ghost use Rattle.std.specs.Prelude.{◌≡◌};
 ghost use Rattle.theory_field.specs.Spread.{spread};
 

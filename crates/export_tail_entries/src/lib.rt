@@ -1,4 +1,6 @@
 // The program `tail-list` (SPECIFICATION 11) on its input as a slice, and the lines that it prints.
+#![tactic(auto)]
+
 ghost use Rattle.std.specs.Prelude.{◌≡◌, ◌+◌, ◌*◌, ◌-◌, ◌^◌, ◌<◌, ◌≤◌, eqb, length, take};
 ghost use Rattle.theory_laws.specs.Table.{tab, at};
 ghost use Rattle.theory_field.specs.Words.{words};
@@ -13,7 +15,7 @@ use code_codeword::sizes::power;
 use field_gf128::Word;
 
 // The number, n, k and the entries of the last level, 2^k words and zeros after them.
-#[derive(Drop)]
+#[derive(Clone, Copy)]
 pub struct Answer {
     pub number: u32,
     pub n: usize,

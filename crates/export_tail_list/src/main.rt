@@ -1,5 +1,7 @@
 // The program `tail-list` (SPECIFICATION 11): reads its input from standard input, at most one byte more than the longest that is not refused,
 // and prints what `tail` finds in it.
+#![tactic(auto)]
+
 use libc::STDIN_FILENO;
 
 fn main() {

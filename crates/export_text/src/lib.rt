@@ -1,9 +1,11 @@
 // Lines of text that the programs write. Nothing above rests on what a line says; the functions are proved safe and ending.
+#![tactic(auto)]
+
 use field_gf128::Word;
 use libc::STDOUT_FILENO;
 
 // A line in the making: what goes past its room is dropped.
-#[derive(Drop)]
+#[derive(Clone, Copy)]
 pub struct Line {
     pub bytes: [u8; 256],
     pub len: usize,

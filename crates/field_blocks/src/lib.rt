@@ -1,5 +1,7 @@
 // Blocks of SP 800-38D as words of the field: taken in and given out, by value and over lent runs; and GHASH of a run of blocks. Bit i of a block, the
 // leftmost being bit 0, is bit i of its word, so the bits of each byte change their order.
+#![tactic(auto)]
+
 ghost use Rattle.std.specs.Prelude.{◌≡◌, ◌+◌, ◌*◌, ◌/◌, ◌%◌, ◌≤◌, length};
 ghost use Rattle.theory_laws.specs.Lists.{part};
 ghost use Rattle.theory_laws.specs.Questions.{on_done};
@@ -17,7 +19,7 @@ use field_multiples::Kernel;
 
 // A block: bytes 0 to 7 and bytes 8 to 15, each a little-endian number.
 #[repr(C)]
-#[derive(Drop)]
+#[derive(Clone, Copy)]
 pub struct Block {
     pub first: u64,
     pub second: u64,
@@ -25,7 +27,7 @@ pub struct Block {
 
 // What `ghash` answers: 0 and the hash, or the number of the refusal and a block of zeros.
 #[repr(C)]
-#[derive(Drop)]
+#[derive(Clone, Copy)]
 pub struct Hashed {
     pub number: u32,
     pub block: Block,

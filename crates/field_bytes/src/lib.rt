@@ -1,5 +1,7 @@
 // Words in lent bytes, 16 each, little-endian: read and written. These are helpers for the crates above: each requires that its bytes are in
 // the slice.
+#![tactic(auto)]
+
 ghost use Rattle.std.specs.Prelude.{◌≡◌, ◌+◌, ◌*◌, ◌≤◌, length};
 ghost use Rattle.theory_laws.specs.Lists.{part, le_value, le_bytes};
 ghost use Rattle.theory_field.specs.Words.{words};

@@ -1,4 +1,6 @@
 // Equality tables, after eq.rs: the doubling of `eq_build_fused_into` in one lent buffer.
+#![tactic(auto)]
+
 ghost use Rattle.std.specs.Prelude.{◌≡◌, ◌*◌, ◌^◌, length};
 ghost use Rattle.theory_laws.specs.Questions.{on_done};
 ghost use Rattle.theory_field.specs.Words.{words};

@@ -1,4 +1,6 @@
 // The field GF(2^128) on words by value, after gf128.rs: a u128 becomes two u64.
+#![tactic(auto)]
+
 ghost use Rattle.std.specs.Prelude.{◌≡◌, ◌*◌, ◌/◌, ◌^◌, ◌<◌};
 ghost use Rattle.theory_laws.specs.Xor.{◌⊕◌};
 ghost use Rattle.theory_laws.specs.Table.{tab};
@@ -13,14 +15,14 @@ mod table;
 
 // A word: bit i of `lo` is the coefficient of x^i, and bit i of `hi` that of x^(64 + i).
 #[repr(C)]
-#[derive(Drop)]
+#[derive(Clone, Copy)]
 pub struct Word {
     pub lo: u64,
     pub hi: u64,
 }
 
 // A product of two words before it is reduced: bit i of `lo` is the coefficient of x^i, and bit i of `hi` that of x^(128 + i).
-#[derive(Drop)]
+#[derive(Clone, Copy)]
 struct Wide {
     lo: Word,
     hi: Word,
@@ -28,7 +30,7 @@ struct Wide {
 
 // What `inv` answers: 0 and the inverse, or the number of the refusal and the word 0.
 #[repr(C)]
-#[derive(Drop)]
+#[derive(Clone, Copy)]
 pub struct Inverse {
     pub number: u32,
     pub word: Word,

@@ -1,5 +1,7 @@
 // Products by one fixed word r, by a table of its multiples that the caller lends. These are helpers for the crates above: each
 // requires room for the table, or a table that is ready.
+#![tactic(auto)]
+
 ghost use Rattle.std.specs.Prelude.{◌≡◌, ℕ, suc, ◌+◌, ◌*◌, ◌%◌, ◌^◌, ◌<◌, ◌≤◌, length};
 ghost use Rattle.theory_laws.specs.Table.{at};
 ghost use Rattle.theory_field.specs.Field.{◌⊗◌};
@@ -11,7 +13,7 @@ ghost use Rattle.field_multiples.specs.helpers.Rows.{Copied, Row};
 use field_gf128::Word;
 
 // How products by one word are made: by windows of 4 bits, 32 rows of 16 multiples; or by windows of 8 bits, 16 rows of 256.
-#[derive(Drop)]
+#[derive(Clone, Copy)]
 pub enum Kernel {
     Nibbles,
     Bytes,

@@ -1,4 +1,6 @@
 // Packing of bits into words and phi under row coefficients, after pack.rs: a `Vec` becomes a lent slice, a panic a refusal.
+#![tactic(auto)]
+
 ghost use Rattle.std.specs.Prelude.{◌≡◌, ℕ, ◌+◌, ◌*◌, ◌/◌, ◌%◌, ◌^◌, ◌≤◌, ◌<◌, true, length};
 ghost use Rattle.theory_laws.specs.Xor.{sel};
 ghost use Rattle.theory_laws.specs.Sum.{sum};

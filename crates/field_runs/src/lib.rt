@@ -1,6 +1,8 @@
 // Whole runs of words by one word, over lent slices. These are helpers for the crates above: each requires lengths that agree, and room
 // for a table, t, whose contents it leaves open. Each chooses its kernel before its loop and hands the width of its windows on as a
 // constant: so the compiler makes a loop for each kernel, with the lookups written out in it.
+#![tactic(auto)]
+
 ghost use Rattle.std.specs.Prelude.{◌≡◌, map, ℕ, ◌+◌, ◌*◌, ◌%◌, ◌^◌, ◌<◌, ◌≤◌, length, set};
 ghost use Rattle.theory_laws.specs.Table.{at};
 ghost use Rattle.theory_laws.specs.Places.{ins};

@@ -1,4 +1,6 @@
 // Words in a lent slice of u64, the low half first. These are helpers for the crates above: all but `clear` require.
+#![tactic(auto)]
+
 ghost use Rattle.std.specs.Prelude.{◌≡◌, ◌+◌, ◌*◌, ◌^◌, ◌≤◌, ◌<◌, length, set};
 ghost use Rattle.theory_laws.specs.Table.{tab, at};
 ghost use Rattle.theory_field.specs.Words.{words};

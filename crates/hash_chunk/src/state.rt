@@ -12,7 +12,7 @@ use hash_compress::compress;
 use hash_node::{Node, bytes_of, filled, first_eight, last_words, start_flag, value, words_at};
 
 // The unfinished chunk: a block is compressed only when a byte follows it.
-#[derive(Drop)]
+#[derive(Clone, Copy)]
 pub struct ChunkState {
     // the chaining value of the blocks that are compressed, and how many they are
     pub h: [u32; 8],

@@ -1,5 +1,7 @@
 // The compression function of BLAKE3: a chaining value and a block of 16 words give 16 words. Its functions serve the crates
 // above: those with a `requires` are not for export.
+#![tactic(auto)]
+
 ghost use Rattle.std.specs.Prelude.{◌≡◌, ◌+◌, ◌%◌, ◌^◌, ◌<◌};
 ghost use Rattle.theory_laws.specs.Table.{at};
 ghost use Rattle.theory_blake3.specs.Compression as C;

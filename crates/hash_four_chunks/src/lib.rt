@@ -1,5 +1,7 @@
 // Chunks of four slices of one length at once, from the key or from the chaining value of whole blocks that they have in common. These
 // are helpers for the crates above, and some require: they are not for export.
+#![tactic(auto)]
+
 ghost use Rattle.std.specs.Prelude.{◌≡◌, ℕ, ◌+◌, ◌<◌, ◌≤◌, length};
 ghost use Rattle.theory_laws.specs.Lists.{part};
 ghost use Rattle.theory_blake3.specs.Chunk as B;

@@ -1,6 +1,8 @@
 // Four compressions of BLAKE3 at once: word i of lane l stands at 4 * i + l. The loop over the lanes has a whole round as its body, with
 // nothing left called in it once it is inlined, and the state is a local of `compress`: so the compiler makes the four lanes one vector.
 // These are helpers for the crates above: those with a `requires` are not for export.
+#![tactic(auto)]
+
 ghost use Rattle.std.specs.Prelude.{◌≡◌, ◌+◌, ◌*◌, ◌-◌, ◌<◌, length};
 ghost use Rattle.theory_laws.specs.Table.{at};
 ghost use Rattle.theory_blake3.specs.Compression as C;

@@ -11,7 +11,7 @@ use hash_node::{bytes_of, value};
 use hash_stack::{push, root};
 
 // A hasher's state. A block is compressed, and a chunk is finished, only when a byte follows.
-#[derive(Drop)]
+#[derive(Clone, Copy)]
 pub struct Hasher {
     // the key words and the flags of the mode
     pub key: [u32; 8],
@@ -186,7 +186,7 @@ fn absorb(start: Hasher, input: &[u8]) -> Hasher
 }
 
 // A state, with the number of the question that refused the call: 0 where it was done, and the old state where it was not.
-#[derive(Drop)]
+#[derive(Clone, Copy)]
 pub struct Updated {
     pub number: u32,
     pub state: Hasher,

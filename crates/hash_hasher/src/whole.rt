@@ -98,7 +98,7 @@ pub fn digest_of(key: [u32; 8], flags: u32, input: &[u8]) -> [u8; 32]
 
 // A digest, with the number of the question that refused it: 0 where it was made, and zeros where it was not.
 #[repr(C)]
-#[derive(Drop)]
+#[derive(Clone, Copy)]
 pub struct Digested {
     pub number: u32,
     pub bytes: [u8; 32],

@@ -1,6 +1,8 @@
 // The modes of BLAKE3 as values, each key words and flags; and keyed mode and key derivation, in one call and by a hasher that is started with a
 // key or with a context. The entries are `keyed_digest`, `derive_key`, `keyed_hasher` and `context_hasher`; the other functions are helpers for
 // the crates above, and `key_words` and `material_mode` require.
+#![tactic(auto)]
+
 ghost use Rattle.std.specs.Prelude.{◌≡◌, ◌≤◌, length};
 ghost use Rattle.theory_blake3.specs.Modes.{hash_mode, key_words, keyed_mode, material_mode};
 ghost use Rattle.hash_modes.specs.Answers.{begun, keyed_digest_of, derived_key_of, keyed_hasher_of, context_hasher_of};

@@ -1,5 +1,7 @@
 // Blocks and nodes of BLAKE3: the words of bytes, the bytes of words, and a node that is not compressed yet. These are helpers for
 // the crates above, and some require: they are not for export.
+#![tactic(auto)]
+
 ghost use Rattle.std.specs.Prelude.{◌≡◌, ℕ, ◌+◌, ◌*◌, ◌^◌, ◌<◌, ◌≤◌, length};
 ghost use Rattle.theory_laws.specs.Lists.{part, stored, le_value};
 ghost use Rattle.theory_blake3.specs.Flags.{start_flag};
@@ -119,7 +121,7 @@ pub fn first_eight(w: [u32; 16]) -> [u32; 8]
 }
 
 // A node that is not compressed yet: one more flag is joined to its flags where it is the root.
-#[derive(Drop)]
+#[derive(Clone, Copy)]
 pub struct Node {
     pub h: [u32; 8],
     pub m: [u32; 16],

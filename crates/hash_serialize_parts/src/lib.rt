@@ -1,5 +1,7 @@
 // Parts serialized into one message: their count, then each part after its length. The parts lie end to end in one slice, and their
 // lengths are given beside.
+#![tactic(auto)]
+
 pub mod part;
 
 ghost use Rattle.std.specs.Prelude.{◌≡◌, eqb, length, ◌+◌, ◌*◌};

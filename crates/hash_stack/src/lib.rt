@@ -1,5 +1,7 @@
 // The stack of chaining values of BLAKE3, in one flat array of words: how the value of a finished chunk goes onto it, and the root of
 // the tree over it. 14 values serve 2^24 bytes. These are helpers for the crates above, and they require: they are not for export.
+#![tactic(auto)]
+
 ghost use Rattle.std.specs.Prelude.{◌≡◌, ℕ, ◌+◌, ◌*◌, ◌-◌, ◌<◌, ◌≤◌};
 ghost use Rattle.theory_laws.specs.Lists.{stored};
 ghost use Rattle.theory_blake3.specs.Stack as B;

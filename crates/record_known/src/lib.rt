@@ -1,6 +1,8 @@
 // The first pass of a check: openings of a record that are known to lead to their roots, found four at a time. What is known is so; of what is
 // not known nothing is said, and the check asks its questions as if there had been no first pass. These are helpers for the crates above: they
 // require.
+#![tactic(auto)]
+
 pub mod groups;
 pub mod levels;
 
@@ -97,7 +99,7 @@ fn has_run(s: &[u8], at: usize, size: usize, count: usize) -> bool
 
 // What a lane starts from: whether group and path have their level's width and depth, how many values the level has, the width, the group's
 // number, where its values begin, where the path's digests begin, and how many they are.
-#[derive(Drop)]
+#[derive(Clone, Copy)]
 pub struct Lane {
     pub sized: bool,
     pub count: usize,
@@ -312,7 +314,7 @@ pub fn four_ends(
 }
 
 // What four lanes came to: which of them are sized, and their digests.
-#[derive(Drop)]
+#[derive(Clone, Copy)]
 pub struct Ends {
     pub a: bool,
     pub b: bool,

@@ -1,5 +1,7 @@
 // The root that a group and a path of a record lead to, and the questions put to both. These are helpers for the crates above: each
 // requires that what it reads is in the record.
+#![tactic(auto)]
+
 ghost use Rattle.std.specs.Prelude.{◌≡◌, true, ◌+◌, ◌*◌, ◌≤◌, ◌<◌, eqb, length, take};
 ghost use Rattle.std.specs.Int.Bits.{bit_xor};
 ghost use Rattle.theory_laws.specs.Lists.{part, same};
@@ -190,7 +192,7 @@ pub fn opening_number(
 }
 
 // A group and a path, by the bytes of a record at which they begin, and whether they are known to lead to a root.
-#[derive(Drop)]
+#[derive(Clone, Copy)]
 pub struct Opened {
     pub known: bool,
     pub group_at: usize,

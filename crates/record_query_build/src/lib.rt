@@ -1,4 +1,6 @@
 // Building a query record. The entry is `build_query`; the other functions require.
+#![tactic(auto)]
+
 ghost use Rattle.std.specs.Prelude.{◌≡◌, ◌+◌, ◌*◌, ◌≤◌, ◌<◌, length};
 ghost use Rattle.theory_field.specs.Words.{words};
 ghost use Rattle.bytes_numbers.specs.helpers.Put.{Put};
@@ -23,7 +25,7 @@ use theory_record::WidthSet;
 use tree_place::{Place, group_of};
 
 // A level as it is lent: the word and the byte at which its values and its tree begin, and its sizes.
-#[derive(Drop)]
+#[derive(Clone, Copy)]
 pub struct Level {
     pub words_at: usize,
     pub tree_at: usize,

@@ -1,4 +1,6 @@
 // Checking a query record. The entry is `check_query`; the other functions require.
+#![tactic(auto)]
+
 ghost use Rattle.std.specs.Prelude.{◌≡◌, ◌<◌, eqb};
 ghost use Rattle.theory_laws.specs.Xor.{◌⊕◌};
 ghost use Rattle.theory_field.specs.Field.{◌⊗◌};
@@ -23,7 +25,7 @@ use theory_record::Trees;
 use tree_place::{Place, in_group};
 
 // 0 and 0 where the record is accepted; else the number of the first question whose answer is no, and the level for 16 to 26.
-#[derive(Drop)]
+#[derive(Clone, Copy)]
 pub struct Checked {
     pub number: u32,
     pub level: u32,

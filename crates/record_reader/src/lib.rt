@@ -1,5 +1,7 @@
 // Record bytes, read from front to back: counts, words, digests, counted runs, and the levels and groups of records, all of them through
 // `bytes_reader::read`. Bytes may be anything, and a count whatever an enemy wrote. Helpers for the crates above: some require.
+#![tactic(auto)]
+
 ghost use Rattle.std.specs.Prelude.{◌≡◌, ◌+◌, ◌-◌, ◌≤◌, ◌<◌, leb, eqb, length, drop};
 ghost use Rattle.theory_laws.specs.Questions.{both};
 ghost use Rattle.theory_laws.specs.Lists.{part, le_value};
@@ -12,7 +14,7 @@ use bytes_reader::read;
 use field_gf128::Word;
 
 // A counted run: are its count and items all there, its count, and where what follows it begins.
-#[derive(Drop)]
+#[derive(Clone, Copy)]
 pub struct Run {
     pub fits: bool,
     pub count: usize,
@@ -20,7 +22,7 @@ pub struct Run {
 }
 
 // A level of a query record: is it all there, and where its groups, its paths and what follows it begin.
-#[derive(Drop)]
+#[derive(Clone, Copy)]
 pub struct Level {
     pub fits: bool,
     pub a_group_at: usize,
@@ -31,7 +33,7 @@ pub struct Level {
 }
 
 // A group of a tail record: is it all there, and where its path and what follows it begin.
-#[derive(Drop)]
+#[derive(Clone, Copy)]
 pub struct TailGroup {
     pub fits: bool,
     pub path_at: usize,

@@ -1,4 +1,6 @@
 // Building a tail record. The entry is `build_tail`; the other functions require.
+#![tactic(auto)]
+
 ghost use Rattle.std.specs.Prelude.{◌≡◌, length};
 ghost use Rattle.theory_field.specs.Words.{words};
 ghost use Rattle.theory_record.specs.Widths.{widths_of};

@@ -1,4 +1,6 @@
 // Checking a tail record. The entry is `check_tail`; the other functions require.
+#![tactic(auto)]
+
 ghost use Rattle.std.specs.Prelude.{◌≡◌, ◌<◌};
 ghost use Rattle.field_gf128.specs.Word.{word};
 ghost use Rattle.theory_record.specs.Format.{tail_form, record_items};

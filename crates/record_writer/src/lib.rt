@@ -1,5 +1,7 @@
 // What records are written of: groups of values and paths, each after its count, put into a lent buffer. These are helpers for the crates
 // above: each requires that its bytes fit.
+#![tactic(auto)]
+
 ghost use Rattle.std.specs.Prelude.{length};
 ghost use Rattle.tree_place.specs.Place.{number};
 ghost use Rattle.record_writer.specs.helpers.Groups.{ValuesPut, PathPut, ValuesRoom, PathRoom};

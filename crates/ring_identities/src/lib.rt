@@ -1,5 +1,7 @@
 // The two identities of ring switching (SPECIFICATION 3.5), run: each entry answers both sides of one, by the entries that it is about. What ties these
 // is stated in specs/Identities, in the terms of their contracts.
+#![tactic(auto)]
+
 ghost use Rattle.std.specs.Prelude.{◌≡◌, ◌*◌, length};
 ghost use Rattle.theory_laws.specs.Sum.{sum};
 ghost use Rattle.theory_laws.specs.Table.{at};
@@ -20,7 +22,7 @@ use field_words::table_len;
 
 // Both sides of an identity, where the number is 0: on the left what comes of the partials, on the right what comes of the words and a table. Else the
 // number of the refusal, and the word 0 twice.
-#[derive(Drop)]
+#[derive(Clone, Copy)]
 pub struct Sides {
     pub number: u32,
     pub left: Word,

@@ -1,5 +1,7 @@
 // The indicator of ring switching, after `RingEqInd` of ring.rs (SPECIFICATION 3.3 and 3.4): its table, and its value at a point. What ties the table to
 // the partials is stated in ring_identities (specs/Identities).
+#![tactic(auto)]
+
 ghost use Rattle.std.specs.Prelude.{◌≡◌, ◌*◌, ◌^◌, [], length};
 ghost use Rattle.theory_laws.specs.Table.{tab, at};
 ghost use Rattle.theory_laws.specs.Questions.{on_done};

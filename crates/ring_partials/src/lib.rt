@@ -1,5 +1,7 @@
 // Partial evaluations and their fold, after ring.rs (SPECIFICATION 3.1 and 3.2): a `Vec` becomes a lent slice, a panic a refusal. What ties them to the
 // words' bits and to the indicator's table is stated in these contracts' terms in ring_identities (specs/Identities).
+#![tactic(auto)]
+
 ghost use Rattle.std.specs.Prelude.{◌≡◌, ◌^◌, length};
 ghost use Rattle.theory_laws.specs.Table.{at};
 ghost use Rattle.theory_laws.specs.Questions.{on_done};
@@ -16,7 +18,7 @@ use field_words::table_len;
 pub mod sums;
 
 // A word, where the number is 0; else the number of the refusal and the word 0.
-#[derive(Drop)]
+#[derive(Clone, Copy)]
 pub struct Answer {
     pub number: u32,
     pub word: Word,

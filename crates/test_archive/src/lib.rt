@@ -1,6 +1,8 @@
 // What the comparison with the Rust and the benchmark call: leaves and entries, exported under names of their own. It is no part of what
 // people link. A helper that requires is called only where its requirement holds; elsewhere nothing is done. The set of widths is the present
 // one, which is the Rust's, and trees have no key, as the Rust's have none.
+#![tactic(auto)]
+
 use code_profile::{Parameters, Profile};
 use field_blocks::{Block, Hashed};
 use field_gf128::{Inverse, Word};
@@ -11,14 +13,14 @@ use tree_place::Place;
 
 // 7 coordinates by value.
 #[repr(C)]
-#[derive(Drop)]
+#[derive(Clone, Copy)]
 pub struct Point7 {
     pub words: [Word; 7],
 }
 
 // 128 coefficients by value.
 #[repr(C)]
-#[derive(Drop)]
+#[derive(Clone, Copy)]
 pub struct Coefficients {
     pub words: [Word; 128],
 }
@@ -144,7 +146,7 @@ pub extern "C" fn dequmlo_test_digest(input: &[u8]) -> Digested {
 
 // The digests of four messages of one length, of at most a chunk.
 #[repr(C)]
-#[derive(Drop)]
+#[derive(Clone, Copy)]
 pub struct FourDigests {
     pub a: [u8; 32],
     pub b: [u8; 32],
@@ -186,7 +188,7 @@ pub extern "C" fn dequmlo_test_four(s0: &[u8], s1: &[u8], s2: &[u8], s3: &[u8]) 
 
 // A number, and a word that is 0 where the number is not.
 #[repr(C)]
-#[derive(Drop)]
+#[derive(Clone, Copy)]
 pub struct NumberedWord {
     pub number: u32,
     pub word: Word,
@@ -194,7 +196,7 @@ pub struct NumberedWord {
 
 // A number, and the n of a folded codeword.
 #[repr(C)]
-#[derive(Drop)]
+#[derive(Clone, Copy)]
 pub struct NumberedN {
     pub number: u32,
     pub n: usize,
@@ -307,7 +309,7 @@ pub extern "C" fn dequmlo_test_eval_at(
 
 // A number, and both sides of an identity.
 #[repr(C)]
-#[derive(Drop)]
+#[derive(Clone, Copy)]
 pub struct NumberedSides {
     pub number: u32,
     pub left: Word,
@@ -434,7 +436,7 @@ pub extern "C" fn dequmlo_test_root_of_path(
 
 // A number, and the level for 16 to 26.
 #[repr(C)]
-#[derive(Drop)]
+#[derive(Clone, Copy)]
 pub struct NumberedLevel {
     pub number: u32,
     pub level: u32,
@@ -516,7 +518,7 @@ pub extern "C" fn dequmlo_test_level_domain(out: &mut [u8], base: &[u8], level: 
 
 // The domain is the first `length` bytes.
 #[repr(C)]
-#[derive(Drop)]
+#[derive(Clone, Copy)]
 pub struct Params {
     pub k: usize,
     pub queries: usize,

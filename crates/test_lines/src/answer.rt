@@ -10,7 +10,7 @@ use bytes_numbers::wide;
 use libc::STDOUT_FILENO;
 use std::num::wrapping_add_usize;
 
-#[derive(Drop)]
+#[derive(Clone, Copy)]
 pub struct Answer {
     pub count: usize,
     pub a: u64,

@@ -11,7 +11,7 @@ use field_gf128::Word;
 use std::num::{wrapping_add_u64, wrapping_add_usize};
 
 // The last two numbers of a piece, in decimal digits; 0 where there is none.
-#[derive(Drop)]
+#[derive(Clone, Copy)]
 pub struct Pair {
     pub first: u64,
     pub last: u64,

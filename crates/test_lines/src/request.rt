@@ -47,7 +47,7 @@ fn push(head: &mut [u64], row: usize, x: usize) {
 }
 
 // The first five numbers of a request.
-#[derive(Drop)]
+#[derive(Clone, Copy)]
 pub struct Numbers(pub usize, pub usize, pub usize, pub usize, pub usize);
 
 pub fn numbers_in(words: &[u64]) -> Numbers {
@@ -137,7 +137,7 @@ fn arguments(letters: &[u8], s: &[u8], from: usize, bytes: &mut [u8], words: &mu
 }
 
 // A line of a table: its number, and where it begins.
-#[derive(Drop)]
+#[derive(Clone, Copy)]
 struct Found {
     line: usize,
     at: usize,

@@ -1,5 +1,7 @@
 // Answers request lines on the hash, on trees, levels and records, and on the whole run: the lines of the files in data/, each of which says
 // where its answers come from. tools/vectors.py writes the lines and what is to be printed.
+#![tactic(auto)]
+
 ghost use Rattle.std.specs.Prelude.{◌≡◌, length};
 
 mod hash;

@@ -1,1 +1,2 @@
 // Comparing two query records, defined in specs/. There is no code.
+#![tactic(auto)]

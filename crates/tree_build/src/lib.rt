@@ -1,5 +1,7 @@
 // A tree over groups of words, built in a lent buffer, after magnetar-hash. The entry is `build`; the other functions require, and the public
 // ones of them are helpers for the crate that makes a tree in parts.
+#![tactic(auto)]
+
 ghost use Rattle.std.specs.Prelude.{◌≡◌, ◌+◌, ◌*◌, ◌^◌, ◌≤◌, length};
 ghost use Rattle.theory_laws.specs.Lists.{runs, flat};
 ghost use Rattle.theory_blake3.specs.Modes.{under};

@@ -1,5 +1,7 @@
 // Four leaves or four nodes of a tree at once. These are helpers for the crates above: they require. `messages` is a buffer to work in, and
 // nothing is said of what it holds afterwards.
+#![tactic(auto)]
+
 ghost use Rattle.std.specs.Prelude.{◌≡◌, ◌+◌, ◌*◌, ◌/◌, ◌≤◌, length};
 ghost use Rattle.tree_by_fours.specs.helpers.Fours.{by_fours, FoursFit, first_leaves, first_parents};
 ghost use Rattle.tree_four_messages.specs.helpers.Strides.{stride};

@@ -1,5 +1,7 @@
 // The digests of groups and of nodes, after magnetar-hash. The entries are `leaf_digest` and `node_digest`; the other functions serve the
 // crates above and require.
+#![tactic(auto)]
+
 ghost use Rattle.std.specs.Prelude.{◌≡◌, ◌++◌, ◌+◌, ◌*◌, ◌^◌, ◌≤◌, length};
 ghost use Rattle.theory_laws.specs.Lists.{le_bytes};
 ghost use Rattle.theory_field.specs.Words.{words};

@@ -1,6 +1,8 @@
 // Four messages of one length at once. They stand at the fronts of the four strides of a lent buffer, a chunk each, and the whole blocks of
 // what they have in common are hashed once. These are helpers for the crates above: each requires that its bytes fit, and nothing is said
 // of the buffer's other bytes.
+#![tactic(auto)]
+
 ghost use Rattle.std.specs.Prelude.{◌≡◌, ℕ, ◌+◌, ◌*◌, ◌/◌, ◌<◌, ◌≤◌, length};
 ghost use Rattle.theory_laws.specs.Lists.{part, flat};
 ghost use Rattle.theory_blake3.specs.Digest.{bytes_of_words32};

@@ -1,5 +1,7 @@
 // Four ways up at once, under domains of one length: the leaves of four groups whose values stand in one record, and where four digests lead
 // to along paths that stand there. These are helpers for the crates above: they require.
+#![tactic(auto)]
+
 ghost use Rattle.std.specs.Prelude.{◌≡◌, ℕ, ◌+◌, ◌*◌, ◌/◌, ◌^◌, ◌≤◌, ◌<◌, ◌++◌, length, ltb};
 ghost use Rattle.theory_laws.specs.Lists.{part};
 ghost use Rattle.theory_laws.specs.Table.{at};

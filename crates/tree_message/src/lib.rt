@@ -1,4 +1,6 @@
 // The leaf and node messages of a tree, written into a lent buffer. These are helpers for the crates above: each requires that its bytes fit.
+#![tactic(auto)]
+
 ghost use Rattle.std.specs.Prelude.{◌+◌, ◌*◌, ◌≤◌, ◌≡◌, ◌++◌, map, length};
 ghost use Rattle.theory_laws.specs.Lists.{flat, le_bytes};
 ghost use Rattle.theory_field.specs.Words.{words};

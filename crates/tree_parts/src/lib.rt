@@ -1,5 +1,7 @@
 // A tree made in parts, for callers that divide the work: the leaves of a run of groups, and the parents of a run of pairs, each into a lent
 // buffer of its own. A refused call changes no lent byte. The entries are `leaves` and `parents`; the other functions require.
+#![tactic(auto)]
+
 ghost use Rattle.std.specs.Prelude.{◌≡◌, ◌*◌, ◌≤◌, ◌<◌, length};
 ghost use Rattle.theory_merkle.specs.PartQuestions.{leaves_number, parents_number};
 ghost use Rattle.bytes_numbers.specs.helpers.Put.{Put};

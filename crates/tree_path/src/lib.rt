@@ -1,5 +1,7 @@
 // Authentication paths, after magnetar-hash: the path of a place, read off a lent tree, and the root that a group and a path lead to. The
 // entries are `open` and `root_of_path`.
+#![tactic(auto)]
+
 ghost use Rattle.std.specs.Prelude.{◌≡◌, length};
 ghost use Rattle.theory_merkle.specs.Numbers.{open_number};
 ghost use Rattle.tree_place.specs.Place.{index};

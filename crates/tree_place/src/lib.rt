@@ -1,4 +1,6 @@
 // Places and groups of a tree, its sizes, and the numbers that its entries answer. Helpers for the crates above: some require.
+#![tactic(auto)]
+
 ghost use Rattle.std.specs.Prelude.{◌≡◌, ◌+◌, ◌*◌, ◌/◌, ◌%◌, ◌^◌, ◌<◌, eqb, leb};
 ghost use Rattle.theory_merkle.specs.Tree.{group_of, sibling, log2, depth_of, tree_size};
 ghost use Rattle.theory_merkle.specs.Shape.{Bounded};
@@ -8,11 +10,11 @@ ghost use Rattle.theory_merkle.specs.PartQuestions.{leaves_number, parents_numbe
 ghost use Rattle.tree_place.specs.Place.{index, number};
 
 // The place of a value in a list of values. Its number is private to this crate: no place goes where a group is wanted.
-#[derive(Drop)]
+#[derive(Clone, Copy)]
 pub struct Place(usize);
 
 // The number of a group of values, and of the node above it at each level of their tree. It is private to this crate too.
-#[derive(Drop)]
+#[derive(Clone, Copy)]
 pub struct Group(usize);
 
 impl Place {

@@ -1,5 +1,7 @@
 // The way between a leaf and the root of a tree: siblings, parents, a path followed up from a leaf, and a path read off a lent tree. These are
 // helpers for the crates above: all but `children` require.
+#![tactic(auto)]
+
 ghost use Rattle.std.specs.Prelude.{◌≡◌, ◌+◌, ◌*◌, ◌≤◌, ◌<◌, length, drop};
 ghost use Rattle.theory_laws.specs.Lists.{runs, flat};
 ghost use Rattle.theory_blake3.specs.Modes.{under};
@@ -15,7 +17,7 @@ use tree_digest::{begin_nodes, hash_level_node};
 use tree_place::Group;
 
 // The digests of two children of one parent.
-#[derive(Drop)]
+#[derive(Clone, Copy)]
 pub struct Siblings {
     pub left: [u8; 32],
     pub right: [u8; 32],
