@@ -1,0 +1,49 @@
+-- `claim_fold_calls::call` meets its contract.
+use mathlib.Core.Path.{refl, sym}
+use native.Mathlib.Omega.{arith}
+use lib.Seq.{length-take-le}
+use Rattle.code_levels.proofs.Laying.{within, next-from}
+use Rattle.claim_fold_calls.specs.helpers.Laid.{asked}
+use Rattle.claim_fold_calls.proofs.Turns.{too_long, called_refused, called_no, called_done}
+use borrow.Author.Rules.{rules}
+use Rattle.claim_fold_calls.proofs.call.Reads as reads
+use Rattle.claim_fold_calls.proofs.call.Lts as lts
+use Rattle.code_level.proofs.level_length.Reads as level-length-reads
+use Rattle.code_levels.proofs.fold_level.Reads as fold-level-reads
+use Rattle.code_levels.proofs.lay.Reads as lay-reads
+use Rattle.field_words.proofs.put.Reads as put_reads
+use Rattle.claim_fold_calls.proofs.call.Goals as goal
+
+pub returns-then-room-half : goal.returns-then-room-half
+returns-then-room-half c =
+    called_refused (too_long c.requires.level (asked c.args.x) _ _ refl c.if-room-half.true) refl
+
+pub slice_bounds-fold_level-end-2 : goal.slice_bounds-fold_level-end-2
+slice_bounds-fold_level-end-2 c =
+    sym (length-take-le _ _ (omega (arith, c.requires.list_long)))
+
+pub returns-then-number-ne0 : goal.returns-then-number-ne0
+returns-then-number-ne0 c =
+    let e = c.fold_level-number.ensures in called_no _ _ c.requires.level c.requires.below (asked c.args.x) e.0 e.1.0 c.if-number-ne0.true
+
+pub overflow_mul-to : goal.overflow_mul-to
+overflow_mul-to c = let w = within c.requires.level c.level_length.ensures in search rules
+
+pub overflow_add-to : goal.overflow_add-to
+overflow_add-to c = let w = within c.requires.level c.level_length.ensures in search rules
+
+pub lay-requires : goal.lay-requires
+lay-requires c =
+    let p = c.requires in let room = p.level.room in (
+      record {
+        room = record { n_most = room.n_most; k_most = room.k_most; levels_long = room.levels_long; half_long = search rules };
+        within = omega (arith, p.below);
+        from= = next-from _ _ _ p.level.from= c.level_length.ensures;
+      },
+      omega arith,
+    )
+
+pub returns : goal.returns
+returns c =
+    let p = c.requires in let e = c.fold_level-number.ensures in called_done _ _ p.level p.below (asked c.args.x) e.0 e.1.0 c.if-number-ne0.false _ _
+    (next-from _ _ _ p.level.from= c.level_length.ensures) e.1.1.0 c.lay.ensures c.put.ensures

@@ -1,0 +1,49 @@
+-- `code_codeword::coordinate` meets its contract: below bit j, the sum is that of the first j rows of the gammas.
+use Prim.Native.Nat.{ℕ, ◌+◌, ◌*◌, ◌-◌, ◌≤◌, ◌<◌}
+use mathlib.Core.Logic.{⊎_elim}
+use mathlib.Core.Path.{◌≡◌, sym, ap, ap₂, ◌∙◌}
+use native.Mathlib.Omega.{arith}
+use borrow.Author.Rules.{rules}
+use Rattle.theory_field.specs.Words.{words}
+use Rattle.field_gf128.specs.Word.{word}
+use Rattle.theory_laws.specs.Xor.{◌⊕◌}
+use Rattle.theory_laws.specs.Sum.{sum}
+use Rattle.theory_multilinear.specs.Codeword.{shift_at}
+use Rattle.code_codeword.proofs.Lengths.{gammas_fit, gamma-fits}
+use Rattle.code_codeword.proofs.Shift.{shift_at-set, shift_at-unset}
+use Rattle.code_codeword.proofs.coordinate.Goals as goal
+use Rattle.code_codeword.proofs.coordinate.Goals.{Then-eps-j-eq1}
+
+-- the gamma's place is among those lent
+within : (c : Then-eps-j-eq1)
+    → c.loop-j.j * c.args.n + c.args.i < 80
+within c =
+    let a = c.args in let p = c.requires in omega (arith, gammas_fit p.0.n≤ p.0.k≤, gamma-fits a.n a.k c.loop-j.j a.i p.1 (omega arith))
+
+pub loop-j-init : goal.loop-j-init
+unfolding word shift_at sum
+loop-j-init c = search rules
+
+pub overflow_mul-j : goal.overflow_mul-j
+overflow_mul-j c = omega (arith, within c)
+
+pub overflow_add-j : goal.overflow_add-j
+overflow_add-j c = omega (arith, within c)
+
+pub get-requires : goal.get-requires
+get-requires c =
+    let a = c.args in let p = c.requires in omega (arith, gamma-fits a.n a.k c.loop-j.j a.i p.1 (omega arith))
+
+pub loop-j-preserved : goal.loop-j-preserved
+loop-j-preserved c =
+    let h = c.loop-j.invariant.1 in (
+      omega arith,
+      ⊎_elim
+          (λ w. ap word w.3 ∙ w.2.ensures ∙ ap₂ ◌⊕◌ h w.1.ensures ∙ sym (shift_at-set _ _ _ _ _ w.0.taken))
+          (λ w. ap word w.1 ∙ h ∙ sym (shift_at-unset _ _ _ _ _ w.0.left))
+          c.if-eps-j-eq1.branch,
+    )
+
+pub returns : goal.returns
+returns c =
+    let a = c.args in c.loop-j.invariant.1 ∙ ap (λ (m : ℕ). shift_at a.n m (words a.gammas.now) a.eps a.i) (omega arith)

@@ -1,0 +1,20 @@
+-- `code_codeword::shift_table` meets its contract: the passes at the first i coordinates are done.
+use Prim.Native.Nat.{ℕ, ◌-◌, ◌≤◌}
+use mathlib.Core.Path.{◌≡◌, refl, ap, ◌∙◌}
+use mathlib.Core.List.{List}
+use native.Mathlib.Omega.{arith}
+use borrow.Author.Rules.{rules}
+use lib.ListN.{length}
+use Rattle.theory_field.specs.Words.{words}
+use Rattle.code_codeword.specs.helpers.Shifted.{passed_of}
+use Rattle.code_codeword.proofs.Lengths.{has_bit}
+use Rattle.code_codeword.proofs.Blocks.{one-passed}
+use Rattle.code_codeword.proofs.shift_table.Given as goal
+
+abbrev pub invariant-loop-i : goal.invariant-loop-i
+invariant-loop-i l =
+    (l.i ≤ l.m) × (length l.out ≡ length l.initial.out) × (length l.t ≡ length l.initial.t)
+    × ((t : List ℕ) → words l.initial.out ≡ passed_of l.from l.m l.n l.k (words l.gammas) l.eps t → words l.out ≡ passed_of l.i l.m l.n l.k (words l.gammas) l.eps t)
+
+abbrev pub decreases-loop-i : goal.decreases-loop-i
+decreases-loop-i l = l.m - l.i

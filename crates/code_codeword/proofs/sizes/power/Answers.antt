@@ -1,0 +1,11 @@
+-- `code_codeword::sizes::power` meets its contract.
+use mathlib.Core.Path.{◌∙◌}
+use native.Mathlib.Nat.{one-mul}
+use native.Mathlib.Omega.{arith}
+use lib.Dec.{lit<}
+use lib.Pow.{shl_exact}
+use borrow.Author.Rules.{rules}
+use Rattle.code_codeword.proofs.sizes.power.Goals as goal
+
+pub returns : goal.returns
+returns c = shl_exact 1 c.args.e 64 (lit< tt) (omega arith) ∙ one-mul _

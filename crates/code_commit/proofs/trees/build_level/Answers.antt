@@ -1,0 +1,26 @@
+-- `code_commit::trees::build_level` meets its contract.
+use native.Mathlib.Omega.{arith}
+use Rattle.code_commit.proofs.LevelTrees.{domain-ends, domain-long, domain-is, level-built}
+use borrow.Author.Rules.{rules}
+use Rattle.code_commit.proofs.trees.build_level.Reads as reads
+use Rattle.code_commit.proofs.trees.build_level.Lts as lts
+use Rattle.code_level.proofs.level_domain.Reads as level-domain-reads
+use Rattle.code_level.proofs.level_length.Reads as level-length-reads
+use Rattle.code_level.proofs.level_width.Reads as level-width-reads
+use Rattle.tree_build.proofs.build.Reads as build-reads
+use Rattle.code_commit.proofs.trees.build_level.Goals as goal
+
+pub slice_bounds-domain-end : goal.slice_bounds-domain-end
+slice_bounds-domain-end c =
+    let y = (c.requires) in
+    let h = domain-ends _ _ y.base_le (omega arith) c.level_domain-size.ensures (search rules) in
+    search rules
+
+pub slice_bounds-build-end : goal.slice_bounds-build-end
+slice_bounds-build-end c =
+    let y = c.requires in domain-long _ _ y.base_le (omega arith) c.level_domain-size.ensures (search rules)
+
+pub returns : goal.returns
+returns c =
+    let y = c.requires in level-built _ _ _ _ y (domain-is _ _ y.base_le (omega arith) c.level_domain-size.ensures (search rules)) c.level_length-count.ensures
+    c.level_width-width.ensures c.build.ensures.tree_after

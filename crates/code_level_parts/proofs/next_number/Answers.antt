@@ -1,0 +1,63 @@
+-- `code_level_parts::next_number` meets its contract.
+use Rattle.theory_laws.proofs.Questions.{asks, asks-given}
+use Rattle.theory_record.proofs.Ranges.{sizes-small}
+use Rattle.code_level.proofs.Sizes.{sizes-said, asks-sizes}
+use Rattle.code_level.proofs.Totals.{length-small}
+use Rattle.code_level_parts.specs.Numbers.{next_part_number}
+use Prim.Native.Nat.{◌*◌}
+use mathlib.Core.Path.{sym, ap, ◌∙◌}
+use native.Mathlib.Omega.{arith}
+use borrow.Author.Tests.{leb-true, not-false}
+use borrow.Author.Rules.{rules}
+use Rattle.code_level_parts.proofs.Allowed.{next_yes}
+use Rattle.code_level_parts.proofs.next_number.Goals as goal
+use Rattle.code_level_parts.proofs.next_number.Goals.{Else-out-ne0}
+
+pub returns-then-x-ne0 : goal.returns-then-x-ne0
+unfolding next_part_number
+returns-then-x-ne0 c = search (asks, asks-given, asks-sizes) depth 16 fits 8000
+
+pub returns-then-l-n : goal.returns-then-l-n
+unfolding next_part_number
+returns-then-l-n c = search (asks, asks-given, asks-sizes) depth 16 fits 8000
+
+pub level_length-requires : goal.level_length-requires
+level_length-requires c =
+    let small = sizes-small _ _ (sizes-said _ _ _ c.size_number-x.ensures c.if-x-ne0.false) in
+    search rules
+
+pub overflow_mul-level_length : goal.overflow_mul-level_length
+overflow_mul-level_length c =
+    let small = sizes-small _ _ (sizes-said _ _ _ c.size_number-x.ensures c.if-x-ne0.false) in
+    let h = length-small c.args.n c.args.k c.args.l small in
+    search rules
+
+pub returns-then-values-level_length : goal.returns-then-values-level_length
+unfolding next_part_number
+returns-then-values-level_length c = search (asks, asks-given, asks-sizes) depth 16 fits 8000
+
+pub returns-then-out-ne0 : goal.returns-then-out-ne0
+unfolding next_part_number
+returns-then-out-ne0 c = search (asks, asks-given, asks-sizes) depth 16 fits 8000
+
+pub in_next-requires : goal.in_next-requires
+in_next-requires c =
+    let small = sizes-small _ _ (sizes-said _ _ _ c.size_number-x.ensures c.if-x-ne0.false) in
+    search rules
+
+pub returns-then-not-in_next : goal.returns-then-not-in_next
+unfolding next_part_number
+returns-then-not-in_next c = search (asks, asks-given, asks-sizes) depth 16 fits 8000
+
+pub returns : goal.returns
+returns c =
+    let a = c.args in let z = sizes-said a.n a.k _ c.size_number-x.ensures c.if-x-ne0.false in
+    next_yes a.n a.k a.l a.first a.values a.out z
+    (record {
+      n_le = z.n_most;
+      k_le = z.k_most;
+      level-lt = omega arith;
+      values_are = c.if-values-level_length.false ∙ ap (◌*◌ 2) c.level_length.ensures;
+      (goal.at.returns c).Else-out-ne0 = c.if-out-ne0.false;
+      c = leb-true _ _ (sym c.in_next.ensures ∙ not-false _ c.if-not-in_next.false);
+    })

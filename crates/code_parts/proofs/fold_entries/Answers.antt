@@ -1,0 +1,73 @@
+-- `code_parts::fold_entries` meets its contract. The loop's invariant: the first v words are those of the fold.
+use mathlib.Core.Path.{◌≡◌, refl, ap, ap₂, ◌∙◌}
+use Prim.Native.Nat.{ℕ, ◌+◌, ◌-◌, ◌*◌, ◌/◌, ◌%◌, ◌^◌, ◌≤◌}
+use native.Mathlib.Omega.{arith}
+use borrow.Author.Rules.{rules}
+use lib.Pow.{pow_pos}
+use lib.ListN.{length}
+use Rattle.theory_laws.specs.Table.{at}
+use Rattle.theory_laws.proofs.Updates.{updated, updated_end, updated-turn}
+use Rattle.theory_field.specs.Words.{words}
+use Rattle.theory_field.proofs.Words.{length-words-even}
+use Rattle.field_gf128.specs.Word.{word}
+use Rattle.theory_multilinear.specs.Fold.{line, fold_at}
+use Rattle.field_runs.proofs.Pairs.{Pair, shift, stride, pair}
+use Rattle.code_parts.proofs.FoldPart.{part-made}
+use Rattle.code_parts.proofs.fold_entries.Goals as goal
+use Rattle.code_parts.proofs.fold_entries.Goals.{After-first-lo}
+
+pub overflow_shl-half : goal.overflow_shl-half
+overflow_shl-half c =
+    shift c.args.var (length c.args.src.now) c.requires.0.paired (omega arith)
+
+pub loop-v-init : goal.loop-v-init
+unfolding updated
+loop-v-init c = (omega arith, refl, refl)
+
+pub overflow_add-first : goal.overflow_add-first
+overflow_add-first c =
+    omega (arith, c.requires.0.within)
+
+pub first-lo-requires : goal.first-lo-requires
+first-lo-requires c =
+    let a = c.args in (
+      omega (arith, stride a.var (length a.src.now) c.requires.0.paired (omega arith), pow_pos a.var),
+      omega (arith, c.requires.0.within),
+    )
+
+-- the places of the pair
+module _ (c : After-first-lo) where
+  found : Pair c.args.var (length c.args.src.now) (c.args.first + c.loop-v.v) c.first-lo.result
+      (c.first-lo.result + 1 * 2 ^ c.args.var % 2 ^ 64)
+  found = pair c.args.var (length c.args.src.now) c.requires.0.paired (omega arith) (c.args.first + c.loop-v.v)
+      c.first-lo.result (omega (arith, c.requires.0.within)) c.first-lo.ensures
+
+pub get-a-requires : goal.get-a-requires
+get-a-requires c = omega (arith, found c)
+
+pub overflow_add-lo : goal.overflow_add-lo
+overflow_add-lo c = omega (arith, found (goal.at.overflow_add-lo c).After-first-lo)
+
+pub get-b-requires : goal.get-b-requires
+get-b-requires c = omega (arith, found (goal.at.get-b-requires c).After-first-lo)
+
+pub loop-v-preserved : goal.loop-v-preserved
+unfolding fold_at
+loop-v-preserved c =
+    let a = c.args in let src = words a.src.now in (
+      omega arith,
+      omega (arith, c.put.auto.s),
+      c.put.ensures
+          ∙ updated-turn c.loop-v.v (λ k w. fold_at a.var (word a.r) (at src) (a.first + k)) (words a.out.now) (words c.loop-v.out)
+          (word c.line_at-p.result) c.loop-v.invariant.2
+          (c.line_at-p.ensures
+          ∙ ap₂ (line (word a.r)) (c.get-a.ensures ∙ ap (at src) (found (goal.at.loop-v-preserved c).After-first-lo).first)
+          (c.get-b.ensures ∙ ap (at src) (found (goal.at.loop-v-preserved c).After-first-lo).second)),
+    )
+
+pub returns : goal.returns
+returns c =
+    let a = c.args in let m : ℕ = length a.out.now / 2 in
+    updated_end (λ k w. fold_at a.var (word a.r) (at (words a.src.now)) (a.first + k)) c.loop-v.v m (words a.out.now) (words c.loop-v.out)
+    (length-words-even a.out.now m (omega (arith, c.requires.0.whole))) (omega arith) c.loop-v.invariant.2
+    ∙ part-made a.var (word a.r) a.first (length a.out.now) a.src.now c.requires.0

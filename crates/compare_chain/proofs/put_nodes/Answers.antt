@@ -1,0 +1,38 @@
+-- `put_nodes` meets its contract. The loop's invariant: storing the messages that are left gives the final buffer, and there is room for them.
+use Prim.Native.Nat.{◌≤◌, ◌-◌, ◌+◌, ◌*◌}
+use mathlib.Core.Path.{◌≡◌, refl}
+use native.Mathlib.Omega.{arith}
+use lib.ListN.{length, drop}
+use Rattle.theory_laws.specs.Lists.{runs, flat, stored}
+use Rattle.theory_blake3.specs.Modes.{under}
+use Rattle.tree_place.specs.Place.{number}
+use Rattle.compare_chain.specs.helpers.Nodes.{nodes_of}
+use Rattle.compare_chain.proofs.Nodes.{nodes_left, nodes_begin, nodes_step, nodes_end, room_begin, one_more}
+use borrow.Author.Rules.{rules}
+use Rattle.compare_chain.proofs.put_nodes.Goals as goal
+
+pub loop-l-init : goal.loop-l-init
+loop-l-init c =
+    (search rules, refl, room_begin _ _ _ _ c.requires.2, nodes_begin _ _ _ _ _ _ _ _ _)
+
+pub put_node-p-requires : goal.put_node-p-requires
+put_node-p-requires c =
+    let h = one_more (136 + length c.args.domain.now) _ _ c.loop-l-test.true in
+    (search rules, omega arith)
+
+pub overflow_add-at-in-loop-l : goal.overflow_add-at-in-loop-l
+overflow_add-at-in-loop-l c =
+    let h = one_more (136 + length c.args.domain.now) _ _ c.loop-l-test.true in
+    search rules
+
+pub loop-l-preserved : goal.loop-l-preserved
+loop-l-preserved c =
+    let t = c.loop-l-test.true in let h = one_more (136 + length c.args.domain.now) _ _ t in (
+      search rules,
+      search rules,
+      omega arith,
+      nodes_step _ _ _ _ _ _ _ _ _ _ _ c.loop-l.invariant.3 _ _ _ _ t c.digest_at-e.ensures c.put_node-p.ensures c.parent-g.ensures,
+    )
+
+pub returns : goal.returns
+returns c = nodes_end _ _ _ _ _ _ _ _ _ _ _ c.loop-l.invariant.3 c.loop-l-test.false

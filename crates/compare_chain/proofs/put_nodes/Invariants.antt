@@ -1,0 +1,21 @@
+-- `put_nodes` meets its contract. The loop's invariant: storing the messages that are left gives the final buffer, and there is room for them.
+use Prim.Native.Nat.{◌≤◌, ◌-◌, ◌+◌, ◌*◌}
+use mathlib.Core.Path.{◌≡◌, refl}
+use native.Mathlib.Omega.{arith}
+use lib.ListN.{length, drop}
+use Rattle.theory_laws.specs.Lists.{runs, flat, stored}
+use Rattle.theory_blake3.specs.Modes.{under}
+use Rattle.tree_place.specs.Place.{number}
+use Rattle.compare_chain.specs.helpers.Nodes.{nodes_of}
+use Rattle.compare_chain.proofs.Nodes.{nodes_left, nodes_begin, nodes_step, nodes_end, room_begin, one_more}
+use borrow.Author.Rules.{rules}
+use Rattle.compare_chain.proofs.put_nodes.Given as goal
+
+abbrev pub invariant-loop-l : goal.invariant-loop-l
+invariant-loop-l l =
+    (l.l ≤ l.depth) × (length l.out ≡ length l.initial.out) × (l.at + (136 + length l.domain) * (l.depth - l.l) ≤ length l.out)
+    × (nodes_left (under l.mode) l.out l.at l.domain l.l (number l.g) l.d l.s l.path l.depth
+    ≡ stored l.initial.out l.from (flat (nodes_of (under l.mode) l.domain 0 (number l.initial.g) l.initial.d (runs 32 l.depth (drop l.path l.s)))))
+
+abbrev pub decreases-loop-l : goal.decreases-loop-l
+decreases-loop-l l = l.depth - l.l

@@ -1,0 +1,12 @@
+-- `records::dequmlo_check_query` meets its contract: the entry's at the lent place under the key and the set that the number names; 4 where it names none.
+use mathlib.Core.Path.{refl}
+use borrow.Author.Rules.{rules}
+use Rattle.theory_laws.proofs.Questions.{yes_le, no_le}
+use Rattle.export_dequmlo.proofs.records.dequmlo_check_query.Goals as goal
+
+pub returns-then-widths-gt1 : goal.returns-then-widths-gt1
+returns-then-widths-gt1 c = no_le _ _ _ _ _ c.if-widths-gt1.true refl
+
+pub returns : goal.returns
+returns c =
+    let h = c.if-widths-gt1.false in let p = c.at-place.ensures in let e = c.trees_of-how.ensures in yes_le _ _ _ _ _ h (rw (p, e) at c.check_query-a.ensures)

@@ -1,0 +1,25 @@
+-- `field_blocks::export_words` meets its contract. The loop's invariant: storing the turned words that are left gives the final buffer.
+use Prim.Native.Nat.{◌-◌, ◌*◌, ◌≤◌}
+use mathlib.Core.Path.{◌≡◌, refl, sym, ap, ◌∙◌}
+use mathlib.Core.List.{map}
+use native.Mathlib.Nat.{zero-add}
+use native.Mathlib.Omega.{arith}
+use borrow.Author.Rules.{rules}
+use lib.ListN.{length, length-map}
+use Rattle.theory_laws.specs.Table.{at}
+use Rattle.theory_laws.specs.Lists.{stored}
+use Rattle.theory_field.specs.Words.{words}
+use Rattle.theory_field.proofs.Words.{length-words, length-words-even}
+use Rattle.theory_gcm.specs.helpers.Mirrored.{turned}
+use Rattle.field_bytes.specs.Words.{word_bytes}
+use Rattle.field_bytes.proofs.Puts.{words_left, words_begin, words_step, words_put}
+use Rattle.field_blocks.proofs.Runs.{at_map, exported_put}
+use Rattle.field_blocks.proofs.export_words.Given as goal
+
+abbrev pub invariant-loop-v : goal.invariant-loop-v
+invariant-loop-v l =
+    (l.v ≤ l.n) × (length l.out ≡ length l.initial.out) × (l.at ≡ 16 * l.v)
+    × (words_left l.out l.at (map (turned 16) (words l.values)) 0 l.n l.v ≡ stored l.initial.out 0 (word_bytes (map (turned 16) (words l.values)) 0 l.n))
+
+abbrev pub decreases-loop-v : goal.decreases-loop-v
+decreases-loop-v l = l.n - l.v

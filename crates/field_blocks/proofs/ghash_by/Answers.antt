@@ -1,0 +1,32 @@
+-- `field_blocks::ghash_by` meets its contract. The loop's invariant: the hash from y of the blocks that are left is that of all from zero.
+use Prim.Native.Nat.{◌-◌, ◌≤◌}
+use mathlib.Core.Path.{◌≡◌, sym, ap, ◌∙◌}
+use native.Mathlib.Omega.{arith}
+use borrow.Author.Rules.{rules}
+use Rattle.theory_field.specs.Field.{◌⊗◌}
+use Rattle.theory_gcm.specs.helpers.Hash.{hash_from}
+use Rattle.field_gf128.specs.Word.{word}
+use Rattle.field_blocks.specs.Answers.{imported_run}
+use Rattle.field_blocks.proofs.Runs.{hash_left, hash_begin, hash-step, hash_end}
+use Rattle.field_blocks.proofs.ghash_by.Goals as goal
+
+pub loop-v-init : goal.loop-v-init
+loop-v-init c =
+    (omega arith, unfold word in hash_begin (word c.args.h) c.args.blocks.now)
+
+pub times-y-requires : goal.times-y-requires
+times-y-requires c =
+    c.requires
+
+pub loop-v-preserved : goal.loop-v-preserved
+loop-v-preserved c =
+    let a = c.args in (
+      omega arith,
+      hash-step (word a.h) (word c.loop-v.y) _ _ _ c.loop-v.v a.blocks.now c.loop-v-test.true c.block_at.ensures
+          (c.times-y.ensures ∙ ap (◌⊗◌ (word a.h)) c.add-sum.ensures)
+          ∙ c.loop-v.invariant.1,
+    )
+
+pub returns : goal.returns
+returns c =
+    let a = c.args in sym (hash_end (word a.h) (word c.loop-v.y) _ c.loop-v.v a.blocks.now c.loop-v-test.false) ∙ c.loop-v.invariant.1

@@ -1,0 +1,20 @@
+-- `pack::all_bits` meets its contract: what is left of the bytes gives the answer.
+use Prim.Native.Nat.{◌≤◌, ◌-◌}
+use mathlib.Core.Path.{◌≡◌}
+use native.Mathlib.Omega.{arith}
+use borrow.Author.Rules.{rules}
+use lib.ListN.{length, drop}
+use Rattle.field_pack.specs.Pack.{all_bits}
+use Rattle.field_pack.proofs.Groups.{bits-step, bits_stop, bits_end}
+use Rattle.field_pack.proofs.all_bits.Goals as goal
+
+pub returns-then-bytes-i-gt1 : goal.returns-then-bytes-i-gt1
+returns-then-bytes-i-gt1 c =
+    bits_stop c.args.bytes.now c.loop-i.i _ (omega arith) (omega arith) c.loop-i.invariant.1
+
+pub loop-i-preserved : goal.loop-i-preserved
+loop-i-preserved c =
+    (search rules, bits-step c.args.bytes.now c.loop-i.i _ (omega arith) (omega arith) c.loop-i.invariant.1)
+
+pub returns : goal.returns
+returns c = search (bits_end, rules)

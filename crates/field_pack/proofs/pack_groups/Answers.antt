@@ -1,0 +1,22 @@
+-- `pack::pack_groups` meets its contract: the words so far are those of the groups so far.
+use mathlib.Core.Path.{◌≡◌, refl}
+use Prim.Native.Nat.{◌+◌, ◌-◌, ◌*◌, ◌≤◌}
+use native.Mathlib.Omega.{arith}
+use borrow.Author.Rules.{rules}
+use lib.ListN.{length}
+use Rattle.theory_laws.specs.Table.{at}
+use Rattle.theory_multilinear.specs.Partials.{word_of}
+use Rattle.field_pack.specs.Pack.{packed}
+use Rattle.theory_field.proofs.Words.{Filled, filled_more, filled_all}
+use Rattle.field_pack.proofs.pack_groups.Goals as goal
+
+pub loop-v-init : goal.loop-v-init
+loop-v-init c = (omega arith, refl, λ k h. absurd (omega arith))
+
+pub loop-v-preserved : goal.loop-v-preserved
+loop-v-preserved c =
+    (search rules, search rules, filled_more _ _ _ _ _ (omega arith) c.put.ensures c.pack_bytes_le.ensures c.loop-v.invariant.2)
+
+pub returns : goal.returns
+unfolding packed
+returns c = filled_all _ _ _ _ (omega arith) (omega arith) c.loop-v.invariant.2

@@ -1,0 +1,18 @@
+-- `pack::pack_groups` meets its contract: the words so far are those of the groups so far.
+use mathlib.Core.Path.{◌≡◌, refl}
+use Prim.Native.Nat.{◌+◌, ◌-◌, ◌*◌, ◌≤◌}
+use native.Mathlib.Omega.{arith}
+use borrow.Author.Rules.{rules}
+use lib.ListN.{length}
+use Rattle.theory_laws.specs.Table.{at}
+use Rattle.theory_multilinear.specs.Partials.{word_of}
+use Rattle.field_pack.specs.Pack.{packed}
+use Rattle.theory_field.proofs.Words.{Filled, filled_more, filled_all}
+use Rattle.field_pack.proofs.pack_groups.Given as goal
+
+abbrev pub invariant-loop-v : goal.invariant-loop-v
+invariant-loop-v l =
+    (l.v ≤ l.n) × (length l.out ≡ length l.initial.out) × Filled (λ k. word_of (λ b. at l.bytes (128 * k + b))) l.v l.out
+
+abbrev pub decreases-loop-v : goal.decreases-loop-v
+decreases-loop-v l = l.n - l.v

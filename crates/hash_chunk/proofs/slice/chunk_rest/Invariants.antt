@@ -1,0 +1,19 @@
+-- `chunk::slice::chunk_rest` meets its contract.
+use mathlib.Core.Path.{◌≡◌, refl}
+use Prim.Native.Nat.{ℕ, ◌+◌, ◌≤◌, ◌-◌, ◌*◌}
+use native.Mathlib.Omega.{arith}
+use borrow.Author.Rules.{rules}
+use lib.ListN.{length, drop}
+use Rattle.theory_blake3.specs.Flags.{start_flag}
+use Rattle.theory_blake3.specs.Chunk as B
+use Rattle.hash_node.specs.helpers.Node.{out_of}
+use Rattle.hash_chunk.proofs.Chunk.{next_law, chunk-turn, chunk_end}
+use Rattle.hash_chunk.proofs.slice.chunk_rest.Given as goal
+
+abbrev pub invariant-loop-from : goal.invariant-loop-from
+invariant-loop-from l =
+    (64 * l.i ≡ 64 * l.blocks + l.from) × (l.from ≤ length l.input)
+    × ((x : ℕ) → B.chunk_from l.flags (15 - l.i) l.h (start_flag l.i) l.t (drop l.from l.input) x ≡ B.chunk_from l.flags (15 - l.blocks) l.initial.h (start_flag l.blocks) l.t l.input x)
+
+abbrev pub decreases-loop-from : goal.decreases-loop-from
+decreases-loop-from l = length l.input - l.from

@@ -1,0 +1,50 @@
+-- `chunk::state::feed` meets its contract.
+use mathlib.Core.Path.{◌≡◌, refl, ◌∙◌}
+use mathlib.Core.Logic.{⊎_elim}
+use Prim.Native.Nat.{◌≤◌, ◌<◌, ◌-◌, ◌+◌, ◌*◌}
+use native.Mathlib.Omega.{arith}
+use borrow.Author.Rules.{rules}
+use lib.ListN.{length, drop, drop_of_length-le}
+use Rattle.hash_chunk.specs.State as S
+use Rattle.hash_chunk.proofs.Feed.{Roomed, roomed_full, roomed_not, feed_turn}
+use Rattle.hash_chunk.proofs.state.feed.Goals as goal
+use Rattle.hash_chunk.proofs.state.feed.Goals.{In-loop-i}
+
+pub loop-i-init : goal.loop-i-init
+loop-i-init c = (omega arith, c.requires.within, omega arith, refl)
+
+-- where the arms meet there is room for a byte
+joined : (c : In-loop-i) → Roomed c.loop-i.s c.if-s-eq64.s
+joined c =
+    ⊎_elim
+    (λ w. roomed_full _ _ w.0.taken (w.2 ∙ w.1.ensures))
+    (λ w. roomed_not _ _ c.loop-i.invariant.1 w.0.left w.1)
+    c.if-s-eq64.branch
+
+pub overflow_sub-to : goal.overflow_sub-to
+overflow_sub-to c = omega (arith, (joined (goal.at.overflow_sub-to c).In-loop-i).room)
+
+pub filled-b-requires : goal.filled-b-requires
+filled-b-requires c = omega (arith, (joined (goal.at.filled-b-requires c).In-loop-i).room)
+
+pub overflow_add-s : goal.overflow_add-s
+overflow_add-s c = omega (arith, (joined (goal.at.overflow_add-s c).In-loop-i).room)
+
+pub loop-i-smaller : goal.loop-i-smaller
+loop-i-smaller c = omega (arith, (joined (goal.at.loop-i-smaller c).In-loop-i).room)
+
+pub loop-i-preserved : goal.loop-i-preserved
+loop-i-preserved c =
+    let a = c.args in let j = joined (goal.at.loop-i-preserved c).In-loop-i in
+    let u = c.if-s-eq64.s in let n = c.least-n.result in let p : 0 < n = omega (arith, j.room) in
+    let f : u.fill + n ≤ 64 = omega (arith, j.room) in (
+      omega arith,
+      f,
+      omega (arith, j.count),
+      feed_turn c.loop-i.s u a.input.now _ c.loop-i.i n _ j.same p f (omega arith) c.filled-b.ensures c.loop-i.invariant.3,
+    )
+
+pub returns : goal.returns
+unfolding S.fed
+returns c =
+    rw (drop_of_length-le c.args.input.now {i = c.loop-i.i} (omega arith)) at c.loop-i.invariant.3

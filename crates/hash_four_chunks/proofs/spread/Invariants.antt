@@ -1,0 +1,15 @@
+-- `hash_four_chunks::spread`: place by place.
+use mathlib.Core.Path.{◌≡◌, refl}
+use Prim.Native.Nat.{ℕ, ◌≤◌, ◌<◌, ◌-◌, ◌/◌}
+use native.Mathlib.Omega.{arith}
+use lib.ListN.{length, length-set}
+use Rattle.theory_laws.specs.Table.{at}
+use Rattle.theory_laws.proofs.Updates.{fill_step}
+use Rattle.hash_four_chunks.proofs.Laws.{spread_law}
+use Rattle.hash_four_chunks.proofs.spread.Given as goal
+
+abbrev pub invariant-loop-j : goal.invariant-loop-j
+invariant-loop-j l = (l.j ≤ 32) × (length l.s ≡ 32) × ((i : ℕ) → i < l.j → at l.s i ≡ at l.h (i / 4))
+
+abbrev pub decreases-loop-j : goal.decreases-loop-j
+decreases-loop-j l = 32 - l.j

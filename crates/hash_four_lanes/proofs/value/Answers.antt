@@ -1,0 +1,17 @@
+-- `hash_four_lanes::value`: the words are copied one by one.
+use mathlib.Core.Path.{refl}
+use Prim.Native.Nat.{◌-◌}
+use native.Mathlib.Omega.{arith}
+use Rattle.hash_four_lanes.proofs.Laws.{Copied, copied_more, copied_all}
+use Rattle.hash_four_lanes.proofs.value.Goals as goal
+
+pub loop-i-init : goal.loop-i-init
+loop-i-init c = (omega arith, refl, λ k h. absurd (omega arith))
+
+pub loop-i-preserved : goal.loop-i-preserved
+loop-i-preserved c =
+    let a = c.args in copied_more 8 a.h.now c.loop-i.v a.l c.loop-i.i (omega arith) c.loop-i.invariant
+
+pub returns : goal.returns
+returns c =
+    let a = c.args in copied_all 8 a.h.now c.loop-i.v a.l c.loop-i.i (omega arith) c.loop-i.invariant

@@ -1,0 +1,20 @@
+-- `hash_hasher::hasher::absorb` meets its contract.
+use mathlib.Core.Path.{◌≡◌, refl, ◌∙◌}
+use mathlib.Core.Logic.{⊎_elim}
+use Prim.Native.Nat.{◌≤◌, ◌<◌, ◌-◌, ◌+◌, ◌*◌}
+use native.Mathlib.Omega.{arith}
+use borrow.Author.Rules.{rules}
+use lib.ListN.{length, drop, drop_of_length-le}
+use Rattle.theory_laws.specs.Lists.{part}
+use Rattle.theory_laws.proofs.Lists.{length_part}
+use Rattle.hash_hasher.specs.Hasher as S
+use Rattle.hash_hasher.specs.helpers.Counts.{Counts}
+use Rattle.hash_hasher.proofs.Absorb.{Roomed, roomed_full, roomed_not, lent_fits, lent-fed, counts_same, absorb_turn, absorb_counts}
+use Rattle.hash_hasher.proofs.hasher.absorb.Given as goal
+
+abbrev pub invariant-loop-i : goal.invariant-loop-i
+invariant-loop-i l =
+    (l.i ≤ length l.input) × (Counts l.s (length l.input - l.i)) × (S.absorbed l.s (drop l.i l.input) ≡ S.absorbed l.initial.s l.input)
+
+abbrev pub decreases-loop-i : goal.decreases-loop-i
+decreases-loop-i l = length l.input - l.i

@@ -1,0 +1,8 @@
+-- `hash_hasher::whole::four_chunks`: four parts that stand one after the other.
+use borrow.Author.Rules.{rules}
+use Rattle.hash_hasher.proofs.OneCall.{four-values}
+use Rattle.hash_hasher.proofs.whole.four_chunks.Goals as goal
+
+pub returns : goal.returns
+returns c =
+    let a = c.args in four-values a.key a.flags a.t a.from a.input.now c.chunks.result c.chunks.ensures

@@ -1,0 +1,15 @@
+-- `record_known::levels::known_levels` meets its contract: what is known so far is so.
+use borrow.Author.Rules.{rules}
+use Prim.Native.Nat.{◌+◌, ◌-◌, ◌≤◌}
+use native.Mathlib.Omega.{arith}
+use Rattle.theory_record.specs.Scheme.{scheme}
+use Rattle.tree_place.specs.Place.{index}
+use Rattle.record_known.specs.helpers.Known.{LevelsKnown}
+use Rattle.record_known.proofs.Known.{none-known}
+use Rattle.record_known.proofs.levels.known_levels.Given as goal
+
+abbrev pub invariant-loop-e : goal.invariant-loop-e
+invariant-loop-e l = (l.e ≤ l.n + 1) × LevelsKnown (scheme l.how l.base l.n l.k) (index l.position) l.roots l.s l.ways
+
+abbrev pub decreases-loop-e : goal.decreases-loop-e
+decreases-loop-e l = l.n + 1 - l.e

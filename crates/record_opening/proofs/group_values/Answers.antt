@@ -1,0 +1,21 @@
+-- `group_values` meets its contract. The loop's invariant: the first i words are read.
+use Prim.Native.Nat.{◌≤◌, ◌-◌, ◌+◌, ◌*◌}
+use mathlib.Core.Path.{◌≡◌}
+use lib.ListN.{length}
+use native.Mathlib.Omega.{arith}
+use Rattle.theory_laws.specs.Lists.{part, le_value}
+use Rattle.theory_field.proofs.Words.{Filled, filled_more}
+use Rattle.theory_record.specs.Widths.{widest}
+use Rattle.record_opening.proofs.Values.{values_filled}
+use borrow.Author.Rules.{rules}
+use Rattle.record_opening.proofs.group_values.Goals as goal
+
+pub loop-i-init : goal.loop-i-init
+loop-i-init c = (search rules, search rules, λ j h. absurd (omega arith))
+
+pub loop-i-preserved : goal.loop-i-preserved
+loop-i-preserved c =
+    (search rules, search rules, filled_more _ _ _ _ _ (omega arith) c.put.ensures c.word_at-w.ensures c.loop-i.invariant.2)
+
+pub returns : goal.returns
+returns c = values_filled _ _ _ _ _ c.loop-i.invariant.2 c.loop-i.invariant.1 c.requires.0 c.loop-i-test.false

@@ -1,0 +1,27 @@
+-- `record_query_build::query_size` meets its contract.
+use borrow.Author.Rules.{rules}
+use Rattle.record_query_build.proofs.Sizes.{levels-size-le, no_levels, size_step, size_is}
+use Prim.Native.Nat.{◌+◌, ◌-◌, ◌≤◌}
+use mathlib.Core.Path.{◌≡◌, refl}
+use Rattle.theory_record.specs.Widths.{widths_of, total}
+use Rattle.theory_record.specs.Sizes.{level_size}
+use Rattle.theory_record.proofs.Ranges.{sizes-small}
+use Rattle.record_query_build.proofs.query_size.Reads as reads
+use Rattle.record_query_build.proofs.query_size.Lts as lts
+use Rattle.record_query_build.proofs.group_size.Reads as group-size-reads
+use Rattle.record_query_build.proofs.query_size.Goals as goal
+
+pub loop-l-init : goal.loop-l-init
+loop-l-init c = (search rules, no_levels _ _ _ _ refl)
+
+pub overflow_add-size-in-loop-l-2 : goal.overflow_add-size-in-loop-l-2
+overflow_add-size-in-loop-l-2 c =
+    let h = levels-size-le c.args.set _ _ c.loop-l.l (sizes-small _ _ c.requires) in
+    search rules
+
+pub loop-l-preserved : goal.loop-l-preserved
+loop-l-preserved c =
+    (search rules, size_step _ _ _ _ _ _ _ c.loop-l.invariant.1 c.group_size.ensures.0 c.group_size-in-loop-l.ensures.0)
+
+pub returns : goal.returns
+returns c = search size_is

@@ -1,0 +1,21 @@
+-- `ring_indicator::join_parts` meets its contract: the words so far are joined.
+use mathlib.Core.Path.{◌≡◌, refl, ap, ap₂, ◌∙◌}
+use Prim.Native.Nat.{◌-◌, ◌≤◌}
+use native.Mathlib.Omega.{arith}
+use borrow.Author.Rules.{rules}
+use lib.ListN.{length}
+use Rattle.theory_laws.specs.Xor.{◌⊕◌}
+use Rattle.theory_laws.specs.Table.{at}
+use Rattle.theory_laws.proofs.Updates.{updated, updated-read, updated-turn, updated_end}
+use Rattle.theory_field.specs.Words.{words}
+use Rattle.theory_field.proofs.Words.{length-words-even}
+use Rattle.field_gf128.specs.Word.{word}
+use Rattle.ring_indicator.specs.helpers.Steps.{join_parts}
+use Rattle.ring_indicator.proofs.join_parts.Given as goal
+
+abbrev pub invariant-loop-k : goal.invariant-loop-k
+invariant-loop-k l =
+    (l.k ≤ 128) × (length l.t ≡ 256) × (words l.t ≡ updated l.k (join_parts (word l.z) (at (words l.mixed))) (words l.initial.t))
+
+abbrev pub decreases-loop-k : goal.decreases-loop-k
+decreases-loop-k l = 128 - l.k

@@ -1,0 +1,29 @@
+-- `ring_partials::sums::partials` meets its contract: the words so far came into the buckets, and the bits so far out of them.
+use mathlib.Core.Path.{◌≡◌, ap, ◌∙◌}
+use Prim.Native.Nat.{ℕ, ◌-◌, ◌≤◌}
+use native.Mathlib.Omega.{arith}
+use borrow.Author.Rules.{rules}
+use lib.ListN.{length}
+use Rattle.theory_laws.specs.Sum.{sum}
+use Rattle.theory_laws.specs.Table.{at}
+use Rattle.theory_laws.proofs.Table.{tab-ext}
+use Rattle.theory_field.specs.Words.{words}
+use Rattle.theory_multilinear.specs.Partials.{partial}
+use Rattle.ring_partials.specs.helpers.Buckets.{gathered}
+use Rattle.ring_partials.proofs.Buckets.{gathered_none, partial-more}
+use Rattle.theory_field.proofs.Words.{Filled, filled_more, filled_all}
+use Rattle.ring_partials.proofs.sums.partials.Given as goal
+
+abbrev pub invariant-loop-v : goal.invariant-loop-v
+invariant-loop-v l =
+    (l.v ≤ l.m) × (length l.buckets ≡ 1024) × ((b : ℕ) → gathered (words l.buckets) b ≡ partial l.v (at (words l.ws)) (at (words l.es)) b)
+
+abbrev pub decreases-loop-v : goal.decreases-loop-v
+decreases-loop-v l = l.m - l.v
+
+abbrev pub invariant-loop-b : goal.invariant-loop-b
+invariant-loop-b l =
+    (l.b ≤ 128) × (length l.out ≡ 256) × Filled (gathered (words l.buckets)) l.b l.out
+
+abbrev pub decreases-loop-b : goal.decreases-loop-b
+decreases-loop-b l = 128 - l.b

@@ -1,0 +1,22 @@
+-- `tree_build::put_levels` meets its contract. The loop's invariant: storing the levels from this one on gives the whole tree.
+use Prim.Native.Nat.{◌≤◌, ◌-◌, ◌+◌, ◌*◌, ◌^◌}
+use mathlib.Core.Path.{◌≡◌, refl}
+use lib.ListN.{length, drop}
+use Rattle.theory_laws.specs.Lists.{runs, flat, stored}
+use Rattle.theory_blake3.proofs.Modes.{length-under}
+use Rattle.theory_blake3.specs.Modes.{under}
+use Rattle.theory_merkle.specs.Tree.{levels_from, end_to_end}
+use Rattle.tree_build.proofs.Levels.{levels-step, levels_end, levels_begin}
+use Rattle.theory_merkle.proofs.Sizes.{next_power, half-even, half_some, power_begin}
+use borrow.Author.Rules.{rules}
+use native.Mathlib.Omega.{arith}
+use Rattle.tree_build.proofs.put_levels.Given as goal
+
+abbrev pub invariant-loop-level : goal.invariant-loop-level
+invariant-loop-level l =
+    (l.level ≤ l.depth) × (l.m ≡ 2 ^ (l.depth - l.level)) × (l.from + 64 * l.m ≡ length l.tree + 32) × (length l.tree ≡ length l.initial.tree)
+    × (stored l.tree l.from (flat (end_to_end (levels_from (under l.mode) l.domain (l.depth - l.level) l.level (runs 32 l.m (drop l.from l.tree)))))
+    ≡ flat (end_to_end (levels_from (under l.mode) l.domain l.depth 0 (runs 32 l.groups l.initial.tree))))
+
+abbrev pub decreases-loop-level : goal.decreases-loop-level
+decreases-loop-level l = l.depth - l.level

@@ -1,0 +1,35 @@
+-- `tree_build::put_parents_from` meets its contract.
+-- The loop's invariant: storing the parents that are left gives the final buffer; the level below and the message's prefix are kept.
+use Prim.Native.Nat.{ℕ, ◌≤◌, ◌-◌, ◌+◌, ◌*◌}
+use mathlib.Core.Path.{◌≡◌, refl, ◌∙◌}
+use lib.ListN.{length, take, drop}
+use Rattle.theory_laws.specs.Lists.{runs, flat, stored}
+use Rattle.theory_blake3.specs.Modes.{under}
+use Rattle.theory_merkle.specs.Message.{node_prefix}
+use Rattle.theory_merkle.specs.Tree.{parents}
+use Rattle.tree_digest.proofs.Messages.{prefix-is}
+use Rattle.tree_by_fours.proofs.Parents.{below-kept, parents_end}
+use Rattle.tree_build.proofs.Levels.{parents-step}
+use borrow.Author.Rules.{rules}
+use native.Mathlib.Omega.{arith}
+use Rattle.tree_build.proofs.put_parents_from.Goals as goal
+
+pub loop-j-init : goal.loop-j-init
+loop-j-init c = (search rules, refl, refl, refl, refl, prefix-is _ _ _ _ _ c.node_prefix-prefix.ensures (omega arith), refl, refl)
+
+pub loop-j-preserved : goal.loop-j-preserved
+loop-j-preserved c =
+    let q = c.loop-j in let a = c.args in let h = c.hash_node-d.ensures in let p = c.put-dst.ensures in let below : ℕ = a.from + 64 * a.half in (
+      search rules,
+      search rules,
+      search rules,
+      search rules,
+      search rules,
+      h.kept ∙ q.invariant.5,
+      below-kept below _ _ _ _ _ _ _ q.invariant.6 (omega arith) p,
+      parents-step _ _ _ _ _ _ below _ q.invariant.6 c.loop-j-test.true (omega arith) c.load-l.ensures
+          c.load-r.ensures q.invariant.5 h p q.invariant.7,
+    )
+
+pub returns : goal.returns
+returns c = parents_end _ _ _ _ _ _ _ _ _ c.loop-j-test.false c.loop-j.invariant.7

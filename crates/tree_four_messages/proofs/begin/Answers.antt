@@ -1,0 +1,7 @@
+-- `tree_four_messages::begin` meets its contract.
+use borrow.Author.Rules.{rules}
+use Rattle.tree_four_messages.proofs.begin.Goals as goal
+
+pub returns : goal.returns
+returns c =
+    record { each = c.put_prefixes.ensures; value = c.first_blocks.ensures }

@@ -1,0 +1,21 @@
+-- `tree_four_messages::put_leaf_rests` meets its contract. The loop's invariant: the messages so far are whole, and the prefixes of the others stand.
+use Prim.Native.Nat.{◌≤◌, ◌-◌, ◌+◌, ◌*◌}
+use mathlib.Core.Path.{◌≡◌, refl}
+use native.Mathlib.Omega.{arith}
+use lib.ListN.{length}
+use borrow.Author.Rules.{rules}
+use Rattle.theory_laws.specs.Lists.{part}
+use Rattle.theory_field.specs.Words.{words}
+use Rattle.theory_merkle.specs.Message.{leaf_rest}
+use Rattle.tree_place.specs.Place.{number}
+use Rattle.tree_four_messages.proofs.Filling.{StridesFilled, strides_begin, strides_step, strides_end, leaf-rest_put}
+use Rattle.tree_four_messages.proofs.Values.{group_length, group_of_four, next_group}
+use Rattle.tree_four_messages.proofs.put_leaf_rests.Given as goal
+
+abbrev pub invariant-loop-k : goal.invariant-loop-k
+invariant-loop-k l =
+    (l.k ≤ 4) × (l.from ≡ 2 * (l.width * l.k)) × (l.at ≡ 1024 * l.k + l.prefix) × (length l.messages ≡ length l.initial.messages)
+    × StridesFilled l.initial.messages l.prefix (24 + 16 * l.width) (λ j. leaf_rest l.width (number l.group + j) (part l.width (l.width * j) (words l.values))) l.k l.messages
+
+abbrev pub decreases-loop-k : goal.decreases-loop-k
+decreases-loop-k l = 4 - l.k

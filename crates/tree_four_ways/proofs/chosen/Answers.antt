@@ -1,0 +1,9 @@
+-- `tree_four_ways::chosen` meets its contract.
+use borrow.Author.Tests.{lt-ltb, le-ltb}
+use Rattle.tree_four_ways.proofs.chosen.Goals as goal
+
+pub returns-then-level-depth : goal.returns-then-level-depth
+returns-then-level-depth c = search (lt-ltb, le-ltb)
+
+pub returns : goal.returns
+returns c = search (lt-ltb, le-ltb)

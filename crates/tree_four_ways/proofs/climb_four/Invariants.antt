@@ -1,0 +1,25 @@
+-- `tree_four_ways::climb_four` meets its contract. The loop's invariant: what is left of each way leads to the same root.
+use Prim.Native.Nat.{ℕ, ◌≤◌, ◌<◌, ◌+◌, ◌-◌, ◌/◌, ◌^◌}
+use mathlib.Core.Path.{◌≡◌, ◌∙◌, ap}
+use mathlib.Core.List.{List}
+use native.Mathlib.Omega.{arith}
+use lib.ListN.{length}
+use Rattle.theory_laws.specs.Table.{at}
+use Rattle.theory_blake3.specs.Modes.{under}
+use Rattle.tree_four_messages.specs.helpers.Strides.{Each}
+use Rattle.tree_walk.proofs.Climb.{climb_from, climb_end}
+use Rattle.tree_digest.specs.helpers.Begun.{node_front}
+use Rattle.tree_four_ways.specs.helpers.Ways.{domain_of, digest_of, lane_rest, way_up}
+use Rattle.tree_four_ways.proofs.Climb.{fronts_long, whole-messages, fronts_kept, from_fronts, way_begin, way_step}
+use borrow.Author.Rules.{rules}
+use Rattle.tree_four_ways.proofs.climb_four.Given as goal
+
+abbrev pub invariant-loop-level : goal.invariant-loop-level
+invariant-loop-level l =
+    (l.level ≤ l.deepest) × (length l.messages ≡ 4096) × Each l.front l.messages (λ k. node_front (domain_of l.domains l.size k))
+    × ((k : ℕ) → k < 4 → climb_from (under l.mode) (domain_of l.domains l.size k) l.s (at l.from k) (at l.depths k) l.level
+    (at l.groups k / 2 ^ l.level) (digest_of l.d k)
+    ≡ way_up (under l.mode) l.domains l.size l.groups l.initial.d l.s l.from l.depths k)
+
+abbrev pub decreases-loop-level : goal.decreases-loop-level
+decreases-loop-level l = l.deepest - l.level

@@ -1,0 +1,9 @@
+-- `messages::leaf_rest` meets its contract.
+use Rattle.tree_message.proofs.Stores.{leaf-rest_put}
+use borrow.Author.Rules.{rules}
+use Rattle.tree_message.proofs.leaf_rest.Goals as goal
+
+pub returns : goal.returns
+returns c =
+    leaf-rest_put _ _ _ _ _ _ _ _ _ _ _ _ _ _ c.requires.0 (λ k. (c.type_inv.values k).fits) c.number-g.ensures
+    c.put_number-a.ensures c.put_number-b.ensures c.put_number-c.ensures c.put_halves.ensures

@@ -1,0 +1,26 @@
+-- `groups::shape_number` meets its contract.
+use native.Mathlib.Omega.{arith}
+use Rattle.theory_laws.proofs.Questions.{asks}
+use Rattle.theory_merkle.specs.Numbers.{shape_number}
+use Rattle.tree_place.proofs.Asked.{power_some}
+use borrow.Author.Rules.{rules}
+use Rattle.tree_place.proofs.shape_number.Goals as goal
+
+pub returns-then-not-is_power : goal.returns-then-not-is_power
+unfolding shape_number
+returns-then-not-is_power c = search asks
+
+pub returns-then-not-is_power-2 : goal.returns-then-not-is_power-2
+unfolding shape_number
+returns-then-not-is_power-2 c = search asks
+
+pub nonzero_rem-count : goal.nonzero_rem-count
+nonzero_rem-count c = omega (arith, power_some 9 _ _ c.is_power-2.ensures c.if-not-is_power-2.false)
+
+pub returns-then-count-width-ne0 : goal.returns-then-count-width-ne0
+unfolding shape_number
+returns-then-count-width-ne0 c = search asks
+
+pub returns : goal.returns
+unfolding shape_number
+returns c = search asks

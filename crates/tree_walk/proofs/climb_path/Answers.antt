@@ -1,0 +1,38 @@
+-- `climb_path` meets its contract. The loop's invariant: the way that is left from here leads to the same root.
+use Prim.Native.Nat.{◌≤◌, ◌-◌}
+use mathlib.Core.Path.{◌≡◌, sym}
+use lib.ListN.{length, drop}
+use Rattle.theory_laws.specs.Lists.{runs}
+use Rattle.theory_blake3.specs.Modes.{under}
+use Rattle.theory_merkle.specs.Tree.{climb}
+use Rattle.tree_place.specs.Place.{number}
+use Rattle.tree_digest.specs.helpers.Begun.{NodesBegun}
+use Rattle.tree_digest.proofs.Front.{nodes_kept, nodes_hashed}
+use Rattle.tree_walk.proofs.Climb.{climb_from, climb_begin, parent_is, climb-step, climb_end}
+use borrow.Author.Rules.{rules}
+use Rattle.tree_walk.proofs.climb_path.Goals as goal
+
+pub loop-l-init : goal.loop-l-init
+loop-l-init c = (search rules, search rules, c.begin_nodes-h.ensures, climb_begin _ _ _ _ _ _ _)
+
+pub slice_bounds-hash_level_node-end : goal.slice_bounds-hash_level_node-end
+slice_bounds-hash_level_node-end c =
+    sym c.loop-l.invariant.1
+
+pub hash_level_node-p-requires : goal.hash_level_node-p-requires
+hash_level_node-p-requires c =
+    c.loop-l.invariant.2.front
+
+pub loop-l-preserved : goal.loop-l-preserved
+loop-l-preserved c =
+    let begun = c.loop-l.invariant.2 in (
+      search rules,
+      search rules,
+      nodes_kept _ _ _ _ _ _ _ begun c.hash_level_node-p.ensures (search rules),
+      climb-step _ _ _ _ _ _ _ _ _ _ _ _ c.loop-l.invariant.3
+          (parent_is _ _ _ _ _ _ (nodes_hashed _ _ _ _ _ _ _ _ _ begun c.hash_level_node-p.ensures) c.children-c.ensures.0
+          c.children-c.ensures.1) c.digest_at-e.ensures c.loop-l-test.true c.parent-g.ensures,
+    )
+
+pub returns : goal.returns
+returns c = climb_end _ _ _ _ _ _ _ _ _ c.loop-l.invariant.3 c.loop-l-test.false

@@ -1,0 +1,21 @@
+-- `climb_path` meets its contract. The loop's invariant: the way that is left from here leads to the same root.
+use Prim.Native.Nat.{◌≤◌, ◌-◌}
+use mathlib.Core.Path.{◌≡◌, sym}
+use lib.ListN.{length, drop}
+use Rattle.theory_laws.specs.Lists.{runs}
+use Rattle.theory_blake3.specs.Modes.{under}
+use Rattle.theory_merkle.specs.Tree.{climb}
+use Rattle.tree_place.specs.Place.{number}
+use Rattle.tree_digest.specs.helpers.Begun.{NodesBegun}
+use Rattle.tree_digest.proofs.Front.{nodes_kept, nodes_hashed}
+use Rattle.tree_walk.proofs.Climb.{climb_from, climb_begin, parent_is, climb-step, climb_end}
+use borrow.Author.Rules.{rules}
+use Rattle.tree_walk.proofs.climb_path.Given as goal
+
+abbrev pub invariant-loop-l : goal.invariant-loop-l
+invariant-loop-l l =
+    (l.l ≤ l.depth) × (length l.message ≡ 391) × (NodesBegun l.mode l.h l.domain l.message)
+    × (climb_from (under l.mode) l.domain l.s l.from l.depth l.l (number l.g) l.d ≡ climb (under l.mode) l.domain 0 (number l.initial.g) l.initial.d (runs 32 l.depth (drop l.from l.s)))
+
+abbrev pub decreases-loop-l : goal.decreases-loop-l
+decreases-loop-l l = l.depth - l.l
