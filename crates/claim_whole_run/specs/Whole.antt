@@ -24,7 +24,7 @@ use Rattle.theory_record.specs.Scheme.{Scheme, scheme}
 use Rattle.record_query_check.specs.Answer.{answer}
 use Rattle.theory_compare.specs.Compare.{Comparison, compared, first_message, second_message, message_buffer}
 use Rattle.theory_compare.specs.Nearest.{NearestRoot}
-use Rattle.theory_compare.specs.Lent.{Slice}
+use Rattle.theory_compare.specs.Lent.{Slice, MutSlice}
 use Rattle.compare_records.specs.Answers.{comparison}
 use Rattle.theory_claim.specs.Commit.{commit_number, committed_in_use}
 use Rattle.theory_claim.specs.Calls.{Codeword, Call, call_number, done_folds, after_folds, left_by}
@@ -80,7 +80,8 @@ given how n k position claim base table calls challenges first second =
       second = second.entry.now;
     }
 
-abbrev pub buffers : Slice → Slice → Slice → Slice → Slice → Slice → Slice → Slice → Slice → Slice → Slice → Both Buffers Buffers
+abbrev pub buffers :
+    MutSlice → MutSlice → MutSlice → MutSlice → MutSlice → MutSlice → MutSlice → MutSlice → MutSlice → MutSlice → MutSlice → Both Buffers Buffers
 buffers gammas levels coordinates half kept trees roots query tail one two =
     record {
       entry = record {

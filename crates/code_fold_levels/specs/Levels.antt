@@ -4,7 +4,7 @@ use Rattle.std.specs.Prelude.{ℕ, suc, ◌+◌, ◌*◌, List, [], ◌∷◌, �
 use Rattle.theory_laws.specs.Questions.{Question, ◌asks◌, first_no}
 use Rattle.theory_field.specs.Words.{words}
 use Rattle.theory_multilinear.specs.Levels.{level}
-use Rattle.theory_record.specs.Lent.{Slice}
+use Rattle.theory_record.specs.Lent.{Slice, MutSlice}
 use Rattle.theory_record.specs.declared.Trees.{Trees}
 use Rattle.theory_record.specs.Widths.{Widths, widths_of, level_length}
 use Rattle.theory_record.specs.Query.{size_questions}
@@ -31,12 +31,12 @@ folded_level n k challenges levels l = level (level_values n k (words levels) 0)
 
 -- ---- of the slices that a function is lent, at its entry
 
-module _ (how : Trees) (n k : ℕ) (base challenges levels half trees roots : Slice) where
+module _ (how : Trees) (n k : ℕ) (base challenges : Slice) (levels half trees roots : MutSlice) where
   -- the number that `fold_levels` answers
   abbrev pub fold_levels_lent : ℕ
   fold_levels_lent =
       fold_levels_number (widths_of how.set) n k (length base.entry.now) (length challenges.entry.now) (length levels.entry.now)
       (length half.entry.now) (length trees.entry.now) (length roots.entry.now)
 
-abbrev pub folded_lent : ℕ → ℕ → Slice → Slice → ℕ → List ℕ
+abbrev pub folded_lent : ℕ → ℕ → Slice → MutSlice → ℕ → List ℕ
 folded_lent n k challenges levels = folded_level n k challenges.entry.now levels.entry.now

@@ -1,7 +1,7 @@
 -- What the exported functions on records answer and leave, of the slices that they are lent: what the entry does under the set of widths that a number
 -- names, and the key where trees are hashed; 4, and every buffer as it was, where it names none.
 use Rattle.std.specs.Prelude.{ℕ, List}
-use Rattle.theory_record.specs.Lent.{Slice, scheme_of}
+use Rattle.theory_record.specs.Lent.{Slice, MutSlice, scheme_of}
 use Rattle.theory_record.specs.Widths.{widths_of}
 use Rattle.theory_record.specs.Query.{Answer, refused, check_query}
 use Rattle.theory_record.specs.Tail.{check_tail}
@@ -14,7 +14,7 @@ use Rattle.export_dequmlo.specs.Sets.{with_set}
 
 -- ---- building a query record: the number, and the record's buffer afterwards
 
-module _ (out levels trees : Slice) (widths n k position : ℕ) where
+module _ (out : MutSlice) (levels trees : Slice) (widths n k position : ℕ) where
   abbrev pub query_number : ℕ
   query_number = with_set widths (λ set. build_query_number (widths_of set) n k levels.entry.now trees.entry.now position out.entry.now) 4
 
@@ -30,7 +30,7 @@ query_answer key base widths n k position challenges roots bytes =
 
 -- ---- building a tail record
 
-module _ (out level tree : Slice) (widths n k : ℕ) where
+module _ (out : MutSlice) (level tree : Slice) (widths n k : ℕ) where
   abbrev pub tail_number : ℕ
   tail_number = with_set widths (λ set. build_tail_number (widths_of set) n k level.entry.now tree.entry.now out.entry.now) 4
 
@@ -45,7 +45,7 @@ tail_answer key base widths n k root claim bytes =
 
 -- ---- comparing two query records: the answer, and the two buffers afterwards
 
-module _ (key : Key) (base : Slice) (widths n k position : ℕ) (challenges roots first second message message' : Slice) where
+module _ (key : Key) (base : Slice) (widths n k position : ℕ) (challenges roots first second : Slice) (message message' : MutSlice) where
   abbrev pub compared_answer : Comparison
   compared_answer =
       with_trees key widths (λ how. compared_lent base how n k position challenges roots first second message message')

@@ -2,11 +2,11 @@
 use Rattle.std.specs.Prelude.{ℕ, List}
 use Rattle.theory_record.specs.declared.Trees.{Trees}
 use Rattle.theory_record.specs.Lent.{scheme_of}
-pub use Rattle.theory_record.specs.Lent.{Slice}
+pub use Rattle.theory_record.specs.Lent.{Slice, MutSlice}
 use Rattle.theory_compare.specs.Compare.{Comparison, compared, first_message, second_message}
 
 -- lent: a base domain; how the trees are made, n and k, a position, challenges and roots, two records, and two buffers
-module _ (base : Slice) (how : Trees) (n k position : ℕ) (challenges roots first second message message' : Slice) where
+module _ (base : Slice) (how : Trees) (n k position : ℕ) (challenges roots first second : Slice) (message message' : MutSlice) where
   -- the number, and the lengths of the two messages
   abbrev pub compared_lent : Comparison
   compared_lent =

@@ -1,13 +1,17 @@
 -- What is lent, as a contract names it, and the scheme that an entry makes of it. Rests on the scheme.
 use Rattle.std.specs.Prelude.{ℕ, List}
-use Rattle.std.specs.Borrow.{Bor}
+use Rattle.std.specs.Borrow.{Bor, MutBor}
 use denote.Triple.Both.{Both}
 use Rattle.theory_record.specs.Scheme.{Scheme, scheme}
 use Rattle.theory_record.specs.declared.Trees.{Trees}
 
--- a slice, as a contract names it: what it holds is `now s.entry` and then `now s.exit`
+-- a slice that a function reads, as a contract names it: what it holds is `s.entry.now` and then `s.exit.now`
 abbrev pub Slice : Type 0
 Slice = Both (Bor (List ℕ)) (Bor (List ℕ))
+
+-- the same of a slice that it may write
+abbrev pub MutSlice : Type 0
+MutSlice = Both (MutBor (List ℕ)) (MutBor (List ℕ))
 
 -- of how trees are made, a lent base domain, n and k
 abbrev pub scheme_of : Trees → Slice → ℕ → ℕ → Scheme

@@ -1,7 +1,7 @@
 -- How far a list of fold calls has come and what a call of it changes, in the buffers of the levels, of the coordinates and of the challenges. Rests on
 -- the calls and on what a list of them leaves.
 use Rattle.std.specs.Prelude.{ℕ, suc, ◌+◌, ◌-◌, ◌*◌, ◌/◌, ◌≤◌, ◌<◌, ◌≡◌, List, ◌++◌, length, take, drop, set}
-use Rattle.std.specs.Borrow.{Bor}
+use Rattle.std.specs.Borrow.{Bor, MutBor}
 use denote.Triple.Both.{Both}
 use Rattle.theory_laws.specs.Questions.{on_done}
 use Rattle.theory_laws.specs.Table.{tab}
@@ -31,10 +31,14 @@ pub record CallsSized (n k levels coordinates half kept calls challenges : ℕ) 
   pub kept_long : kept ≡ 2 * n
   pub calls_lent : CallsLent calls challenges
 
+-- a slice that a function reads, and one that it may write, as a `requires` names them
 abbrev pub Ref : Type 0
 Ref = Bor (List ℕ)
 
-abbrev pub CallsRoom : ℕ → ℕ → Ref → Ref → Ref → Ref → Ref → Ref → Type 0
+abbrev pub MutRef : Type 0
+MutRef = MutBor (List ℕ)
+
+abbrev pub CallsRoom : ℕ → ℕ → MutRef → MutRef → MutRef → MutRef → Ref → Ref → Type 0
 CallsRoom n k levels coordinates half kept calls challenges =
     CallsSized n k (length levels.now) (length coordinates.now) (length half.now) (length kept.now) (length calls.now) (length challenges.now)
 
@@ -85,9 +89,9 @@ pub record Called (n k l from : ℕ) (x : Call) (levels coordinates kept levels'
       ≡ on_done (number_on n k l levels coordinates x) (dropped_of x.var (take (n - l) coordinates) ++ drop (n - l) coordinates) coordinates
   pub challenge : words kept' ≡ on_done (number_on n k l levels coordinates x) (set (words kept) l x.by) (words kept)
 
--- a slice at a function's entry and its exit
+-- a slice that a function may write, at the function's entry and its exit
 abbrev pub Slice : Type 0
-Slice = Both Ref Ref
+Slice = Both MutRef MutRef
 
 -- the same, from where a list of calls stood to where it stands
 abbrev pub Moved : ℕ → ℕ → Progress → Call → Slice → Slice → Slice → Progress → Type 0

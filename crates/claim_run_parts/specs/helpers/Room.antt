@@ -1,6 +1,6 @@
 -- What is lent to the parts of a run, by its length: n, k and the base domain within their ranges, what is read, and room for what is left.
 use Rattle.std.specs.Prelude.{ℕ, suc, ◌+◌, ◌*◌, ◌^◌, ◌<◌, ◌≤◌, ◌≡◌, List, length, take, drop}
-use Rattle.std.specs.Borrow.{Bor}
+use Rattle.std.specs.Borrow.{Bor, MutBor}
 use Rattle.theory_field.specs.Words.{words}
 use Rattle.theory_multilinear.specs.Codeword.{all_coordinates}
 use Rattle.theory_blake3.specs.Digest.{hash}
@@ -15,7 +15,7 @@ use Rattle.theory_record.specs.Scheme.{scheme}
 use Rattle.theory_laws.specs.Lists.{flat}
 use Rattle.theory_claim.specs.Commit.{committed_codeword}
 use Rattle.theory_compare.specs.Compare.{message_buffer}
-use Rattle.theory_compare.specs.Lent.{Slice}
+use Rattle.theory_compare.specs.Lent.{Slice, MutSlice}
 use Rattle.claim_fold_calls.specs.helpers.Laid.{CallsLent}
 use Rattle.claim_run_parts.specs.Parts.{Deposited, last_level, last_tree}
 
@@ -52,21 +52,25 @@ pub record LastRoom (s : Widths) (n k levels trees roots : ℕ) : Type 0 where
   pub trees_least : 32 * tree_length s n k n ≤ trees
   pub roots_least : 32 ≤ roots
 
--- the same of what a contract names
+-- the same of what a contract names: slices that a function reads, and slices that it may write
 abbrev pub Ref : Type 0
 Ref = Bor (List ℕ)
 
-abbrev pub CommitLent : Trees → ℕ → ℕ → Ref → Ref → Ref → Ref → Ref → Ref → Type 0
+abbrev pub MutRef : Type 0
+MutRef = MutBor (List ℕ)
+
+abbrev pub CommitLent : Trees → ℕ → ℕ → Ref → Ref → MutRef → MutRef → MutRef → MutRef → Type 0
 CommitLent how n k base table gammas levels coordinates trees =
     CommitRoom (widths_of how.set) n k (length base.now) (length table.now) (length gammas.now) (length levels.now) (length coordinates.now)
     (length trees.now)
 
-abbrev pub DepositLent : Trees → ℕ → ℕ → Ref → Ref → Ref → Ref → Ref → Ref → Ref → Ref → Ref → Ref → Ref → Type 0
+abbrev pub DepositLent :
+    Trees → ℕ → ℕ → Ref → Ref → Ref → Ref → MutRef → MutRef → MutRef → MutRef → MutRef → MutRef → MutRef → Type 0
 DepositLent how n k base table calls challenges gammas levels coordinates half kept trees roots =
     Room (widths_of how.set) n k (length base.now) (length table.now) (length calls.now) (length challenges.now) (length gammas.now)
     (length levels.now) (length coordinates.now) (length half.now) (length kept.now) (length trees.now) (length roots.now)
 
-abbrev pub RecordLent : Trees → ℕ → ℕ → ℕ → Ref → Ref → Ref → Ref → Type 0
+abbrev pub RecordLent : Trees → ℕ → ℕ → ℕ → MutRef → MutRef → MutRef → MutRef → Type 0
 RecordLent how n k position query tail one two =
     RecordRoom (widths_of how.set) n k position (length query.now) (length tail.now) (length one.now) (length two.now)
 
@@ -78,17 +82,18 @@ pub record Committed (how : Trees) (n k : ℕ) (base table old gammas' levels co
   pub list_is : coordinates ≡ all_coordinates n
   pub tree_is : take (32 * tree_length (widths_of how.set) n k 0) trees ≡ flat (tree_for (scheme how base n k) 0 (committed_codeword base n k (words table)))
 
-abbrev pub CommitLeft : Trees → ℕ → ℕ → Slice → Slice → Slice → Slice → Slice → Slice → Type 0
+abbrev pub CommitLeft : Trees → ℕ → ℕ → Slice → Slice → MutSlice → MutSlice → MutSlice → MutSlice → Type 0
 CommitLeft how n k base table gammas levels coordinates trees =
     Committed how n k base.entry.now table.entry.now levels.entry.now gammas.exit.now levels.exit.now coordinates.exit.now
     trees.exit.now
 
-abbrev pub DepositLeft : Trees → ℕ → ℕ → Slice → Slice → Slice → Slice → Slice → Slice → Slice → Slice → Slice → Slice → ℕ → Type 0
+abbrev pub DepositLeft :
+    Trees → ℕ → ℕ → Slice → Slice → Slice → Slice → MutSlice → MutSlice → MutSlice → MutSlice → MutSlice → MutSlice → ℕ → Type 0
 DepositLeft how n k base table calls challenges gammas levels coordinates kept trees roots done =
     Deposited how n k base.entry.now table.entry.now calls.entry.now challenges.entry.now levels.entry.now kept.entry.now
     gammas.exit.now levels.exit.now coordinates.exit.now kept.exit.now trees.exit.now roots.exit.now done
 
 -- a buffer after the tail record of the last level and its tree was built into it
-abbrev pub tail_lent : Trees → ℕ → ℕ → Slice → Slice → Slice → List ℕ
+abbrev pub tail_lent : Trees → ℕ → ℕ → Slice → Slice → MutSlice → List ℕ
 tail_lent how n k levels trees out =
     build_tail (widths_of how.set) n k (last_level n k levels.entry.now) (last_tree (widths_of how.set) n k trees.entry.now) out.entry.now

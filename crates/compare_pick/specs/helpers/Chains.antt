@@ -3,8 +3,8 @@
 use Rattle.std.specs.Prelude.{ℕ, ◌+◌, ◌*◌, ◌≤◌, ◌<◌, ◌≡◌, List, ◌∷◌, length, drop}
 use Rattle.theory_laws.specs.Lists.{part, runs}
 use Rattle.theory_merkle.specs.Binding.{Found, none}
-use Rattle.theory_compare.specs.Lent.{Slice}
 use Rattle.theory_compare.specs.Compare.{first_of, second_of, first_buffer, second_buffer, message_buffer}
+use Rattle.theory_compare.specs.Lent.{MutSlice}
 
 -- a chain: a message of the length `leaf`, and as many as `depth` of the length `node`
 unfoldable pub chain_of : ℕ → ℕ → ℕ → List ℕ → List (List ℕ)
@@ -30,7 +30,7 @@ pub record Picked (f : Found) (old old' new new' : List ℕ) (r : ℕ) : Type 0 
   pub none_is : r ≡ 0 → f ≡ none
 
 -- in two buffers, as they are at a function's entry and exit
-abbrev pub PickedIn : Found → Slice → Slice → ℕ → Type 0
+abbrev pub PickedIn : Found → MutSlice → MutSlice → ℕ → Type 0
 PickedIn f first second r = Picked f first.entry.now second.entry.now first.exit.now second.exit.now r
 
 -- a message of each of two chains, not empty, is there, of chains so long, and has room in buffers so long
