@@ -6,6 +6,7 @@ ghost use Rattle.std.specs.Prelude.{◌≡◌};
 ghost use Rattle.theory_field.specs.Spread.{spread};
 
 use export_text::{Line, empty, hex_digit, print, with_byte};
+use std::io;
 
 // Entry v: bit i of v goes to bit 2i, one bit after another.
 fn entry(v: u64) -> u64
@@ -26,14 +27,18 @@ fn with_two_digits(line: Line, x: u64) -> Line {
 }
 
 // An entry on a line of its own.
-fn show(e: u64) {
-    print(with_two_digits(with_two_digits(empty(), e / 256), e % 256));
+fn show(rt: &impl Print, e: u64) -> io::Result<()> {
+    print(
+        rt,
+        with_two_digits(with_two_digits(empty(), e / 256), e % 256),
+    )
 }
 
-fn main() {
+fn main(rt: HostRuntime) -> io::Result<()> {
     let mut v: u64 = 0;
     while v < 256 {
-        show(entry(v));
+        show(&rt, entry(v))?;
         v += 1;
     }
+    Ok(())
 }

@@ -13,6 +13,7 @@ ghost use Rattle.export_tail_entries.specs.helpers.Room.{Whole, Buffers};
 use code_codeword::folding::fold_into;
 use code_codeword::sizes::power;
 use field_gf128::Word;
+use std::io;
 
 // The number, n, k and the entries of the last level, 2^k words and zeros after them.
 #[derive(Clone, Copy)]
@@ -195,13 +196,13 @@ pub fn tails(input: &[u8]) -> Answer
     }
 }
 
-// ---- the lines
+// ---- the lines; what prints fails where a write does
 
 // The entry's line: `tail`, eps in decimal, and the word in 32 hexadecimal digits.
-fn print_entry(eps: usize, w: Word) {
+fn print_entry(rt: &impl Print, eps: usize, w: Word) -> io::Result<()> {
     let named = export_text::with_text(export_text::empty(), b"tail ");
     let numbered = export_text::with_byte(export_text::with_decimal(named, eps as u64), b' ');
-    export_text::print(export_text::with_word(numbered, w));
+    export_text::print(rt, export_text::with_word(numbered, w))
 }
 
 // 2^k, at most 16.
@@ -212,39 +213,42 @@ fn entry_count(k: usize) -> usize
 }
 
 // A line for each of the first entries.
-fn print_entries(count: usize, entries: [u64; 32])
+fn print_entries(rt: &impl Print, count: usize, entries: [u64; 32]) -> io::Result<()>
     requires { count ≤ 16 }
 {
     let lent = entries;
     let mut eps = 0;
     while eps < count {
-        print_entry(eps, field_words::get(&lent, eps));
+        print_entry(rt, eps, field_words::get(&lent, eps))?;
         eps += 1;
     }
+    Ok(())
 }
 
 // The line of a refusal.
-fn print_refused(number: u32) {
+fn print_refused(rt: &impl Print, number: u32) -> io::Result<()> {
     let refused = export_text::with_text(export_text::empty(), b"refused ");
-    export_text::print(export_text::with_decimal(refused, number as u64));
+    export_text::print(rt, export_text::with_decimal(refused, number as u64))
 }
 
 // The line of the sizes.
-fn print_sizes(n: usize, k: usize) {
+fn print_sizes(rt: &impl Print, n: usize, k: usize) -> io::Result<()> {
     let first = export_text::with_decimal(
         export_text::with_text(export_text::empty(), b"n "),
         n as u64,
     );
-    export_text::print(export_text::with_decimal(export_text::with_text(first, b" k "), k as u64));
+    export_text::print(
+        rt,
+        export_text::with_decimal(export_text::with_text(first, b" k "), k as u64),
+    )
 }
 
 // The lines: `refused` and the number; or n and k, and then each entry.
-pub fn print(a: Answer) {
+pub fn print(rt: &impl Print, a: Answer) -> io::Result<()> {
     if a.number != 0 {
-        print_refused(a.number);
-        return;
+        return print_refused(rt, a.number);
     }
-    print_sizes(a.n, a.k);
+    print_sizes(rt, a.n, a.k)?;
     let entries = a.entries;
-    print_entries(entry_count(a.k), entries);
+    print_entries(rt, entry_count(a.k), entries)
 }

@@ -2,10 +2,11 @@
 // and prints what `tail` finds in it.
 #![tactic(auto)]
 
-use libc::STDIN_FILENO;
+use export_text::read_full;
+use std::io;
 
-fn main() {
+fn main(rt: HostRuntime) -> io::Result<()> {
     let mut input = [0u8; 4227];
-    let n = io::read_full(STDIN_FILENO, &mut input);
-    export_tail_entries::print(export_tail_entries::tails(&input[..n]));
+    let n = read_full(&mut rt.stdin(), &mut input)?;
+    export_tail_entries::print(&rt, export_tail_entries::tails(&input[..n]))
 }

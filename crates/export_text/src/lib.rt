@@ -1,8 +1,12 @@
-// Lines of text that the programs write. Nothing above rests on what a line says; the functions are proved safe and ending.
+// Lines of text that the programs write, and the input that they read. Nothing above rests on what a line says; the functions are proved safe and
+// ending.
 #![tactic(auto)]
 
+ghost use Rattle.std.specs.Prelude.{◌≤◌, length, IfOk};
+
 use field_gf128::Word;
-use libc::STDOUT_FILENO;
+use std::io;
+use std::io::Read;
 
 // A line in the making: what goes past its room is dropped.
 #[derive(Clone, Copy)]
@@ -111,15 +115,31 @@ fn step_up(unit: u64) -> u64 {
 }
 
 // Writes the first n bytes.
-fn write_first(bytes: [u8; 256], n: usize) {
+fn write_first(rt: &impl Print, bytes: [u8; 256], n: usize) -> io::Result<()> {
     if n <= 256 {
-        io::write_all(STDOUT_FILENO, &bytes[..n]);
+        rt.write_all(&bytes[..n])?;
     }
+    Ok(())
 }
 
-// Writes the line and ends it.
-pub fn print(line: Line) {
+// Writes the line and ends it; fails where a write does.
+pub fn print(rt: &impl Print, line: Line) -> io::Result<()> {
     let ended = with_byte(line, 10);
     let bytes = ended.bytes;
-    write_first(bytes, ended.len);
+    write_first(rt, bytes, ended.len)
+}
+
+// Reads until the buffer is full or the input ends, and answers how many bytes it put at the buffer's start; fails where a read does.
+pub fn read_full(reader: &mut impl Read, buffer: &mut [u8]) -> io::Result<usize>
+    ensures { IfOk result (λ n. n ≤ length buffer.new) }
+{
+    let mut done = 0;
+    while done < buffer.len() {
+        let count = reader.read(&mut buffer[done..])?;
+        if count == 0 {
+            break;
+        }
+        done += count;
+    }
+    Ok(done)
 }

@@ -10,8 +10,11 @@ mod field;
 mod half_folded;
 mod ring;
 
+use std::io;
 use std::num::wrapping_add_usize;
+use std::rt::Files;
 use test_lines::answer::{Answer, no_room, print, print_answer};
+use test_lines::files::read_file;
 use test_lines::lists::lent;
 use test_lines::parts::{first, first_halves, next, part, piece};
 use test_lines::request;
@@ -45,7 +48,13 @@ fn answer(
 }
 
 // Answers a request and prints the answer; the outputs hold what they hold before they are lent.
-fn respond(line: usize, operation: usize, words: &[u64], bytes: &[u8]) {
+fn respond(
+    rt: &impl Print,
+    line: usize,
+    operation: usize,
+    words: &[u64],
+    bytes: &[u8],
+) -> io::Result<()> {
     let mut list = [0usize; 32];
     let mut w = [0xa5a5_a5a5_a5a5_a5a5u64; 8192];
     let mut x = [0xa5a5_a5a5_a5a5_a5a5u64; 4];
@@ -59,11 +68,11 @@ fn respond(line: usize, operation: usize, words: &[u64], bytes: &[u8]) {
         first_halves(&mut x, item(words, OUT_WORDS, 1)),
         first(&mut y, item(words, OUT_BYTES, 0)),
     );
-    print_answer(line, words, a, &list, &w, &x, &y, &[]);
+    print_answer(rt, line, words, a, &list, &w, &x, &y, &[])
 }
 
 // A line: what it keeps is put after what is kept already, and what it asks is answered. Answers how many bytes are kept.
-fn run(s: &[u8], line: usize, bytes: &mut [u8], kept: usize) -> usize {
+fn run(rt: &impl Print, s: &[u8], line: usize, bytes: &mut [u8], kept: usize) -> io::Result<usize> {
     let mut words = [0u64; 16384];
     let table = b"\
 = b
@@ -120,62 +129,61 @@ earlier_reading nnnL
 ";
     let operation = request::read(s, table, kept, bytes, &mut words);
     if operation < 8 {
-        return request::bytes_end(&words);
+        return Ok(request::bytes_end(&words));
     }
-    respond(line, operation, &words, bytes);
-    kept
+    respond(rt, line, operation, &words, bytes)?;
+    Ok(kept)
 }
 
 // Every line of a file.
-fn run_lines(file: &[u8]) {
+fn run_lines(rt: &impl Print, file: &[u8]) -> io::Result<()> {
     let mut bytes = [0u8; 131072];
     let mut kept: usize = 0;
     let mut line: usize = 1;
     let mut from: usize = 0;
     while from < file.len() {
-        kept = run(piece(file, from, 10), line, &mut bytes, kept);
+        kept = run(rt, piece(file, from, 10), line, &mut bytes, kept)?;
         line = wrapping_add_usize(line, 1);
         from = next(file, from, 10);
     }
+    Ok(())
 }
 
-// Prints the name of a file, and answers what lines of it there is room for.
-fn run_file(name: &[u8]) {
-    print(name);
-    print(b"\n");
+// Prints the name of a file, and answers what lines of it there is room for; fails where the file cannot be read or a write fails.
+fn run_file(rt: &(impl Files + Print), name: &str) -> io::Result<()> {
+    print(rt, name.as_bytes())?;
+    print(rt, b"\n")?;
     let mut bytes = [0u8; 262144];
-    let file = os::open_read(name);
-    let len = io::read_full(file, &mut bytes);
-    libc::close(file);
-    run_lines(part(&bytes, 0, len));
+    let len = read_file(rt, name, &mut bytes)?;
+    run_lines(rt, part(&bytes, 0, len))
 }
 
-// The files with these names, one to a line.
-fn run_files(names: &[u8]) {
-    let mut from: usize = 0;
-    while from < names.len() {
-        run_file(piece(names, from, 10));
-        from = next(names, from, 10);
+// The files with these names.
+fn run_files(rt: &(impl Files + Print), names: &[&str]) -> io::Result<()> {
+    for name in names {
+        run_file(rt, name)?;
     }
+    Ok(())
 }
 
-fn main() {
+fn main(rt: HostRuntime) -> io::Result<()> {
     run_files(
-        b"\
-small.txt
-words.txt
-packings.txt
-tables.txt
-ring.txt
-code.txt
-differences.txt
-blocks.txt
-gcm.txt
-half_folded.txt
-rust_field.txt
-rust_runs.txt
-rust_ring.txt
-rust_code.txt
-",
-    );
+        &rt,
+        &[
+            "small.txt",
+            "words.txt",
+            "packings.txt",
+            "tables.txt",
+            "ring.txt",
+            "code.txt",
+            "differences.txt",
+            "blocks.txt",
+            "gcm.txt",
+            "half_folded.txt",
+            "rust_field.txt",
+            "rust_runs.txt",
+            "rust_ring.txt",
+            "rust_code.txt",
+        ],
+    )
 }

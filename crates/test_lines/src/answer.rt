@@ -7,7 +7,7 @@ use crate::lists;
 use crate::parts::{halves, part};
 use crate::request::{OUT_BYTES, OUT_WORDS, has_list, item, list_in};
 use bytes_numbers::wide;
-use libc::STDOUT_FILENO;
+use std::io;
 use std::num::wrapping_add_usize;
 
 #[derive(Clone, Copy)]
@@ -54,120 +54,131 @@ pub fn no_room() -> Answer {
     one(99)
 }
 
-pub fn print(s: &[u8]) {
-    io::write_all(STDOUT_FILENO, s);
+// What prints fails where a write does.
+pub fn print(rt: &impl Print, s: &[u8]) -> io::Result<()> {
+    rt.write_all(s)
 }
 
 // A blank and a number.
-pub fn print_number(x: u64) {
-    print(b" ");
-    io::print_decimal(STDOUT_FILENO, x);
+pub fn print_number(rt: &impl Print, x: u64) -> io::Result<()> {
+    print(rt, b" ")?;
+    rt.print(x)
 }
 
 // The numbers of an answer, as many as it has.
-fn print_numbers(a: Answer) {
-    print_number(a.a);
+fn print_numbers(rt: &impl Print, a: Answer) -> io::Result<()> {
+    print_number(rt, a.a)?;
     if 1 < a.count {
-        print_number(a.b);
+        print_number(rt, a.b)?;
     }
     if 2 < a.count {
-        print_number(a.c);
+        print_number(rt, a.c)?;
     }
     if 3 < a.count {
-        print_number(a.d);
+        print_number(rt, a.d)?;
     }
+    Ok(())
 }
 
 // Bytes, two digits each.
-fn print_hex(s: &[u8]) {
+fn print_hex(rt: &impl Print, s: &[u8]) -> io::Result<()> {
     let mut i: usize = 0;
     while i < s.len() {
-        io::print_hex(STDOUT_FILENO, wide(s[i]), 2);
+        let b = wide(s[i]);
+        print!(rt; "{b:02x}")?;
         i += 1;
     }
+    Ok(())
 }
 
 // The first 16 bytes of the digest of bytes.
-fn print_digest(s: &[u8]) {
+fn print_digest(rt: &impl Print, s: &[u8]) -> io::Result<()> {
     let d = hash_hasher::whole::digest(s);
     let bytes = d.bytes;
-    print(b"#");
-    print_hex(part(&bytes, 0, 16));
+    print(rt, b"#")?;
+    print_hex(rt, part(&bytes, 0, 16))
+}
+
+// Half of a word, 16 digits.
+fn print_half(rt: &impl Print, x: u64) -> io::Result<()> {
+    print!(rt; "{x:016x}")
 }
 
 // The word at a place of a list, the highest digit first, or what is left of one after `h`.
-fn print_word(s: &[u64], i: usize) {
+fn print_word(rt: &impl Print, s: &[u64], i: usize) -> io::Result<()> {
     if 0 < i {
-        print(b",");
+        print(rt, b",")?;
     }
     let high = wrapping_add_usize(i, 1);
     if high < s.len() {
-        io::print_hex(STDOUT_FILENO, half_in(s, high), 16);
+        print_half(rt, half_in(s, high))?;
     } else {
-        print(b"h");
+        print(rt, b"h")?;
     }
-    io::print_hex(STDOUT_FILENO, half_in(s, i), 16);
+    print_half(rt, half_in(s, i))
 }
 
-fn print_words(s: &[u64]) {
+fn print_words(rt: &impl Print, s: &[u64]) -> io::Result<()> {
     let mut i: usize = 0;
     while i < s.len() {
         if i % 2 == 0 {
-            print_word(s, i);
+            print_word(rt, s, i)?;
         }
         i += 1;
     }
+    Ok(())
 }
 
 // The digest of halves, as bytes.
-fn print_words_digest(s: &[u64]) {
+fn print_words_digest(rt: &impl Print, s: &[u64]) -> io::Result<()> {
     let mut bytes = [0u8; 65536];
     let end = put_halves(&mut bytes, 0, s);
-    print_digest(part(&bytes, 0, end));
+    print_digest(rt, part(&bytes, 0, end))
 }
 
 // Output i of those that are words, where a request has so many.
-fn print_output_words(head: &[u64], i: usize, w: &[u64]) {
+fn print_output_words(rt: &impl Print, head: &[u64], i: usize, w: &[u64]) -> io::Result<()> {
     if half_in(head, OUT_WORDS) as usize <= i {
-        return;
+        return Ok(());
     }
-    print(b" ");
+    print(rt, b" ")?;
     let s = halves(w, 0, item(head, OUT_WORDS, i));
     match s.len() {
-        0 => print(b"-"),
-        1..=8 => print_words(s),
-        _ => print_words_digest(s),
+        0 => print(rt, b"-"),
+        1..=8 => print_words(rt, s),
+        _ => print_words_digest(rt, s),
     }
 }
 
 // Output i of those that are bytes.
-fn print_output_bytes(head: &[u64], i: usize, y: &[u8]) {
+fn print_output_bytes(rt: &impl Print, head: &[u64], i: usize, y: &[u8]) -> io::Result<()> {
     if half_in(head, OUT_BYTES) as usize <= i {
-        return;
+        return Ok(());
     }
-    print(b" ");
+    print(rt, b" ")?;
     let s = part(y, 0, item(head, OUT_BYTES, i));
     match s.len() {
-        0 => print(b"-"),
-        1..=64 => print_hex(s),
-        _ => print_digest(s),
+        0 => print(rt, b"-"),
+        1..=64 => print_hex(rt, s),
+        _ => print_digest(rt, s),
     }
 }
 
 // The list that was lent for writing, where a request has one.
-fn print_list(head: &[u64], list: &[usize]) {
+fn print_list(rt: &impl Print, head: &[u64], list: &[usize]) -> io::Result<()> {
     if !has_list(head) {
-        return;
+        return Ok(());
     }
-    print(b" ");
+    print(rt, b" ")?;
     match list_in(head).len() {
-        0 => print(b"-"),
-        count => lists::print(list, count),
+        0 => print(rt, b"-"),
+        count => lists::print(rt, list, count),
     }
 }
 
 // Prints a line's number, the answer's numbers, the list that was lent for writing and the outputs: w and x are words, y and z bytes.
 pub fn print_answer(
+    rt: &impl Print,
     line: usize,
     head: &[u64],
     a: Answer,
@@ -176,13 +187,13 @@ pub fn print_answer(
     x: &[u64],
     y: &[u8],
     z: &[u8],
-) {
-    io::print_decimal(STDOUT_FILENO, line as u64);
-    print_numbers(a);
-    print_list(head, list);
-    print_output_words(head, 0, w);
-    print_output_words(head, 1, x);
-    print_output_bytes(head, 0, y);
-    print_output_bytes(head, 1, z);
-    print(b"\n");
+) -> io::Result<()> {
+    rt.print(line)?;
+    print_numbers(rt, a)?;
+    print_list(rt, head, list)?;
+    print_output_words(rt, head, 0, w)?;
+    print_output_words(rt, head, 1, x)?;
+    print_output_bytes(rt, head, 0, y)?;
+    print_output_bytes(rt, head, 1, z)?;
+    print(rt, b"\n")
 }

@@ -5,6 +5,7 @@
 pub mod answer;
 pub mod bytes;
 mod draw;
+pub mod files;
 pub mod lists;
 pub mod parts;
 mod pieces;

@@ -3,7 +3,7 @@ ghost use Rattle.std.specs.Prelude.{◌≡◌, length};
 
 use crate::bytes::half_in;
 use crate::parts::first_numbers;
-use libc::STDOUT_FILENO;
+use std::io;
 
 // Number i of a list.
 pub fn number(list: &[u64], i: usize) -> usize {
@@ -25,20 +25,21 @@ pub fn lent<'a>(room: &'a mut [usize], list: &[u64]) -> &'a mut [usize] {
     first_numbers(room, list.len())
 }
 
-fn print_item(i: usize, x: usize) {
+fn print_item(rt: &impl Print, i: usize, x: usize) -> io::Result<()> {
     if 0 < i {
-        io::write_all(STDOUT_FILENO, b",");
+        rt.write_all(b",")?;
     }
-    io::print_decimal(STDOUT_FILENO, x as u64);
+    rt.print(x)
 }
 
-// Prints the first numbers of a list, joined by commas.
-pub fn print(list: &[usize], count: usize) {
+// Prints the first numbers of a list, joined by commas; fails where a write does.
+pub fn print(rt: &impl Print, list: &[usize], count: usize) -> io::Result<()> {
     let mut i: usize = 0;
     while i < list.len() {
         if i < count {
-            print_item(i, list[i]);
+            print_item(rt, i, list[i])?;
         }
         i += 1;
     }
+    Ok(())
 }

@@ -13,8 +13,11 @@ mod record;
 mod tree;
 mod whole;
 
+use std::io;
 use std::num::wrapping_add_usize;
+use std::rt::Files;
 use test_lines::answer::{Answer, no_room, one, print, print_answer};
+use test_lines::files::read_file;
 use test_lines::lists::lent;
 use test_lines::parts::{first, first_halves, next, part, piece};
 use test_lines::request;
@@ -92,7 +95,13 @@ fn answer(
 }
 
 // Answers a request and prints the answer; the outputs hold what they hold before they are lent.
-fn respond(line: usize, operation: usize, words: &[u64], bytes: &[u8]) {
+fn respond(
+    rt: &impl Print,
+    line: usize,
+    operation: usize,
+    words: &[u64],
+    bytes: &[u8],
+) -> io::Result<()> {
     let mut list = [0usize; 32];
     let mut w = [0xa5a5_a5a5_a5a5_a5a5u64; 8192];
     let mut x = [0xa5a5_a5a5_a5a5_a5a5u64; 2048];
@@ -108,11 +117,11 @@ fn respond(line: usize, operation: usize, words: &[u64], bytes: &[u8]) {
         first(&mut y, item(words, OUT_BYTES, 0)),
         first(&mut z, item(words, OUT_BYTES, 1)),
     );
-    print_answer(line, words, a, &list, &w, &x, &y, &z);
+    print_answer(rt, line, words, a, &list, &w, &x, &y, &z)
 }
 
 // A line: what it keeps is put after what is kept already, and what it asks is answered. Answers how many bytes are kept.
-fn run(s: &[u8], line: usize, bytes: &mut [u8], kept: usize) -> usize {
+fn run(rt: &impl Print, s: &[u8], line: usize, bytes: &mut [u8], kept: usize) -> io::Result<usize> {
     let mut words = [0u64; 16384];
     let table = b"\
 = b
@@ -186,89 +195,88 @@ derived_pieces bbnnd
 ";
     let operation = request::read(s, table, kept, bytes, &mut words);
     match operation / 8 {
-        0 => key::keep(operation, &words, bytes, kept),
+        0 => Ok(key::keep(operation, &words, bytes, kept)),
         1 => {
-            many::print(line, operation % 8, &words, bytes);
-            kept
+            many::print(rt, line, operation % 8, &words, bytes)?;
+            Ok(kept)
         }
         _ => {
-            respond(line, operation, &words, bytes);
-            kept
+            respond(rt, line, operation, &words, bytes)?;
+            Ok(kept)
         }
     }
 }
 
 // Every line of a file; at first there is no key.
-fn run_lines(file: &[u8]) {
+fn run_lines(rt: &impl Print, file: &[u8]) -> io::Result<()> {
     let mut bytes = [0u8; 131105];
     let mut kept: usize = 0;
     let mut line: usize = 1;
     let mut from: usize = 0;
     while from < file.len() {
-        kept = run(piece(file, from, 10), line, &mut bytes, kept);
+        kept = run(rt, piece(file, from, 10), line, &mut bytes, kept)?;
         line = wrapping_add_usize(line, 1);
         from = next(file, from, 10);
     }
+    Ok(())
 }
 
-// Prints the name of a file, and answers what lines of it there is room for.
-fn run_file(name: &[u8]) {
-    print(name);
-    print(b"\n");
+// Prints the name of a file, and answers what lines of it there is room for; fails where the file cannot be read or a write fails.
+fn run_file(rt: &(impl Files + Print), name: &str) -> io::Result<()> {
+    print(rt, name.as_bytes())?;
+    print(rt, b"\n")?;
     let mut bytes = [0u8; 262144];
-    let file = os::open_read(name);
-    let len = io::read_full(file, &mut bytes);
-    libc::close(file);
-    run_lines(part(&bytes, 0, len));
+    let len = read_file(rt, name, &mut bytes)?;
+    run_lines(rt, part(&bytes, 0, len))
 }
 
-// The files with these names, one to a line.
-fn run_files(names: &[u8]) {
-    let mut from: usize = 0;
-    while from < names.len() {
-        run_file(piece(names, from, 10));
-        from = next(names, from, 10);
+// The files with these names.
+fn run_files(rt: &(impl Files + Print), names: &[&str]) -> io::Result<()> {
+    for name in names {
+        run_file(rt, name)?;
     }
+    Ok(())
 }
 
-fn main() {
+fn main(rt: HostRuntime) -> io::Result<()> {
     run_files(
-        b"\
-tree/vectors.txt
-tree/parts.txt
-tree/trees.txt
-tree/openings.txt
-tree/refusals.txt
-tree/states.txt
-tree/differences.txt
-tree/keyed_vectors.txt
-tree/derived_vectors.txt
-tree/keyed.txt
-tree/keyed_openings.txt
-tree/rust_hash.txt
-tree/rust_trees.txt
-record/levels.txt
-record/all_levels.txt
-record/accepted.txt
-record/query.txt
-record/tail.txt
-record/build.txt
-record/compare.txt
-record/walks.txt
-record/tail_list.txt
-record/run.txt
-record/differences.txt
-record/wide_levels.txt
-record/wide.txt
-record/wide_large.txt
-record/wide_most.txt
-record/keyed_levels.txt
-record/keyed.txt
-record/keyed_large.txt
-record/keyed_build.txt
-record/keyed_run.txt
-record/rust_levels.txt
-record/rust_records.txt
-",
-    );
+        &rt,
+        &[
+            "tree/vectors.txt",
+            "tree/parts.txt",
+            "tree/trees.txt",
+            "tree/openings.txt",
+            "tree/refusals.txt",
+            "tree/states.txt",
+            "tree/differences.txt",
+            "tree/keyed_vectors.txt",
+            "tree/derived_vectors.txt",
+            "tree/keyed.txt",
+            "tree/keyed_openings.txt",
+            "tree/rust_hash.txt",
+            "tree/rust_trees.txt",
+            "record/levels.txt",
+            "record/all_levels.txt",
+            "record/accepted.txt",
+            "record/query.txt",
+            "record/tail.txt",
+            "record/build.txt",
+            "record/compare.txt",
+            "record/walks.txt",
+            "record/tail_list.txt",
+            "record/run.txt",
+            "record/differences.txt",
+            "record/wide_levels.txt",
+            "record/wide.txt",
+            "record/wide_large.txt",
+            "record/wide_most.txt",
+            "record/keyed_levels.txt",
+            "record/keyed.txt",
+            "record/keyed_large.txt",
+            "record/keyed_build.txt",
+            "record/keyed_run.txt",
+            "record/rust_levels.txt",
+            "record/rust_records.txt",
+        ],
+    )
 }

@@ -2,7 +2,7 @@
 ghost use Rattle.std.specs.Prelude.{◌≡◌, length};
 
 use crate::key::trees_of;
-use libc::STDOUT_FILENO;
+use std::io;
 use std::num::{wrapping_add_u64, wrapping_add_usize, wrapping_sub_u64};
 use test_lines::answer::print_number;
 use test_lines::bytes::{byte_at, half_in, put, put_half};
@@ -87,16 +87,17 @@ fn all(place: usize, words: &[u64], bytes: &mut [u8], tally: &mut [u64]) {
 }
 
 // Each number but 0 that was the answer, with how often it was.
-fn print_times(tally: &[u64]) {
+fn print_times(rt: &impl Print, tally: &[u64]) -> io::Result<()> {
     let mut i: usize = 1;
     while i < 34 {
         let times = half_in(tally, i);
         if times != 0 {
-            print_number(i as u64);
-            print_number(times);
+            print_number(rt, i as u64)?;
+            print_number(rt, times)?;
         }
         i += 1;
     }
+    Ok(())
 }
 
 fn sum(tally: &[u64]) -> u64 {
@@ -110,17 +111,23 @@ fn sum(tally: &[u64]) -> u64 {
 }
 
 // Prints a line's number, how many records are refused, of how many, and each number with how often it was the answer.
-fn print_tally(line: usize, tally: &[u64]) {
+fn print_tally(rt: &impl Print, line: usize, tally: &[u64]) -> io::Result<()> {
     let total = sum(tally);
-    io::print_decimal(STDOUT_FILENO, line as u64);
-    print_number(wrapping_sub_u64(total, half_in(tally, 0)));
-    print_number(total);
-    print_times(tally);
-    test_lines::answer::print(b"\n");
+    rt.print(line)?;
+    print_number(rt, wrapping_sub_u64(total, half_in(tally, 0)))?;
+    print_number(rt, total)?;
+    print_times(rt, tally)?;
+    test_lines::answer::print(rt, b"\n")
 }
 
-pub fn print(line: usize, place: usize, words: &[u64], bytes: &mut [u8]) {
+pub fn print(
+    rt: &impl Print,
+    line: usize,
+    place: usize,
+    words: &[u64],
+    bytes: &mut [u8],
+) -> io::Result<()> {
     let mut tally = [0u64; 34];
     all(place, words, bytes, &mut tally);
-    print_tally(line, &tally);
+    print_tally(rt, line, &tally)
 }

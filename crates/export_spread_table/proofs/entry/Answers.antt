@@ -1,8 +1,7 @@
 -- `export_spread_table::entry` meets its contract. The loop's invariant: e is the i low bits of v spread apart.
 use mathlib.Core.Path.{◌≡◌, refl, sym, ap₂, ◌∙◌}
-use Prim.Native.Nat.{ℕ, ◌+◌, ◌-◌, ◌*◌, ◌%◌, ◌^◌, ◌≤◌, ◌<◌}
+use Prim.Native.Nat.{ℕ, ◌+◌, ◌*◌, ◌%◌, ◌^◌, ◌<◌}
 use native.Mathlib.Omega.{arith}
-use borrow.Author.Rules.{rules}
 use lib.Pow.{shl_exact}
 use Rattle.theory_laws.specs.Xor.{◌⊕◌, bit}
 use Rattle.theory_field.specs.Spread.{spread}

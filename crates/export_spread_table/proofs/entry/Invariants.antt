@@ -1,12 +1,7 @@
 -- `export_spread_table::entry` meets its contract. The loop's invariant: e is the i low bits of v spread apart.
-use mathlib.Core.Path.{◌≡◌, refl, sym, ap₂, ◌∙◌}
-use Prim.Native.Nat.{ℕ, ◌+◌, ◌-◌, ◌*◌, ◌%◌, ◌^◌, ◌≤◌, ◌<◌}
-use native.Mathlib.Omega.{arith}
-use borrow.Author.Rules.{rules}
-use lib.Pow.{shl_exact}
-use Rattle.theory_laws.specs.Xor.{◌⊕◌, bit}
+use mathlib.Core.Path.{◌≡◌}
+use Prim.Native.Nat.{◌-◌, ◌≤◌}
 use Rattle.theory_field.specs.Spread.{spread}
-use Rattle.theory_field.proofs.Spread.{spread-more}
 use Rattle.export_spread_table.proofs.entry.Given as goal
 
 abbrev pub invariant-loop-i : goal.invariant-loop-i

@@ -1,6 +1,5 @@
 -- The loop ends.
 use Prim.Native.Nat.{◌-◌, ◌≤◌}
-use borrow.Author.Rules.{rules}
 use Rattle.export_spread_table.proofs.main.Given as goal
 
 abbrev pub invariant-loop-v : goal.invariant-loop-v

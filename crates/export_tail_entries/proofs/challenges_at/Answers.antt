@@ -2,7 +2,6 @@
 use Prim.Native.Nat.{◌*◌, ◌^◌, ◌≤◌}
 use native.Mathlib.Omega.{arith}
 use Rattle.export_tail_entries.proofs.Input.{power_small, product_small}
-use borrow.Author.Rules.{rules}
 use Rattle.export_tail_entries.proofs.challenges_at.Goals as goal
 use Rattle.export_tail_entries.proofs.challenges_at.Goals.{After-power}
 

@@ -6,7 +6,6 @@ use native.Mathlib.Omega.{arith}
 use Rattle.theory_laws.specs.Table.{tab, at}
 use Rattle.export_tail_entries.proofs.Padded.{length_blank, length_front, padded}
 use Rattle.export_tail_entries.proofs.Input.{power_small, product_small}
-use borrow.Author.Rules.{rules}
 use Rattle.export_tail_entries.proofs.codeword.Goals as goal
 
 pub overflow_mul-o : goal.overflow_mul-o

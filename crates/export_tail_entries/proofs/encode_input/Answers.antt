@@ -1,7 +1,6 @@
 -- `export_tail_entries::encode_input` meets its contract.
 use mathlib.Core.Path.{◌∙◌}
 use Rattle.export_tail_entries.proofs.Input.{encoded}
-use borrow.Author.Rules.{rules}
 use Rattle.export_tail_entries.proofs.encode_input.Goals as goal
 
 pub returns : goal.returns

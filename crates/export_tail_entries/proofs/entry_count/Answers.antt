@@ -2,7 +2,6 @@
 use native.Mathlib.Omega.{arith}
 use lib.Dec.{lit<}
 use lib.Pow.{shl_exact, pow_mono}
-use borrow.Author.Rules.{rules}
 use Rattle.export_tail_entries.proofs.entry_count.Goals as goal
 
 pub returns-then-k-lt4 : goal.returns-then-k-lt4

@@ -1,9 +1,7 @@
 -- `export_tail_entries::first` meets its contract: the first i halves are copied.
-use mathlib.Core.Path.{◌≡◌, refl, sym, ◌∙◌}
-use Prim.Native.Nat.{ℕ, ◌-◌, ◌≤◌, ◌<◌}
+use mathlib.Core.Path.{refl, sym, ◌∙◌}
 use native.Mathlib.Omega.{arith}
-use borrow.Author.Rules.{rules}
-use lib.ListN.{length, length-set}
+use lib.ListN.{length-set}
 use Rattle.theory_laws.specs.Table.{at}
 use Rattle.theory_laws.proofs.Table.{is-tab, take-tab}
 use Rattle.theory_laws.proofs.Updates.{fill_step}

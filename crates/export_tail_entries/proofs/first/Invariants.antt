@@ -1,12 +1,8 @@
 -- `export_tail_entries::first` meets its contract: the first i halves are copied.
-use mathlib.Core.Path.{◌≡◌, refl, sym, ◌∙◌}
+use mathlib.Core.Path.{◌≡◌}
 use Prim.Native.Nat.{ℕ, ◌-◌, ◌≤◌, ◌<◌}
-use native.Mathlib.Omega.{arith}
-use borrow.Author.Rules.{rules}
-use lib.ListN.{length, length-set}
+use lib.ListN.{length}
 use Rattle.theory_laws.specs.Table.{at}
-use Rattle.theory_laws.proofs.Table.{is-tab, take-tab}
-use Rattle.theory_laws.proofs.Updates.{fill_step}
 use Rattle.export_tail_entries.proofs.first.Given as goal
 
 abbrev pub invariant-loop-i : goal.invariant-loop-i

@@ -7,7 +7,6 @@ use Rattle.field_gf128.specs.Word.{word}
 use Rattle.code_codeword.proofs.Lengths.{has_bit}
 use Rattle.export_tail_entries.proofs.Padded.{length_blank, length_front}
 use Rattle.export_tail_entries.proofs.Input.{power_small, fold-padded}
-use borrow.Author.Rules.{rules}
 use Rattle.export_tail_entries.proofs.folded.Goals as goal
 
 pub overflow_mul-whole : goal.overflow_mul-whole

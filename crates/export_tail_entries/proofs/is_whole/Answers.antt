@@ -4,7 +4,6 @@ use Prim.Native.Nat.{ℕ, ◌+◌, ◌*◌}
 use native.Mathlib.Omega.{arith}
 use lib.Dec.{eqb}
 use Rattle.export_tail_entries.proofs.Input.{input_small}
-use borrow.Author.Rules.{rules}
 use Rattle.export_tail_entries.proofs.is_whole.Goals as goal
 
 pub overflow_add-result : goal.overflow_add-result

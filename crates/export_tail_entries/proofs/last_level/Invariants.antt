@@ -1,17 +1,9 @@
 -- `export_tail_entries::last_level` meets its contract: after l folds the level is level l.
-use mathlib.Core.Path.{◌≡◌, ap, ◌∙◌}
-use Prim.Native.Nat.{ℕ, ◌+◌, ◌-◌, ◌*◌, ◌≤◌}
-use native.Mathlib.Omega.{arith}
-use borrow.Author.Rules.{rules}
-use lib.Dec.{lit≤}
-use lib.ListN.{take}
+use mathlib.Core.Path.{◌≡◌}
+use Prim.Native.Nat.{◌+◌, ◌-◌, ◌*◌, ◌≤◌}
 use Rattle.theory_laws.specs.Table.{tab, at}
 use Rattle.theory_field.specs.Words.{words}
-use Rattle.theory_multilinear.specs.Levels.{level}
 use Rattle.export_tail_entries.specs.Tail.{challenges_at, input_level}
-use Rattle.export_tail_entries.proofs.Padded.{take-padded}
-use Rattle.export_tail_entries.proofs.Input.{input_small, next_level}
-use Rattle.theory_field.proofs.Words.{take_words}
 use Rattle.export_tail_entries.proofs.last_level.Given as goal
 
 abbrev pub invariant-loop-l : goal.invariant-loop-l

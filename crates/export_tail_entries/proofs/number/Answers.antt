@@ -5,7 +5,6 @@ use native.Mathlib.Omega.{arith}
 use lib.ListN.{length}
 use Rattle.theory_laws.proofs.Questions.{asks, yes_le}
 use Rattle.export_tail_entries.specs.Tail.{size_number, tail_number}
-use borrow.Author.Rules.{rules}
 use Rattle.export_tail_entries.proofs.number.Goals as goal
 
 pub returns-then-input-lt2 : goal.returns-then-input-lt2

@@ -1,7 +1,6 @@
 -- `export_tail_entries::size_number` meets its contract.
 use Rattle.theory_laws.proofs.Questions.{asks}
 use Rattle.export_tail_entries.specs.Tail.{size_number}
-use borrow.Author.Rules.{rules}
 use Rattle.export_tail_entries.proofs.size_number.Goals as goal
 
 pub returns-then-n-gt20 : goal.returns-then-n-gt20

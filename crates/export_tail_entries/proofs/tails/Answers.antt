@@ -4,7 +4,6 @@ use Rattle.theory_laws.specs.Table.{tab}
 use Rattle.theory_field.specs.Words.{words}
 use Rattle.export_tail_entries.specs.Tail.{answer}
 use Rattle.export_tail_entries.proofs.Input.{whole, refused, found}
-use borrow.Author.Rules.{rules}
 use Rattle.export_tail_entries.proofs.tails.Goals as goal
 
 pub returns-then-refusal-ne0 : goal.returns-then-refusal-ne0

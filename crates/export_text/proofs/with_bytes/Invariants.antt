@@ -1,6 +1,5 @@
 -- `text::with_bytes` is safe and ends.
 use Prim.Native.Nat.{◌-◌, ◌≤◌}
-use borrow.Author.Rules.{rules}
 use lib.ListN.{length}
 use Rattle.export_text.proofs.with_bytes.Given as goal
 

@@ -1,6 +1,5 @@
 -- `text::with_decimal` is safe and ends.
-use Prim.Native.Nat.{◌-◌, ◌≤◌}
-use borrow.Author.Rules.{rules}
+use Prim.Native.Nat.{◌≤◌}
 use Rattle.export_text.proofs.with_decimal.Given as goal
 
 abbrev pub invariant-loop-left : goal.invariant-loop-left

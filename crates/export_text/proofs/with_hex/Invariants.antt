@@ -1,6 +1,5 @@
 -- `text::with_hex` is safe and ends.
 use Prim.Native.Nat.{◌-◌, ◌≤◌}
-use borrow.Author.Rules.{rules}
 use Rattle.export_text.proofs.with_hex.Given as goal
 
 abbrev pub invariant-loop-i : goal.invariant-loop-i

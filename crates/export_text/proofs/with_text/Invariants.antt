@@ -1,6 +1,5 @@
 -- `text::with_text` is safe and ends.
 use Prim.Native.Nat.{◌-◌, ◌≤◌}
-use borrow.Author.Rules.{rules}
 use lib.ListN.{length}
 use Rattle.export_text.proofs.with_text.Given as goal
 

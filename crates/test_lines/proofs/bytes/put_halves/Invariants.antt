@@ -1,5 +1,5 @@
 -- `test_lines::bytes::put_halves` is safe and ends.
-use Rattle.std.proofs.Common.{◌≡◌, ◌-◌, length, rules}
+use Rattle.std.proofs.Common.{◌≡◌, ◌-◌, length}
 use Rattle.test_lines.proofs.bytes.put_halves.Given as goal
 
 abbrev pub invariant-loop-i : goal.invariant-loop-i

@@ -1,5 +1,5 @@
 -- `test_lines::draw::product` is safe: a product of two numbers of 32 bits has 64.
-use Rattle.std.proofs.Common.{mul-le-mul, arith, rules}
+use Rattle.std.proofs.Common.{mul-le-mul, arith}
 use Rattle.test_lines.proofs.draw.product.Goals as goal
 
 pub overflow_mul-result : goal.overflow_mul-result

@@ -1,5 +1,5 @@
 -- `test_lines::pieces::numbers` is safe and ends.
-use Rattle.std.proofs.Common.{◌-◌, ◌≤◌, length, rules}
+use Rattle.std.proofs.Common.{◌-◌, ◌≤◌, length}
 use Rattle.test_lines.proofs.pieces.numbers.Given as goal
 
 abbrev pub invariant-loop-at : goal.invariant-loop-at

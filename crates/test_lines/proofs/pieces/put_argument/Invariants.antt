@@ -1,5 +1,5 @@
 -- `test_lines::pieces::put_argument` is safe and ends.
-use Rattle.std.proofs.Common.{◌≡◌, ◌-◌, length, rules}
+use Rattle.std.proofs.Common.{◌≡◌, ◌-◌, length}
 use Rattle.test_lines.proofs.pieces.put_argument.Given as goal
 
 abbrev pub invariant-loop-from : goal.invariant-loop-from

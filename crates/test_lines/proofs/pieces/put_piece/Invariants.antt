@@ -1,5 +1,5 @@
 -- `test_lines::pieces::put_piece` is safe and ends.
-use Rattle.std.proofs.Common.{◌≡◌, ◌-◌, length, rules}
+use Rattle.std.proofs.Common.{◌≡◌, ◌-◌, length}
 use Rattle.test_lines.proofs.pieces.put_piece.Given as goal
 
 abbrev pub invariant-loop-i : goal.invariant-loop-i

@@ -1,5 +1,5 @@
 -- `test_lines::request::find_name` is safe and ends.
-use Rattle.std.proofs.Common.{◌-◌, ◌≤◌, length, rules}
+use Rattle.std.proofs.Common.{◌-◌, ◌≤◌, length}
 use Rattle.test_lines.proofs.request.find_name.Given as goal
 
 abbrev pub invariant-loop-at : goal.invariant-loop-at

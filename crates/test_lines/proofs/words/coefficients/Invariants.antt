@@ -1,5 +1,5 @@
 -- `test_lines::words::coefficients` is safe and ends.
-use Rattle.std.proofs.Common.{◌-◌, ◌≤◌, rules}
+use Rattle.std.proofs.Common.{◌-◌, ◌≤◌}
 use Rattle.test_lines.proofs.words.coefficients.Given as goal
 
 abbrev pub invariant-loop-b : goal.invariant-loop-b

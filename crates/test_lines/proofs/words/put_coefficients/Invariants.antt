@@ -1,5 +1,5 @@
 -- `test_lines::words::put_coefficients` is safe and ends.
-use Rattle.std.proofs.Common.{◌≡◌, ◌-◌, length, rules}
+use Rattle.std.proofs.Common.{◌≡◌, ◌-◌, length}
 use Rattle.test_lines.proofs.words.put_coefficients.Given as goal
 
 abbrev pub invariant-loop-b : goal.invariant-loop-b
