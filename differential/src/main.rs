@@ -77,7 +77,7 @@ fn compare_all(plan: &Plan) -> ExitCode {
     let comparisons = comparisons();
     if comparisons.is_empty() {
         eprintln!("differential: no target/staticlib/libtest_archive.a: make it by");
-        eprintln!("differential: `rt staticlib test_archive`");
+        eprintln!("differential: `library/archive test_archive`");
         return ExitCode::from(2);
     }
     let rows = harness::run(&comparisons, plan);

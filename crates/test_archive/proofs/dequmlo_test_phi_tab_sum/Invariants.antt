@@ -1,7 +1,6 @@
 -- The loop ends, and reads within the run.
 use Prim.Native.Nat.{◌-◌, ◌/◌, ◌≤◌}
 use lib.ListN.{length}
-use borrow.Author.Rules.{rules}
 use Rattle.test_archive.proofs.dequmlo_test_phi_tab_sum.Given as goal
 
 abbrev pub invariant-loop-v : goal.invariant-loop-v

@@ -1,6 +1,5 @@
 -- The loop ends.
 use Prim.Native.Nat.{◌-◌, ◌≤◌}
-use borrow.Author.Rules.{rules}
 use Rattle.test_archive.proofs.mul_squares.Given as goal
 
 abbrev pub invariant-loop-i : goal.invariant-loop-i
