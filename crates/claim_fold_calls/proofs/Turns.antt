@@ -7,8 +7,8 @@ use mathlib.Core.List.{List, [], ◌∷◌, ◌++◌, append_assoc, append-nil}
 use native.Mathlib.Nat.{eq-or-lt_of_le}
 use native.Mathlib.Numerals.{add-one}
 use native.Mathlib.Omega.{arith}
-use borrow.Author.Tests.{eq-eqb, ne_eqb, eqb-true, eqb-false, ltb-false}
-use lib.Dec.{eqb, ltb}
+use borrow.Author.Tests.{eq-eqb, ne_eqb, eqb-true, eqb-false}
+use lib.Dec.{eqb}
 use lib.ListN.{length, take, drop, set, length-map, length-append, length-drop, take-append-drop, drop_of_length-le}
 use lib.Seq.{length-take-le, take_at, drop_at, take_all, drop-set-lt, take-suc-set}
 use Rattle.theory_laws.specs.Questions.{on_done}
@@ -384,11 +384,11 @@ reached_begin n k cs rs levels coordinates kept el ec ek =
 
 -- no call is left, or n are done
 pub ended : {n k : ℕ} {c : Codeword} {old oldKept : List ℕ} {calls : List Call} (cs rs : List ℕ) (m i : ℕ) {l from : ℕ} {levels coordinates kept : List ℕ}
-    → Reached n k c old oldKept calls (calls_from cs rs i (m - i)) l from levels coordinates kept → (m ≤ i) ⊎ (ltb l n ≡ false)
+    → Reached n k c old oldKept calls (calls_from cs rs i (m - i)) l from levels coordinates kept → (m ≤ i) ⊎ (n ≤ l)
     → Left n k c old oldKept calls l levels coordinates kept
 ended {n} {k} {c} {old} {oldKept} {calls} cs rs m i {l} {from} {levels} {coordinates} {kept} s end =
     all_left n k c old oldKept calls (calls_from cs rs i (m - i)) l from levels coordinates kept s
-    (⊎_elim (λ (h : m ≤ i). inl (no_call cs rs m i h)) (λ (h : ltb l n ≡ false). inr (omega (arith, ltb-false l n h, s.within))) end)
+    (⊎_elim (λ (h : m ≤ i). inl (no_call cs rs m i h)) (λ (h : n ≤ l). inr (omega (arith, h, s.within))) end)
 
 pub same_by : (x : Call) {by : ℕ} → x.by ≡ by
     → x ≡ record { n = x.n; k = x.k; original = x.original; var = x.var; by = by; room = x.room }

@@ -3,7 +3,7 @@
 use Prim.Native.Nat.{ℕ, zero, suc, ◌+◌, ◌*◌, ◌/◌, ◌%◌, ◌^◌, ◌≤◌, ◌<◌}
 use mathlib.Core.Path.{◌≡◌, refl, sym, ap, ap₂, ◌∙◌}
 use mathlib.Core.Logic.{⊎_elim}
-use mathlib.Core.List.{List, [], ◌∷◌}
+use mathlib.Core.List.{List, ◌∷◌}
 use native.Mathlib.Nat.{zero-mul, suc-mul, mul_comm, mul_assoc, mul_left_comm, add-mul, mul-le-mul_right, div-add-mod'}
 use native.Mathlib.Omega.{arith}
 use lib.Pow.{pow-add, pow_pos}

@@ -7,12 +7,12 @@ use mir.Val.{Val}
 use denote.Laws.{Is}
 use denote.Struct.Declared.{row}
 use denote.Struct.Laws.{owed}
-use Prim.Native.Nat.{ℕ, suc, ◌+◌, ◌*◌, ◌-◌, ◌<◌, ◌≤◌, min}
+use Prim.Native.Nat.{ℕ, suc, ◌+◌, ◌*◌, ◌<◌, ◌≤◌, min}
 use native.Mathlib.Nat.{add-zero, eq-or-lt_of_le}
 use native.Mathlib.Omega.{arith}
 use native.Mathlib.Numerals.{add-one}
 use lib.Dec.{eqb}
-use lib.ListN.{length, drop, set, length-map, length-drop}
+use lib.ListN.{length, drop, set, length-drop}
 use lib.Seq.{length-take-le}
 use borrow.Author.Tests.{eq-eqb, ne_eqb}
 use lib.Bits.{bit_or}
@@ -27,9 +27,9 @@ use Rattle.hash_chunk.proofs.state.ChunkState.TheLaws as ChunkStateL
 use Rattle.hash_chunk.specs.State.{compressed, roomy, with_block, fed_byte, fed, last_of}
 use Rattle.hash_chunk.specs.helpers.Room.{Fits}
 
--- the length of the block of a state that a function is passed (`c.good.0`)
+-- the length of the block of a state that a function is passed (`c.well_formed.0`)
 pub block-length : (s : ChunkState) (vs : List Val) → Is (row ChunkStateT.the_type) s vs → length s.block ≡ 64
-block-length s vs p = sym (length-map s.block (λ v. v)) ∙ (owed ChunkStateT.the_type ChunkStateL.the_laws s vs p).1.1.0.1.0.1
+block-length s vs p = (owed ChunkStateT.the_type ChunkStateL.the_laws s vs p).1.1.0.1.0.1
 
 -- the two cases of making room
 pub roomy_full : (s : ChunkState) → s.fill ≡ 64 → roomy s ≡ compressed s

@@ -2,10 +2,9 @@
 use Prim.Native.Nat.{ℕ, zero, suc, ◌*◌, ◌≤◌, ◌<◌}
 use mathlib.Core.Path.{◌≡◌, refl, sym, ◌∙◌, ap}
 use mathlib.Core.Logic.{⊎_elim}
-use mathlib.Core.Bool.{Bool, true, false, not}
+use mathlib.Core.Bool.{Bool, true, false}
 use mathlib.Core.List.{List}
 use native.Mathlib.Omega.{arith}
-use borrow.Author.Tests.{not-true, not-false}
 use lib.ListN.{length, get_or, set, replicate, length-set}
 use lib.Seq.{get_or-set_same, get_or-set_other}
 use Rattle.theory_laws.specs.Questions.{both}
@@ -53,11 +52,11 @@ none_put ways i v room e z = record { none = λ j. put_opening (λ (o : Opened).
 
 -- ---- one more
 
-pub not_sized : (way : Opened) (sized t : Bool) → not sized ≡ true → opened_by way false ≡ opened_by way (both sized t)
-not_sized way sized t e = ap (λ (b : Bool). opened_by way (both b t)) (sym (not-true sized e))
+pub not_sized : (way : Opened) (sized t : Bool) → sized ≡ false → opened_by way false ≡ opened_by way (both sized t)
+not_sized way sized t e = ap (λ (b : Bool). opened_by way (both b t)) (sym e)
 
-pub now_sized : (way : Opened) (sized t : Bool) {u : Bool} → not sized ≡ false → u ≡ t → opened_by way u ≡ opened_by way (both sized t)
-now_sized way sized t e f = ap (opened_by way) f ∙ ap (λ (b : Bool). opened_by way (both b t)) (sym (not-false sized e))
+pub now_sized : (way : Opened) (sized t : Bool) {u : Bool} → sized ≡ true → u ≡ t → opened_by way u ≡ opened_by way (both sized t)
+now_sized way sized t e f = ap (opened_by way) f ∙ ap (λ (b : Bool). opened_by way (both b t)) (sym e)
 
 pub none-known : (S : Scheme) (w : Sought) (root : ℕ → List ℕ) (s : List ℕ) (ways : List Opened) → length ways ≡ 21 → NoneKnown ways
     → AllKnown S w root s ways
@@ -94,8 +93,8 @@ lane_low S position roots s e last ways k f =
     omega (arith, b.most, f.last_most, f.lent.in_range.n_most)
 
 -- four questions, one after the other
-pub not_first : (x y t : Bool) → t ≡ x → not t ≡ true → false ≡ both x y
-not_first x y t e h = rw (sym e ∙ not-true t h)
+pub not_first : (x y t : Bool) → t ≡ x → t ≡ false → false ≡ both x y
+not_first x y t e h = rw (sym e ∙ h)
 
-pub first_and : (x y r t : Bool) → t ≡ x → not t ≡ false → r ≡ y → r ≡ both x y
-first_and x y r t e h f = rw (sym e ∙ not-false t h) f
+pub first_and : (x y r t : Bool) → t ≡ x → t ≡ true → r ≡ y → r ≡ both x y
+first_and x y r t e h f = rw (sym e ∙ h) f

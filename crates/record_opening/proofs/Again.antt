@@ -29,11 +29,11 @@ no_claim e = absurd (never e)
 -- ---- items of 32 bytes
 
 module _ (s : List ℕ) (i j t : ℕ) (h : part (32 * t) i s ≡ part (32 * t) j s) where
-  pub items-step : (d e : List ℕ) (b : Bool) → d ≡ part 32 (i + 32 * t) s → e ≡ part 32 (j + 32 * t) s → b ≡ same d e → not b ≡ false
+  pub items-step : (d e : List ℕ) (b : Bool) → d ≡ part 32 (i + 32 * t) s → e ≡ part 32 (j + 32 * t) s → b ≡ same d e → b ≡ true
       → part (32 * (t + 1)) i s ≡ part (32 * (t + 1)) j s
   items-step d e b ed ee eb f =
       let z : 32 * (t + 1) ≡ 32 * t + 32 = omega arith in
-      let q : d ≡ e = same_true d e (sym eb ∙ not-false b f) in
+      let q : d ≡ e = same_true d e (sym eb ∙ f) in
       rw z (part-add (32 * t) 32 i s ∙ ap₂ (λ (x y : List ℕ). x ++ y) h (sym ed ∙ q ∙ ee) ∙ sym (part-add (32 * t) 32 j s))
 
   pub items_end : (count : ℕ) → t ≤ count → count ≤ t → part (32 * count) i s ≡ part (32 * count) j s

@@ -1,12 +1,10 @@
 -- The three questions put to a group and a path.
-use Prim.Native.Nat.{ℕ, ◌+◌, ◌<◌, ◌≤◌}
-use mathlib.Core.Path.{◌≡◌, refl, sym, ◌∙◌, ap}
-use mathlib.Core.Bool.{Bool, true, false, not}
-use mathlib.Core.List.{List, [], ◌∷◌, map}
-use borrow.Author.Tests.{eq-eqb, ne_eqb, not-true, not-false}
-use lib.Dec.{eqb}
+use Prim.Native.Nat.{ℕ, ◌+◌}
+use mathlib.Core.Path.{◌≡◌, sym, ◌∙◌, ap}
+use mathlib.Core.Bool.{Bool, true, false}
+use mathlib.Core.List.{List}
+use borrow.Author.Tests.{eq-eqb, ne_eqb}
 use lib.ListN.{length, drop, length-map}
-use Rattle.theory_laws.specs.Questions.{first_no}
 use Rattle.theory_laws.specs.Lists.{same, le_value}
 use Rattle.theory_record.specs.Trees.{leads_to}
 use Rattle.theory_record.specs.Format.{run_count, run_items}
@@ -37,13 +35,13 @@ module _ (S : Scheme) (l place : ℕ) (s : List ℕ) (group path : ℕ) (root : 
       said : t ≡ same (leads_to S l place (values_at s group) (digests_at s path)) root
       said = et ∙ ap (λ (r : List ℕ). same r root) ed
 
-      pub wrong_root : not t ≡ true → first + 2 ≡ opening_number S l place (values_at s group) (digests_at s path) root first
+      pub wrong_root : t ≡ false → first + 2 ≡ opening_number S l place (values_at s group) (digests_at s path) root first
       unfolding opening_number
-      wrong_root f = rw (length-values s group, ← ex, ← ew, eq-eqb x w z, length-digests s path, ← ey, ← eh, eq-eqb y h u, ← said, not-true t f)
+      wrong_root f = rw (length-values s group, ← ex, ← ew, eq-eqb x w z, length-digests s path, ← ey, ← eh, eq-eqb y h u, ← said, f)
 
-      pub all_right : not t ≡ false → 0 ≡ opening_number S l place (values_at s group) (digests_at s path) root first
+      pub all_right : t ≡ true → 0 ≡ opening_number S l place (values_at s group) (digests_at s path) root first
       unfolding opening_number
-      all_right f = rw (length-values s group, ← ex, ← ew, eq-eqb x w z, length-digests s path, ← ey, ← eh, eq-eqb y h u, ← said, not-false t f)
+      all_right f = rw (length-values s group, ← ex, ← ew, eq-eqb x w z, length-digests s path, ← ey, ← eh, eq-eqb y h u, ← said, f)
 
 pub now_sized : (S : Scheme) (l : ℕ) (s : List ℕ) (group path x w y h : ℕ) → Readable S l s group path → x ≡ run_count (drop group s) → w ≡ width_at S l → x ≡ w
     → y ≡ run_count (drop path s) → h ≡ depth_at S l → y ≡ h → Sized S l s group path

@@ -1,10 +1,10 @@
 -- The groups of a level: the words that they hold, and the numbers of the questions put to them.
 use Prim.Native.Nat.{ℕ, ◌+◌, ◌*◌, ◌%◌, ◌<◌, ◌≤◌}
 use mathlib.Core.Path.{◌≡◌, refl, sym, ◌∙◌, ap}
-use mathlib.Core.Bool.{Bool, true, false, not}
+use mathlib.Core.Bool.{Bool, true, false}
 use mathlib.Core.List.{List}
 use native.Mathlib.Omega.{arith}
-use borrow.Author.Tests.{eqb-true, not-true, not-false}
+use borrow.Author.Tests.{eqb-true}
 use lib.Dec.{eqb}
 use lib.ListN.{length, drop}
 use Rattle.theory_laws.specs.Questions.{pick, Question, first_no}
@@ -73,18 +73,18 @@ module _ (S : Scheme) (l q : ℕ) (values : List ℕ) (path : List (List ℕ)) (
     a-held : eqb (value_at w (2 * q) values) a ≡ h
     a-held = sym (eh ∙ ap (λ (p : ℕ). eqb (value_at w p values) a) ef)
 
-    pub no_a : not h ≡ true → 19 ≡ a_number S l q values path root a b
-    no_a f = a-passes w 19 z ew (rw (a-held, not-true h f))
+    pub no_a : h ≡ false → 19 ≡ a_number S l q values path root a b
+    no_a f = a-passes w 19 z ew (rw (a-held, f))
 
-    module _ (f : not h ≡ false) (second : ℕ) (es : second ≡ 2 * q + 1) (h' : Bool) (eh' : h' ≡ eqb (value_at w second values) b) where
+    module _ (f : h ≡ true) (second : ℕ) (es : second ≡ 2 * q + 1) (h' : Bool) (eh' : h' ≡ eqb (value_at w second values) b) where
       b-held : eqb (value_at w (2 * q + 1) values) b ≡ h'
       b-held = sym (eh' ∙ ap (λ (p : ℕ). eqb (value_at w p values) b) es)
 
-      pub no_b : not h' ≡ true → 21 ≡ a_number S l q values path root a b
-      no_b f' = a-passes w 21 z ew (rw (a-held, not-false h f, b-held, not-true h' f'))
+      pub no_b : h' ≡ false → 21 ≡ a_number S l q values path root a b
+      no_b f' = a-passes w 21 z ew (rw (a-held, f, b-held, f'))
 
-      pub both-held : not h' ≡ false → 0 ≡ a_number S l q values path root a b
-      both-held f' = a-passes w 0 z ew (rw (a-held, not-false h f, b-held, not-false h' f'))
+      pub both-held : h' ≡ true → 0 ≡ a_number S l q values path root a b
+      both-held f' = a-passes w 0 z ew (rw (a-held, f, b-held, f'))
 
 -- ---- 22 to 25
 
@@ -99,8 +99,8 @@ module _ (S : Scheme) (l q : ℕ) (values : List ℕ) (path : List (List ℕ)) (
       first_passes (opening_questions S l q values path root 22) (held (width_at S l) q values c) x tt e r z (f ∙ ap (λ (y : ℕ). first_no (held y q values c)) ew)
 
   module _ (z : x ≡ 0) (w : ℕ) (ew : w ≡ width_at S l) (h : Bool) (eh : h ≡ eqb (value_at w q values) c) where
-    pub no_c : not h ≡ true → 25 ≡ c_number S l q values path root c
-    no_c f = c-passes w 25 z ew (rw (← eh, not-true h f))
+    pub no_c : h ≡ false → 25 ≡ c_number S l q values path root c
+    no_c f = c-passes w 25 z ew (rw (← eh, f))
 
-    pub c-held : not h ≡ false → 0 ≡ c_number S l q values path root c
-    c-held f = c-passes w 0 z ew (rw (← eh, not-false h f))
+    pub c-held : h ≡ true → 0 ≡ c_number S l q values path root c
+    c-held f = c-passes w 0 z ew (rw (← eh, f))

@@ -1,11 +1,11 @@
 -- A level of a query record: what is read of it is in the record, and its number by the parts that code asks for.
 use Prim.Native.Nat.{ℕ, suc, ◌+◌, ◌*◌, ◌^◌, ◌<◌, ◌≤◌}
 use mathlib.Core.Path.{◌≡◌, refl, sym, ◌∙◌, ap}
-use mathlib.Core.Bool.{Bool, true, false, not}
+use mathlib.Core.Bool.{Bool, true, false}
 use mathlib.Core.List.{List, [], ◌∷◌, ◌++◌}
 use native.Mathlib.Omega.{arith}
 use native.Mathlib.Numerals.{add-one}
-use borrow.Author.Tests.{leb-true, not-true, not-false, eq-eqb, ne_eqb}
+use borrow.Author.Tests.{leb-true, eq-eqb, ne_eqb}
 use lib.Dec.{leb, eqb}
 use lib.ListN.{length, drop, length-drop}
 use lib.Pow.{pow_mono}
@@ -127,8 +127,8 @@ by_parts S l q r ra rc x =
 
 -- what a level's number is once 16 to 25 have their yes: 26 is asked, and t says whether the fold is c
 pub record FoldDecides (t : Bool) (number : ℕ) : Type 0 where
-  pub not_folded : not t ≡ true → 26 ≡ number
-  pub all_hold : not t ≡ false → 0 ≡ number
+  pub not_folded : t ≡ false → 26 ≡ number
+  pub all_hold : t ≡ true → 0 ≡ number
 
 module _ (S : Scheme) (position : ℕ) (challenges roots : List ℕ) (l : ℕ) (s : List ℕ) (i : ℕ) (v : Level) (a b c q : ℕ) (ev : v ≡ level_at s i)
     (ea : a ≡ le_value (part 16 i s)) (eb : b ≡ le_value (part 16 (i + 16) s)) (ec : c ≡ le_value (part 16 (i + 32) s)) (eq : q ≡ pair_of position l)
@@ -161,6 +161,6 @@ module _ (S : Scheme) (position : ℕ) (challenges roots : List ℕ) (l : ℕ) (
       unfolding number
       fold_decides =
           record {
-            not_folded = λ g. sym (parts r rc er erc ∙ rw (eq-eqb x 0 z, ← ey, eq-eqb y 0 u, ← ef, ← et, not-true t g));
-            all_hold = λ g. sym (parts r rc er erc ∙ rw (eq-eqb x 0 z, ← ey, eq-eqb y 0 u, ← ef, ← et, not-false t g));
+            not_folded = λ g. sym (parts r rc er erc ∙ rw (eq-eqb x 0 z, ← ey, eq-eqb y 0 u, ← ef, ← et, g));
+            all_hold = λ g. sym (parts r rc er erc ∙ rw (eq-eqb x 0 z, ← ey, eq-eqb y 0 u, ← ef, ← et, g));
           }

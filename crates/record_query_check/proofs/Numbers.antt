@@ -1,9 +1,9 @@
 -- The questions put before the levels, in the order of the code, and the answer to a record.
-use Prim.Native.Nat.{ℕ, ◌+◌, ◌-◌, ◌*◌, ◌^◌, ◌<◌, ◌≤◌}
+use Prim.Native.Nat.{ℕ, ◌+◌, ◌*◌, ◌^◌, ◌<◌, ◌≤◌}
 use mathlib.Core.Path.{◌≡◌, sym, ◌∙◌}
-use mathlib.Core.Bool.{Bool, true, false, not}
+use mathlib.Core.Bool.{Bool, true, false}
 use mathlib.Core.List.{List, [], ◌∷◌}
-use borrow.Author.Tests.{eq-eqb, ne_eqb, le-leb, lt-leb, le-ltb, lt-ltb, eqb-true, leb-true, ltb-true, not-true, not-false}
+use borrow.Author.Tests.{eq-eqb, ne_eqb, le-leb, lt-leb, le-ltb, lt-ltb, eqb-true, leb-true, ltb-true}
 use lib.Dec.{eqb, leb, ltb}
 use lib.ListN.{length}
 use Rattle.theory_laws.specs.Questions.{Question, ◌asks◌, first_no}
@@ -61,12 +61,12 @@ module _ (S : Scheme) (position : ℕ) (challenges roots s : List ℕ) (x : ℕ)
           high_position e = passes_7 11 (rw (← (el ∙ first-length n k), ← ep, le-ltb p len e))
 
           module _ (d : p < len) (t : Bool) (et : t ≡ record_whole level_form s) where
-            pub not_whole : not t ≡ true → 14 ≡ query_number S position challenges roots s
-            not_whole e = passes_7 14 (rw (← (el ∙ first-length n k), ← ep, lt-ltb p len d, ← et, not-true t e))
+            pub not_whole : t ≡ false → 14 ≡ query_number S position challenges roots s
+            not_whole e = passes_7 14 (rw (← (el ∙ first-length n k), ← ep, lt-ltb p len d, ← et, e))
 
-            module _ (f : not t ≡ false) (m : ℕ) (em : m ≡ run_count s) where
+            module _ (f : t ≡ true) (m : ℕ) (em : m ≡ run_count s) where
               passes_14 : (r : ℕ) → r ≡ first_no after14 → r ≡ query_number S position challenges roots s
-              passes_14 r g = passes_7 r (rw (← (el ∙ first-length n k), ← ep, lt-ltb p len d, ← et, not-false t f) g)
+              passes_14 r g = passes_7 r (rw (← (el ∙ first-length n k), ← ep, lt-ltb p len d, ← et, f) g)
 
               pub other-count : (m ≡ n → ⊥) → 15 ≡ query_number S position challenges roots s
               other-count e = passes_14 15 (rw (← em, ne_eqb m n e))

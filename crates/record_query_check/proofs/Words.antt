@@ -1,6 +1,6 @@
 -- Words folded, and the pair of a position.
-use Prim.Native.Nat.{ℕ, suc, ◌+◌, ◌*◌, ◌/◌, ◌^◌, ◌<◌}
-use mathlib.Core.Path.{◌≡◌, refl, sym, ◌∙◌, ap, ap₂}
+use Prim.Native.Nat.{ℕ, ◌+◌, ◌/◌, ◌^◌}
+use mathlib.Core.Path.{◌≡◌, ◌∙◌, ap}
 use native.Mathlib.Numerals.{add-one}
 use Rattle.theory_laws.specs.Xor.{◌⊕◌}
 use Rattle.theory_field.specs.Field.{◌⊗◌}

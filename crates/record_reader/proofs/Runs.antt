@@ -1,8 +1,8 @@
 -- Counted runs and what records are made of, by the places at which they begin.
-use Prim.Native.Nat.{ℕ, zero, suc, ◌+◌, ◌-◌, ◌*◌, ◌<◌, ◌≤◌}
+use Prim.Native.Nat.{ℕ, ◌+◌, ◌-◌, ◌*◌, ◌<◌, ◌≤◌}
 use mathlib.Core.Path.{◌≡◌, refl, sym, ◌∙◌, ap, ap₂}
 use mathlib.Core.Bool.{Bool, true, false}
-use mathlib.Core.List.{List, [], ◌∷◌}
+use mathlib.Core.List.{List}
 use native.Mathlib.Omega.{arith}
 use native.Mathlib.Nat.{mul-le-mul_right, le_trans}
 use native.Mathlib.Decide.{dec_le}
@@ -11,7 +11,6 @@ use lib.Dec.{leb}
 use lib.ListN.{length, drop, length-drop, drop_of_length-le}
 use lib.Seq.{drop-drop}
 use Rattle.theory_laws.specs.Questions.{pick, both}
-use Rattle.theory_laws.proofs.Lists.{both_true}
 use Rattle.theory_record.specs.Format.{run_count, run_size, run_fits, after_run, from_aGroup, from_cGroup}
 use Rattle.theory_record.specs.Format.{from_aPath, from_cPath, after_level, level_fits, from_tail_path, after_tail_group, tail_group_fits}
 use Rattle.record_reader.specs.helpers.Places.{place_of, further_of, run_at, level_at, group_at}

@@ -20,7 +20,7 @@ use Rattle.theory_record.proofs.Widths.{PowersOfTwo, level-shape, width-pos, gro
 use Rattle.theory_record.proofs.Build.{length-open_groups}
 use Rattle.theory_field.specs.Words.{words}
 use Rattle.tree_walk.specs.helpers.Paths.{path_from}
-use Rattle.record_tail_build.specs.helpers.Groups.{opening_size, group_bytes, GroupPut, Room}
+use Rattle.record_tail_build.specs.helpers.Groups.{opening_size, group_bytes, GroupPut}
 
 pub group_put : {o : List ℕ} {from : ℕ} (level tree : List ℕ) (width depth groups g first : ℕ) {o1 o2 o3 o4 : List ℕ} {a b c r : ℕ}
     → first ≡ g * width → Put o from 4 (le_bytes 4 width) o1 a

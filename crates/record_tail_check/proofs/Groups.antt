@@ -5,7 +5,6 @@ use mathlib.Core.Bool.{Bool, true, false, not}
 use mathlib.Core.List.{List, map}
 use native.Mathlib.Nat.{mul-le-mul_left, mul-le-mul_right}
 use native.Mathlib.Omega.{arith}
-use borrow.Author.Tests.{not-true, not-false}
 use lib.Dec.{eqb}
 use lib.ListN.{length, drop}
 use lib.Pow.{pow_mono}
@@ -157,8 +156,8 @@ module _ (base : List ℕ) (how : Trees) (n k : ℕ) (root : List ℕ) (claim : 
     said : t ≡ eqb (first_value (record_items tail_form (level_groups (widths_of how.set) n k n) s)) claim
     said = et ∙ ap (λ (y : ℕ). eqb y claim) (ex ∙ ap (λ (j : ℕ). first_value (record_items tail_form j s)) ec)
 
-    pub not_claimed : not t ≡ true → 31 ≡ r
-    not_claimed f = rw (← said, not-true t f) at claim-left
+    pub not_claimed : t ≡ false → 31 ≡ r
+    not_claimed f = rw (← said, f) at claim-left
 
-    pub is-claimed : not t ≡ false → 0 ≡ r
-    is-claimed f = rw (← said, not-false t f) at claim-left
+    pub is-claimed : t ≡ true → 0 ≡ r
+    is-claimed f = rw (← said, f) at claim-left

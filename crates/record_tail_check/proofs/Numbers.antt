@@ -1,10 +1,10 @@
 -- The questions put to a tail record before its groups, in the order of the code, and the answer.
-use Prim.Native.Nat.{ℕ, ◌+◌, ◌-◌, ◌<◌, ◌≤◌}
+use Prim.Native.Nat.{ℕ, ◌+◌, ◌<◌, ◌≤◌}
 use mathlib.Core.Path.{◌≡◌, sym, ◌∙◌, ap}
-use mathlib.Core.Bool.{Bool, true, false, not}
+use mathlib.Core.Bool.{Bool, true, false}
 use mathlib.Core.List.{List, ◌++◌}
 use native.Mathlib.Omega.{arith}
-use borrow.Author.Tests.{eq-eqb, ne_eqb, le-leb, lt-leb, eqb-true, leb-true, not-true, not-false}
+use borrow.Author.Tests.{eq-eqb, ne_eqb, le-leb, lt-leb, eqb-true, leb-true}
 use lib.ListN.{length}
 use lib.Seq.{take_all}
 use Rattle.theory_laws.specs.Questions.{Question, first_no}
@@ -38,15 +38,15 @@ module _ (base : List ℕ) (how : Trees) (n k : ℕ) (root s : List ℕ) (x : �
       long_base e = passes 7 (rw (eq-eqb (length root) 32 a, lt-leb (length base) 200 e))
 
       module _ (b : length base ≤ 200) (t : Bool) (et : t ≡ record_whole tail_form s) where
-        pub not_whole : not t ≡ true → 14 ≡ head_number base how n k root s
-        not_whole e = passes 14 (rw (eq-eqb (length root) 32 a, le-leb (length base) 200 b, ← et, not-true t e))
+        pub not_whole : t ≡ false → 14 ≡ head_number base how n k root s
+        not_whole e = passes 14 (rw (eq-eqb (length root) 32 a, le-leb (length base) 200 b, ← et, e))
 
-        module _ (f : not t ≡ false) (m c : ℕ) (em : m ≡ run_count s) (ec : c ≡ level_groups (widths_of how.set) n k n) where
+        module _ (f : t ≡ true) (m c : ℕ) (em : m ≡ run_count s) (ec : c ≡ level_groups (widths_of how.set) n k n) where
           pub other-count : (m ≡ c → ⊥) → 27 ≡ head_number base how n k root s
-          other-count e = passes 27 (rw (eq-eqb (length root) 32 a, le-leb (length base) 200 b, ← et, not-false t f, ← em, ← ec, ne_eqb m c e))
+          other-count e = passes 27 (rw (eq-eqb (length root) 32 a, le-leb (length base) 200 b, ← et, f, ← em, ← ec, ne_eqb m c e))
 
           pub none_says_no : m ≡ c → 0 ≡ head_number base how n k root s
-          none_says_no e = passes 0 (rw (eq-eqb (length root) 32 a, le-leb (length base) 200 b, ← et, not-false t f, ← em, ← ec, eq-eqb m c e))
+          none_says_no e = passes 0 (rw (eq-eqb (length root) 32 a, le-leb (length base) 200 b, ← et, f, ← em, ← ec, eq-eqb m c e))
 
 -- ---- the answer
 

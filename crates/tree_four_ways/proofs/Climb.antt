@@ -11,7 +11,6 @@ use lib.Dec.{ltb}
 use lib.ListN.{length, take, drop}
 use lib.Seq.{take_at, take-take}
 use Rattle.theory_laws.specs.Lists.{part, runs}
-use Rattle.theory_laws.specs.Table.{at}
 use Rattle.theory_laws.specs.Questions.{pick}
 use Rattle.theory_laws.proofs.Lists.{length_part}
 use Rattle.theory_laws.proofs.Numbers.{lt_or_le}

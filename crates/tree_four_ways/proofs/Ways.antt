@@ -9,7 +9,6 @@ use lib.Dec.{ltb}
 use lib.ListN.{length, take, drop}
 use lib.Seq.{take_at}
 use Rattle.theory_laws.specs.Lists.{part, stored, le_bytes}
-use Rattle.theory_laws.specs.Table.{at}
 use Rattle.theory_laws.specs.Questions.{pick}
 use Rattle.theory_laws.proofs.Lists.{drop-stored, length_part, lent-part}
 use Rattle.theory_merkle.specs.Message.{prefixed, node_prefix, node_message}

@@ -1,10 +1,10 @@
 -- A tree made in parts is the tree that `build` makes, whatever the division.
 use Prim.Native.Nat.{ℕ, zero, suc, ◌+◌, ◌*◌, ◌/◌, ◌%◌, ◌^◌}
 use mathlib.Core.Path.{◌≡◌, refl, sym, ◌∙◌, ap, ap₂, subst}
-use mathlib.Core.List.{List, [], ◌∷◌, ◌++◌, map, append-nil}
+use mathlib.Core.List.{List, [], ◌∷◌, ◌++◌, map}
 use native.Mathlib.Nat.{pow-suc}
 use native.Mathlib.Omega.{arith}
-use lib.ListN.{length, take, drop, length-append}
+use lib.ListN.{length, length-append}
 use lib.Seq.{take_at, drop_at, take_all}
 use Rattle.theory_laws.specs.Lists.{part, runs, flat, AllLong}
 use Rattle.theory_laws.proofs.Lists.{length_runs, runs-add, runs_same, runs_of_flat, length-flat, flat_append}

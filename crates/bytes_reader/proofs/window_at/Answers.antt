@@ -1,8 +1,7 @@
 -- `bytes_reader::window_at` meets its contract: a whole window is loaded; of a shorter one the bytes are read one by one.
 use borrow.Author.Rules.{rules}
-use Rattle.bytes_reader.proofs.Windows.{Filled, filled_begin, byte_step, window-whole, window_filled}
+use Rattle.bytes_reader.proofs.Windows.{filled_begin, byte_step, window-whole, window_filled}
 use native.Mathlib.Omega.{arith}
-use Prim.Native.Nat.{◌-◌, ◌≤◌}
 use mathlib.Core.Path.{refl}
 use Rattle.bytes_reader.proofs.window_at.Goals as goal
 

@@ -1,9 +1,6 @@
 -- `bytes_reader::window_at` meets its contract: a whole window is loaded; of a shorter one the bytes are read one by one.
-use borrow.Author.Rules.{rules}
-use Rattle.bytes_reader.proofs.Windows.{Filled, filled_begin, byte_step, window-whole, window_filled}
-use native.Mathlib.Omega.{arith}
+use Rattle.bytes_reader.proofs.Windows.{Filled}
 use Prim.Native.Nat.{◌-◌, ◌≤◌}
-use mathlib.Core.Path.{refl}
 use Rattle.bytes_reader.proofs.window_at.Given as goal
 
 abbrev pub invariant-loop-j : goal.invariant-loop-j

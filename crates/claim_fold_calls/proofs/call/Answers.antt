@@ -6,12 +6,6 @@ use Rattle.code_levels.proofs.Laying.{within, next-from}
 use Rattle.claim_fold_calls.specs.helpers.Laid.{asked}
 use Rattle.claim_fold_calls.proofs.Turns.{too_long, called_refused, called_no, called_done}
 use borrow.Author.Rules.{rules}
-use Rattle.claim_fold_calls.proofs.call.Reads as reads
-use Rattle.claim_fold_calls.proofs.call.Lts as lts
-use Rattle.code_level.proofs.level_length.Reads as level-length-reads
-use Rattle.code_levels.proofs.fold_level.Reads as fold-level-reads
-use Rattle.code_levels.proofs.lay.Reads as lay-reads
-use Rattle.field_words.proofs.put.Reads as put_reads
 use Rattle.claim_fold_calls.proofs.call.Goals as goal
 
 pub returns-then-room-half : goal.returns-then-room-half
@@ -24,7 +18,7 @@ slice_bounds-fold_level-end-2 c =
 
 pub returns-then-number-ne0 : goal.returns-then-number-ne0
 returns-then-number-ne0 c =
-    let e = c.fold_level-number.ensures in called_no _ _ c.requires.level c.requires.below (asked c.args.x) e.0 e.1.0 c.if-number-ne0.true
+    let e = c.fold_level-number.ensures in called_no _ _ c.requires.level c.requires.below (asked c.args.x) e.value e.coordinates_after c.if-number-ne0.true
 
 pub overflow_mul-to : goal.overflow_mul-to
 overflow_mul-to c = let w = within c.requires.level c.level_length.ensures in search rules
@@ -45,5 +39,7 @@ lay-requires c =
 
 pub returns : goal.returns
 returns c =
-    let p = c.requires in let e = c.fold_level-number.ensures in called_done _ _ p.level p.below (asked c.args.x) e.0 e.1.0 c.if-number-ne0.false _ _
-    (next-from _ _ _ p.level.from= c.level_length.ensures) e.1.1.0 c.lay.ensures c.put.ensures
+    let p = c.requires in
+    let e = c.fold_level-number.ensures in
+    called_done _ _ p.level p.below (asked c.args.x) e.value e.coordinates_after c.if-number-ne0.false _ _
+    (next-from _ _ _ p.level.from= c.level_length.ensures) e.half_after c.lay.ensures c.put.ensures

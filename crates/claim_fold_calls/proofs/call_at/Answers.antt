@@ -2,9 +2,6 @@
 use native.Mathlib.Omega.{arith}
 use borrow.Author.Rules.{rules}
 use Rattle.claim_fold_calls.proofs.Turns.{same_by}
-use Rattle.claim_fold_calls.proofs.call_at.Reads as reads
-use Rattle.claim_fold_calls.proofs.call_at.Lts as lts
-use Rattle.field_words.proofs.get.Reads as get-reads
 use Rattle.claim_fold_calls.proofs.call_at.Goals as goal
 
 pub get-by-requires : goal.get-by-requires

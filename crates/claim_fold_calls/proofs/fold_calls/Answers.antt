@@ -1,23 +1,13 @@
 -- `claim_fold_calls::fold_calls` meets its contract: where the calls stand after the first i.
-use Prim.Native.Nat.{ℕ, ◌-◌}
-use mathlib.Core.Path.{◌≡◌, refl, sym, ◌∙◌, ap}
-use mathlib.Core.Logic.{⊎_elim, inl, inr}
+use Prim.Native.Nat.{ℕ}
+use mathlib.Core.Path.{refl, sym, ◌∙◌, ap}
+use mathlib.Core.Logic.{inl, inr}
 use native.Mathlib.Omega.{arith}
 use borrow.Author.Rules.{rules}
-use borrow.Author.Tests.{ltb-true}
-use lib.ListN.{length}
 use Rattle.theory_laws.specs.Table.{tab}
-use Rattle.theory_field.specs.Words.{words}
-use Rattle.theory_record.specs.Build.{level_values}
-use Rattle.claim_fold_calls.specs.Lent.{calls_from, lent_calls}
-use Rattle.claim_fold_calls.specs.helpers.Laid.{Reached}
 use Rattle.claim_fold_calls.proofs.Turns.{reached_begin, turned, same_call, ended}
-use Rattle.claim_fold_calls.proofs.fold_calls.Reads as reads
-use Rattle.claim_fold_calls.proofs.fold_calls.Lts as lts
-use Rattle.claim_fold_calls.proofs.call.Reads as call-reads
-use Rattle.claim_fold_calls.proofs.call_at.Reads as call-at-reads
-use Rattle.field_words.proofs.clear.Reads as clear_reads
 use Rattle.claim_fold_calls.proofs.fold_calls.Goals as goal
+use Rattle.claim_fold_calls.proofs.fold_calls.Goals.{then-loop-i-test+else-at-n, else-loop-i-test}
 
 pub loop-i-init : goal.loop-i-init
 loop-i-init c =
@@ -35,7 +25,7 @@ call-at-requires c =
         within = s.1.within;
         from= = s.1.from=;
       };
-      below = ltb-true _ _ c.if-at-n.true;
+      below = c.if-at-n.true;
       list_long = s.1.list_long;
       kept_long = s.1.kept_long;
     }
@@ -48,7 +38,7 @@ pub loop-i-preserved : goal.loop-i-preserved
 loop-i-preserved c =
     let s = c.loop-i.invariant in (
       c.call-at.auto.half ∙ s.0,
-      turned _ _ _ _ s.1 c.loop-i-test.true (ltb-true _ _ c.if-at-n.true) c.call-at.auto.levels c.call-at.auto.kept
+      turned _ _ _ _ s.1 c.loop-i-test.true c.if-at-n.true c.call-at.auto.levels c.call-at.auto.kept
           (same_call c.call-at.ensures c.call_at-x.ensures),
     )
 
@@ -68,6 +58,14 @@ pub shape_of-kept : goal.shape_of-kept
 shape_of-kept c =
     c.loop-i.invariant.1.kept_long ∙ sym c.requires.kept_long
 
-pub returns : goal.returns
-returns c =
-    let s = c.loop-i.invariant in record { calls_left = ended _ _ _ _ s.1 (⊎_elim (λ x. inr x.2.left) (λ x. inl x.left) c.loop-i-test.came); half_after = c.clear.ensures ∙ ap (λ (m : ℕ). tab m (λ v. 0)) s.0 }
+pub returns-clause-calls_left : goal.returns-clause-calls_left
+returns-clause-calls_left c =
+    ended _ _ _ _ c.loop-i.invariant.1
+    (elim c.loop-i-test.branch [
+      | then-loop-i-test+else-at-n w ↦ inr w.if-at-n.false
+      | else-loop-i-test w ↦ inl w.loop-i-test.false
+    ])
+
+pub returns-clause-half_after : goal.returns-clause-half_after
+returns-clause-half_after c =
+    c.clear.ensures ∙ ap (λ (m : ℕ). tab m (λ v. 0)) c.loop-i.invariant.0

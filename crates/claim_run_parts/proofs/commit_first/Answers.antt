@@ -6,11 +6,6 @@ use Rattle.code_commit.proofs.Sizes.{made}
 use Rattle.theory_record.proofs.Ranges.{sizes-small}
 use Rattle.claim_run_parts.proofs.Deposits.{front_fits, tree-fits, commit_allowed, tree-left, first-level, same-behind}
 use borrow.Author.Rules.{rules}
-use Rattle.claim_run_parts.proofs.commit_first.Reads as reads
-use Rattle.claim_run_parts.proofs.commit_first.Lts as lts
-use Rattle.code_level.proofs.level_length.Reads as level-length-reads
-use Rattle.code_commit.proofs.commit.Reads as commit-reads
-use Rattle.code_commit.proofs.trees.tree_bytes.Reads as tree-bytes-reads
 use Rattle.claim_run_parts.proofs.commit_first.Goals as goal
 
 pub level_length-size-requires : goal.level_length-size-requires
@@ -45,13 +40,13 @@ returns c =
     let a = c.args in let es = c.level_length-size.ensures in let size = length-take-le _ _ (front_fits c.requires _ es) ∙ ap (λ (x : ℕ). 2 * x) es in
     let eb = c.tree_bytes-bytes.ensures in let bytes = length-take-le _ _ (tree-fits c.requires _ eb) ∙ eb in
     let e = c.commit.ensures in let kept = c.commit.auto in let z = commit_allowed a.how a.base.now a.table.now c.requires _ _ size bytes in
-    let front = kept.1.1.1.1.1.1.0 ∙ size in
+    let front = kept.codeword ∙ size in
     record {
-      gammas_are = made _ _ _ _ _ e.0 z e.1.0;
-      level-is = first-level _ _ c.commit.new.codeword _ front ∙ made _ _ _ _ _ e.0 z e.1.1.0;
+      gammas_are = made _ _ _ _ _ e.value z e.gammas_after;
+      level-is = first-level _ _ c.commit.new.codeword _ front ∙ made _ _ _ _ _ e.value z e.codeword_after;
       behind = same-behind _ _ c.commit.new.codeword a.levels.now es front;
-      list_is = made _ _ _ _ _ e.0 z e.1.1.1.0;
+      list_is = made _ _ _ _ _ e.value z e.coordinates_after;
       tree_is =
-          take_at c.commit.new.tree _ _ (kept.1.1.1.1.1.1.1.1.0 ∙ bytes)
-          ∙ tree-left a.how a.base.now a.table.now c.requires (made _ _ _ _ _ e.0 z e.1.1.1.1);
+          take_at c.commit.new.tree _ _ (kept.tree ∙ bytes)
+          ∙ tree-left a.how a.base.now a.table.now c.requires (made _ _ _ _ _ e.value z e.tree_after);
     }

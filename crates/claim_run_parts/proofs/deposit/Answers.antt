@@ -4,11 +4,6 @@ use native.Mathlib.Omega.{arith}
 use Rattle.theory_record.proofs.Ranges.{sizes-small}
 use Rattle.claim_run_parts.proofs.Deposits.{calls_left, after_none, first-tree}
 use borrow.Author.Rules.{rules}
-use Rattle.claim_run_parts.proofs.deposit.Reads as reads
-use Rattle.claim_run_parts.proofs.deposit.Lts as lts
-use Rattle.claim_run_parts.proofs.commit_first.Reads as commit-first-reads
-use Rattle.claim_fold_calls.proofs.fold_calls.Reads as fold-calls-reads
-use Rattle.code_level_trees.proofs.level_trees.Reads as level-trees-reads
 use Rattle.claim_run_parts.proofs.deposit.Goals as goal
 
 -- the places of the code, from its end to its start
@@ -43,4 +38,4 @@ level_trees-requires c =
 pub returns : goal.returns
 returns c =
     let e = c.commit_first.ensures in let left = calls_left e.level-is e.list_is e.behind c.fold_calls-done.ensures.calls_left in
-    let t = c.level_trees.ensures in record { deposit_left = record { gammas_are = e.gammas_are; left = left; trees_are = t.0; roots_are = t.1 }; half_after = c.fold_calls-done.ensures.half_after }
+    let t = c.level_trees.ensures in record { deposit_left = record { gammas_are = e.gammas_are; left = left; trees_are = t.trees_after; roots_are = t.roots_after }; half_after = c.fold_calls-done.ensures.half_after }

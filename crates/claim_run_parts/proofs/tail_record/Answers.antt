@@ -2,12 +2,6 @@
 use Rattle.field_gf128.specs.Word.{word}
 use Rattle.claim_run_parts.proofs.Deposits.{tail-built, tail-checked}
 use borrow.Author.Rules.{rules}
-use Rattle.claim_run_parts.proofs.tail_record.Reads as reads
-use Rattle.claim_run_parts.proofs.tail_record.Lts as lts
-use Rattle.code_level.proofs.level_length.Reads as level-length-reads
-use Rattle.code_commit.proofs.trees.tree_bytes.Reads as tree-bytes-reads
-use Rattle.record_tail_check.proofs.check_tail.Reads as check-tail-reads
-use Rattle.record_tail_build.proofs.build_tail.Reads as build-tail-reads
 use Rattle.claim_run_parts.proofs.tail_record.Goals as goal
 
 pub returns : goal.returns

@@ -4,4 +4,9 @@ use Rattle.claim_run_parts.proofs.two_records.Goals as goal
 
 pub returns : goal.returns
 returns c =
-    let e = c.at-place.ensures in let told = rw e at c.compare.ensures in record { result_value = told.0; one_after = told.1.0; two_after = told.1.1 }
+    let e = c.at-place.ensures in
+    record {
+      result_value = rw e at c.compare.ensures.result_value;
+      one_after = rw e at c.compare.ensures.one_after;
+      two_after = rw e at c.compare.ensures.two_after;
+    }

@@ -2,12 +2,6 @@
 use mathlib.Core.Path.{refl}
 use Rattle.claim_whole_run.proofs.Claims.{last-room, room-same, claimed_by}
 use borrow.Author.Rules.{rules}
-use Rattle.claim_whole_run.proofs.made.Reads as reads
-use Rattle.claim_whole_run.proofs.made.Lts as lts
-use Rattle.claim_run_parts.proofs.deposit.Reads as deposit-reads
-use Rattle.claim_run_parts.proofs.query_record.Reads as query-record-reads
-use Rattle.claim_run_parts.proofs.tail_record.Reads as tail-record-reads
-use Rattle.claim_run_parts.proofs.two_records.Reads as two-records-reads
 use Rattle.claim_whole_run.proofs.made.Goals as goal
 
 -- the places of the code, from its end to its start
@@ -15,8 +9,8 @@ use Rattle.claim_whole_run.proofs.made.Goals as goal
 pub tail_record-number-requires : goal.tail_record-number-requires
 tail_record-number-requires c =
     let kept = c.deposit-done.auto in last-room
-    (room-same c.requires.0 kept.1.1.1.1.1.1.1.1.0 kept.1.1.1.1.1.1.1.1.1.0 kept.1.1.1.1.1.1.1.1.1.1.1.0
-    kept.1.1.1.1.1.1.1.1.1.1.1.1.0 kept.1.1.1.1.1.1.1.1.1.1.1.1.1.0)
+    (room-same c.requires.0 kept.levels kept.coordinates kept.kept
+    kept.trees kept.roots)
 
 pub shape_of-gammas : goal.shape_of-gammas
 shape_of-gammas c = c.deposit-done.auto.gammas
@@ -42,22 +36,22 @@ shape_of-roots c = c.deposit-done.auto.roots
 pub returns : goal.returns
 returns c =
     let kept = c.deposit-done.auto in let room =
-    room-same c.requires.0 kept.1.1.1.1.1.1.1.1.0 kept.1.1.1.1.1.1.1.1.1.0 kept.1.1.1.1.1.1.1.1.1.1.1.0
-    kept.1.1.1.1.1.1.1.1.1.1.1.1.0 kept.1.1.1.1.1.1.1.1.1.1.1.1.1.0 in
+    room-same c.requires.0 kept.levels kept.coordinates kept.kept
+    kept.trees kept.roots in
     let d = c.deposit-done.ensures in let q = c.query_record-checked.ensures in let t = c.tail_record-number.ensures in let e = c.two_records-compared.ensures in let claimed =
-    claimed_by _ _ _ _ _ room c.requires.0.commit.list_long d.0 c.requires.1 q.0 t.0 q.1 t.1 e.0 e.1.0 e.1.1 (λ j. (c.type_inv.query j).fits)
+    claimed_by _ _ _ _ _ room c.requires.0.commit.list_long d.deposit_left c.requires.1 q.out_after t.out_after q.result_value t.value e.result_value e.one_after e.two_after (λ j. (c.type_inv.query j).fits)
     (λ j. (c.type_inv.tail j).fits) (λ j. (c.type_inv.first j).fits) (λ j. (c.type_inv.second j).fits) in (
       refl,
       record {
-        deposited = d.0;
-        half_cleared = d.1;
-        query_is = q.0;
-        tail_is = t.0;
-        answer_is = q.1;
-        number_is = t.1;
-        compared_is = e.0;
-        one_is = e.1.0;
-        two_is = e.1.1;
+        deposited = d.deposit_left;
+        half_cleared = d.half_after;
+        query_is = q.out_after;
+        tail_is = t.out_after;
+        answer_is = q.result_value;
+        number_is = t.value;
+        compared_is = e.result_value;
+        one_is = e.one_after;
+        two_is = e.two_after;
         claimed = claimed;
       },
     )

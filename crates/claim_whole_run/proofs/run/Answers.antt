@@ -2,10 +2,6 @@
 use mathlib.Core.Path.{refl, sym, ◌∙◌}
 use Rattle.claim_run_parts.proofs.Numbers.{rooms}
 use borrow.Author.Rules.{rules}
-use Rattle.claim_whole_run.proofs.run.Reads as reads
-use Rattle.claim_whole_run.proofs.run.Lts as lts
-use Rattle.claim_whole_run.proofs.made.Reads as made_reads
-use Rattle.claim_run_parts.proofs.questions.run_number.Reads as run-number-reads
 use Rattle.claim_whole_run.proofs.run.Goals as goal
 
 -- the places of the code that the answer needs

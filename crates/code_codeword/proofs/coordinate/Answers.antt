@@ -1,7 +1,6 @@
 -- `code_codeword::coordinate` meets its contract: below bit j, the sum is that of the first j rows of the gammas.
-use Prim.Native.Nat.{ℕ, ◌+◌, ◌*◌, ◌-◌, ◌≤◌, ◌<◌}
-use mathlib.Core.Logic.{⊎_elim}
-use mathlib.Core.Path.{◌≡◌, sym, ap, ap₂, ◌∙◌}
+use Prim.Native.Nat.{ℕ, ◌+◌, ◌*◌, ◌<◌}
+use mathlib.Core.Path.{sym, ap, ap₂, ◌∙◌}
 use native.Mathlib.Omega.{arith}
 use borrow.Author.Rules.{rules}
 use Rattle.theory_field.specs.Words.{words}
@@ -12,7 +11,7 @@ use Rattle.theory_multilinear.specs.Codeword.{shift_at}
 use Rattle.code_codeword.proofs.Lengths.{gammas_fit, gamma-fits}
 use Rattle.code_codeword.proofs.Shift.{shift_at-set, shift_at-unset}
 use Rattle.code_codeword.proofs.coordinate.Goals as goal
-use Rattle.code_codeword.proofs.coordinate.Goals.{Then-eps-j-eq1}
+use Rattle.code_codeword.proofs.coordinate.Goals.{Then-eps-j-eq1, then-eps-j-eq1, else-eps-j-eq1}
 
 -- the gamma's place is among those lent
 within : (c : Then-eps-j-eq1)
@@ -38,10 +37,10 @@ pub loop-j-preserved : goal.loop-j-preserved
 loop-j-preserved c =
     let h = c.loop-j.invariant.1 in (
       omega arith,
-      ⊎_elim
-          (λ w. ap word w.3 ∙ w.2.ensures ∙ ap₂ ◌⊕◌ h w.1.ensures ∙ sym (shift_at-set _ _ _ _ _ w.0.taken))
-          (λ w. ap word w.1 ∙ h ∙ sym (shift_at-unset _ _ _ _ _ w.0.left))
-          c.if-eps-j-eq1.branch,
+      elim c.if-eps-j-eq1.branch [
+        | then-eps-j-eq1 w ↦ ap word w.d-is ∙ w.add-d.ensures ∙ ap₂ ◌⊕◌ h w.get.ensures ∙ sym (shift_at-set _ _ _ _ _ w.if-eps-j-eq1.true)
+        | else-eps-j-eq1 w ↦ ap word w.d-is ∙ h ∙ sym (shift_at-unset _ _ _ _ _ w.if-eps-j-eq1.false)
+      ],
     )
 
 pub returns : goal.returns

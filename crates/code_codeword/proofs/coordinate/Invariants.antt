@@ -1,16 +1,9 @@
 -- `code_codeword::coordinate` meets its contract: below bit j, the sum is that of the first j rows of the gammas.
-use Prim.Native.Nat.{ℕ, ◌+◌, ◌*◌, ◌-◌, ◌≤◌, ◌<◌}
-use mathlib.Core.Logic.{⊎_elim}
-use mathlib.Core.Path.{◌≡◌, sym, ap, ap₂, ◌∙◌}
-use native.Mathlib.Omega.{arith}
-use borrow.Author.Rules.{rules}
+use Prim.Native.Nat.{◌-◌, ◌≤◌}
+use mathlib.Core.Path.{◌≡◌}
 use Rattle.theory_field.specs.Words.{words}
 use Rattle.field_gf128.specs.Word.{word}
-use Rattle.theory_laws.specs.Xor.{◌⊕◌}
-use Rattle.theory_laws.specs.Sum.{sum}
 use Rattle.theory_multilinear.specs.Codeword.{shift_at}
-use Rattle.code_codeword.proofs.Lengths.{gammas_fit, gamma-fits}
-use Rattle.code_codeword.proofs.Shift.{shift_at-set, shift_at-unset}
 use Rattle.code_codeword.proofs.coordinate.Given as goal
 
 abbrev pub invariant-loop-j : goal.invariant-loop-j

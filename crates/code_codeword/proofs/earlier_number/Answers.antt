@@ -1,5 +1,4 @@
 -- `code_codeword::earlier_number` meets its contract.
-use borrow.Author.Rules.{rules}
 use Rattle.theory_laws.proofs.Questions.{asks}
 use Rattle.theory_code.specs.Questions.{earlier_number}
 use Rattle.code_codeword.proofs.earlier_number.Goals as goal

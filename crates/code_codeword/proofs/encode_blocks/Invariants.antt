@@ -1,11 +1,9 @@
 -- `code_codeword::encode_blocks` meets its contract: the first eps blocks are made.
-use Prim.Native.Nat.{◌+◌, ◌-◌, ◌*◌, ◌^◌, ◌≤◌}
-use mathlib.Core.Path.{◌≡◌, refl, ◌∙◌}
-use native.Mathlib.Omega.{arith}
-use lib.ListN.{length, take, length-take, length-drop}
-use lib.Pow.{pow_pos}
+use Prim.Native.Nat.{◌-◌, ◌*◌, ◌^◌, ◌≤◌}
+use mathlib.Core.Path.{◌≡◌}
+use lib.ListN.{length, take}
 use Rattle.theory_field.specs.Words.{words}
-use Rattle.code_codeword.proofs.Blocks.{first_blocks, block_within, no_blocks, block-turn, blocks-made}
+use Rattle.code_codeword.proofs.Blocks.{first_blocks}
 use Rattle.code_codeword.proofs.encode_blocks.Given as goal
 
 abbrev pub invariant-loop-eps : goal.invariant-loop-eps

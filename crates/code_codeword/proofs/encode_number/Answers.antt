@@ -1,6 +1,5 @@
 -- `code_codeword::encode_number` meets its contract.
 use native.Mathlib.Omega.{arith}
-use borrow.Author.Rules.{rules}
 use Rattle.theory_laws.proofs.Questions.{asks}
 use Rattle.code_codeword.proofs.Lengths.{gammas_fit}
 use Rattle.theory_code.specs.Questions.{encode_number}

@@ -1,13 +1,7 @@
 -- `code_codeword::shift_over` meets its contract: the first i coordinates are stored.
-use Prim.Native.Nat.{◌-◌, ◌*◌, ◌≤◌}
-use mathlib.Core.Path.{◌≡◌, sym, ◌∙◌}
+use mathlib.Core.Path.{sym, ◌∙◌}
 use native.Mathlib.Omega.{arith}
-use borrow.Author.Rules.{rules}
-use lib.ListN.{length}
-use Rattle.theory_laws.specs.Table.{at}
-use Rattle.theory_field.specs.Words.{words}
-use Rattle.theory_field.proofs.Words.{Filled, filled_more, filled_all}
-use Rattle.theory_multilinear.specs.Codeword.{shift_at}
+use Rattle.theory_field.proofs.Words.{filled_more, filled_all}
 use Rattle.code_codeword.proofs.Lists.{over_entries}
 use Rattle.code_codeword.proofs.shift_over.Goals as goal
 

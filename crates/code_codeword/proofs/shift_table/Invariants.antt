@@ -1,14 +1,10 @@
 -- `code_codeword::shift_table` meets its contract: the passes at the first i coordinates are done.
 use Prim.Native.Nat.{ℕ, ◌-◌, ◌≤◌}
-use mathlib.Core.Path.{◌≡◌, refl, ap, ◌∙◌}
+use mathlib.Core.Path.{◌≡◌}
 use mathlib.Core.List.{List}
-use native.Mathlib.Omega.{arith}
-use borrow.Author.Rules.{rules}
 use lib.ListN.{length}
 use Rattle.theory_field.specs.Words.{words}
 use Rattle.code_codeword.specs.helpers.Shifted.{passed_of}
-use Rattle.code_codeword.proofs.Lengths.{has_bit}
-use Rattle.code_codeword.proofs.Blocks.{one-passed}
 use Rattle.code_codeword.proofs.shift_table.Given as goal
 
 abbrev pub invariant-loop-i : goal.invariant-loop-i

@@ -4,13 +4,6 @@ use Rattle.theory_multilinear.specs.Codeword.{all_coordinates}
 use Rattle.theory_laws.proofs.Questions.{no_zero, zero-said}
 use Rattle.code_commit.proofs.Sizes.{commit_sizes, derive_allowed, encode-allowed, tree-allowed, made, codeword-made, tree-made}
 use borrow.Author.Rules.{rules}
-use Rattle.code_commit.proofs.commit.Reads as reads
-use Rattle.code_commit.proofs.commit.Lts as lts
-use Rattle.code_codeword.proofs.encode.Reads as encode-reads
-use Rattle.code_codeword.proofs.coordinates.all_coordinates.Reads as all-coordinates-reads
-use Rattle.code_gamma.proofs.derive.Reads as derive-reads
-use Rattle.code_commit.proofs.number.Reads as number-reads
-use Rattle.code_commit.proofs.trees.build_level.Reads as build-level-reads
 use Rattle.code_commit.proofs.commit.Goals as goal
 
 pub returns-then-refusal-ne0 : goal.returns-then-refusal-ne0

@@ -3,11 +3,6 @@ use native.Mathlib.Omega.{arith}
 use Rattle.theory_laws.proofs.Questions.{asks, asks-given}
 use Rattle.code_codeword.proofs.Lengths.{gammas_fit}
 use Rattle.theory_claim.specs.Commit.{commit_number}
-use borrow.Author.Rules.{rules}
-use Rattle.code_commit.proofs.number.Reads as reads
-use Rattle.code_commit.proofs.number.Lts as lts
-use Rattle.code_codeword.proofs.sizes.holds.Reads as holds-reads
-use Rattle.code_commit.proofs.trees.tree_bytes.Reads as tree-bytes-reads
 use Rattle.code_commit.proofs.number.Goals as goal
 
 pub returns-then-n-gt20 : goal.returns-then-n-gt20

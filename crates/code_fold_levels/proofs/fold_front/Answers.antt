@@ -8,10 +8,6 @@ use Rattle.code_levels.proofs.Laying.{Within, within}
 use Rattle.code_levels.proofs.Slices.{length_of_part}
 use Rattle.code_fold_levels.proofs.Folding.{level_paired, front-folded}
 use borrow.Author.Rules.{rules}
-use Rattle.code_fold_levels.proofs.fold_front.Reads as reads
-use Rattle.code_fold_levels.proofs.fold_front.Lts as lts
-use Rattle.code_codeword.proofs.folding.fold_into.Reads as fold-into-reads
-use Rattle.code_level.proofs.level_length.Reads as level-length-reads
 use Rattle.code_fold_levels.proofs.fold_front.Goals as goal
 use Rattle.code_fold_levels.proofs.fold_front.Goals.{After-level_length-size}
 
@@ -23,7 +19,7 @@ pub overflow_add-to : goal.overflow_add-to
 overflow_add-to c = let w = (fits c) in search rules
 
 pub overflow_mul-to : goal.overflow_mul-to
-overflow_mul-to c = let sum = add-to c in search rules
+overflow_mul-to c = let w = fits c in search rules
 
 pub offset_bounds-levels-from : goal.offset_bounds-levels-from
 offset_bounds-levels-from c = let w = (fits c) in search rules

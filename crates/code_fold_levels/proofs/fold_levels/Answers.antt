@@ -4,11 +4,6 @@ use Rattle.theory_laws.proofs.Questions.{no_zero, zero-said}
 use Rattle.code_fold_levels.proofs.Sizes.{sizes-given, fold-room, tree-room}
 use Rattle.code_fold_levels.proofs.Folding.{trees_same, roots_same}
 use borrow.Author.Rules.{rules}
-use Rattle.code_fold_levels.proofs.fold_levels.Reads as reads
-use Rattle.code_fold_levels.proofs.fold_levels.Lts as lts
-use Rattle.code_fold_levels.proofs.fold_all.Reads as fold-all-reads
-use Rattle.code_fold_levels.proofs.number.Reads as number-reads
-use Rattle.code_level_trees.proofs.all_trees.Reads as all-trees-reads
 use Rattle.code_fold_levels.proofs.fold_levels.Goals as goal
 
 pub returns-then-refusal-ne0 : goal.returns-then-refusal-ne0

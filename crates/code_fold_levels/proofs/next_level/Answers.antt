@@ -4,11 +4,6 @@ use native.Mathlib.Omega.{arith}
 use Rattle.code_levels.proofs.Laying.{within, next-from}
 use Rattle.code_fold_levels.proofs.Folding.{next-laid}
 use borrow.Author.Rules.{rules}
-use Rattle.code_fold_levels.proofs.next_level.Reads as reads
-use Rattle.code_fold_levels.proofs.next_level.Lts as lts
-use Rattle.code_fold_levels.proofs.fold_front.Reads as fold-front-reads
-use Rattle.code_level.proofs.level_length.Reads as level-length-reads
-use Rattle.code_levels.proofs.lay.Reads as lay-reads
 use Rattle.code_fold_levels.proofs.next_level.Goals as goal
 
 pub overflow_add-to : goal.overflow_add-to
@@ -17,7 +12,9 @@ overflow_add-to c =
     search rules
 
 pub overflow_mul-to : goal.overflow_mul-to
-overflow_mul-to c = let sum = add-to c in search rules
+overflow_mul-to c =
+    let w = within c.requires.0 c.level_length.ensures in
+    search rules
 
 pub lay-requires : goal.lay-requires
 lay-requires c =

@@ -13,12 +13,6 @@ use Rattle.code_level.proofs.Totals.{length-small, levels_fit}
 use Rattle.code_fold_levels.specs.Levels.{fold_levels_number}
 use Rattle.code_fold_levels.proofs.Sizes.{lengths_yes}
 use borrow.Author.Rules.{rules}
-use Rattle.code_fold_levels.proofs.number.Reads as reads
-use Rattle.code_fold_levels.proofs.number.Lts as lts
-use Rattle.code_level.proofs.level_length.Reads as level-length-reads
-use Rattle.code_level.proofs.levels_length.Reads as levels-length-reads
-use Rattle.code_level.proofs.size_number.Reads as size-number-reads
-use Rattle.code_level.proofs.trees_size.Reads as trees-size-reads
 use Rattle.code_fold_levels.proofs.number.Goals as goal
 use Rattle.code_fold_levels.proofs.number.Goals.{Else-roots-n, Else-x-ne0}
 

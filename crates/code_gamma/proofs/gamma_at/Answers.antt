@@ -7,7 +7,6 @@ use Rattle.hash_chunk.specs.State.{finished}
 use Rattle.hash_chunk.proofs.Feed.{fits_after}
 use Rattle.code_gamma.specs.helpers.Prefix.{gamma_rest}
 use Rattle.code_gamma.proofs.Messages.{length-gamma_rest}
-use borrow.Author.Rules.{rules}
 use Rattle.code_gamma.proofs.gamma_at.Goals as goal
 
 pub finish-digest-requires : goal.finish-digest-requires

@@ -1,8 +1,6 @@
 use borrow.Author.Rules.{rules}
 use Rattle.theory_laws.proofs.Questions.{asks}
 use Rattle.code_level.proofs.Sizes.{from_threshold, below_threshold}
-use Rattle.code_level.proofs.fold_tree_width.Reads as reads
-use Rattle.code_level.proofs.fold_tree_width.Lts as lts
 use Rattle.code_level.proofs.fold_tree_width.Goals as goal
 
 pub returns-then-len-threshold_of : goal.returns-then-len-threshold_of

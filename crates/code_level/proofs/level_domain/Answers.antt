@@ -1,10 +1,6 @@
 -- `code_level::level_domain` meets its contract.
 use native.Mathlib.Omega.{arith}
 use Rattle.theory_record.proofs.Domain.{length-level_domain}
-use borrow.Author.Rules.{rules}
-use Rattle.code_level.proofs.level_domain.Reads as reads
-use Rattle.code_level.proofs.level_domain.Lts as lts
-use Rattle.code_level.proofs.put_domain.Reads as put-domain-reads
 use Rattle.code_level.proofs.level_domain.Goals as goal
 
 pub put_domain-requires : goal.put_domain-requires

@@ -1,9 +1,6 @@
 -- `code_level::levels_length` meets its contract.
 use Rattle.code_level.proofs.Totals.{levels_fit, levels_are}
 use borrow.Author.Rules.{rules}
-use Rattle.code_level.proofs.levels_length.Reads as reads
-use Rattle.code_level.proofs.levels_length.Lts as lts
-use Rattle.code_level.proofs.level_length.Reads as level-length-reads
 use Rattle.code_level.proofs.levels_length.Goals as goal
 
 pub overflow_mul-result : goal.overflow_mul-result

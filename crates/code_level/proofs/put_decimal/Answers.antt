@@ -1,10 +1,6 @@
 use Rattle.code_level.proofs.Domains.{one-digit, two_digits, one-digit-long, two-digits-long}
 use native.Mathlib.Omega.{arith}
 use lib.ListN.{length-set}
-use borrow.Author.Rules.{rules}
-use Rattle.code_level.proofs.put_decimal.Reads as reads
-use Rattle.code_level.proofs.put_decimal.Lts as lts
-use Rattle.code_level.proofs.digit_of.Reads as digit-of-reads
 use Rattle.code_level.proofs.put_decimal.Goals as goal
 
 pub bounds-out-from : goal.bounds-out-from

@@ -2,10 +2,6 @@
 use native.Mathlib.Omega.{arith}
 use Rattle.code_level.proofs.Domains.{domain_put, domain-long}
 use borrow.Author.Rules.{rules}
-use Rattle.code_level.proofs.put_domain.Reads as reads
-use Rattle.code_level.proofs.put_domain.Lts as lts
-use Rattle.bytes_numbers.proofs.put.Reads as put_reads
-use Rattle.code_level.proofs.put_decimal.Reads as put-decimal-reads
 use Rattle.code_level.proofs.put_domain.Goals as goal
 
 pub put-a-requires : goal.put-a-requires

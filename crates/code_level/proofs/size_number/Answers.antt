@@ -1,7 +1,5 @@
 use Rattle.code_level.specs.Sizes.{size_number}
 use Rattle.theory_laws.proofs.Questions.{asks}
-use Rattle.code_level.proofs.size_number.Reads as reads
-use Rattle.code_level.proofs.size_number.Lts as lts
 use Rattle.code_level.proofs.size_number.Goals as goal
 
 pub returns-then-n-gt20 : goal.returns-then-n-gt20

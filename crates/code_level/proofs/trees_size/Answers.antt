@@ -1,14 +1,7 @@
 -- `code_level::trees_size` meets its contract.
 use borrow.Author.Rules.{rules}
 use Rattle.code_level.proofs.Totals.{level-small, starts_small, no_digests, digests-step, trees_are}
-use Prim.Native.Nat.{◌+◌, ◌-◌, ◌≤◌}
-use mathlib.Core.Path.{◌≡◌}
-use Rattle.theory_record.specs.Widths.{widths_of}
-use Rattle.theory_record.specs.Build.{tree_start}
 use Rattle.theory_record.proofs.Ranges.{sizes-small}
-use Rattle.code_level.proofs.trees_size.Reads as reads
-use Rattle.code_level.proofs.trees_size.Lts as lts
-use Rattle.code_level.proofs.level_groups.Reads as level-groups-reads
 use Rattle.code_level.proofs.trees_size.Goals as goal
 
 pub loop-l-init : goal.loop-l-init

@@ -1,6 +1,5 @@
 -- `code_level::width_of` meets its contract: each arm has its set's width.
 use mathlib.Core.Path.{sym, ap}
-use borrow.Author.Rules.{rules}
 use Rattle.theory_record.specs.declared.WidthSet.{WidthSet}
 use Rattle.theory_record.specs.Widths.{widths_of}
 use Rattle.code_level.proofs.width_of.Goals as goal

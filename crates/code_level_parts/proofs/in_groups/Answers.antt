@@ -1,7 +1,6 @@
 -- `code_level_parts::in_groups` meets its contract.
 use Prim.Native.Nat.{◌+◌}
 use mathlib.Core.Path.{◌∙◌, ap}
-use borrow.Author.Rules.{rules}
 use lib.Dec.{leb}
 use Rattle.code_level_parts.proofs.in_groups.Goals as goal
 

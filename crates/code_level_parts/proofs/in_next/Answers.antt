@@ -2,7 +2,6 @@
 use Prim.Native.Nat.{◌+◌}
 use mathlib.Core.Path.{◌∙◌, ap}
 use native.Mathlib.Numerals.{add-one}
-use borrow.Author.Rules.{rules}
 use lib.Dec.{leb}
 use Rattle.theory_record.specs.Widths.{level_length}
 use Rattle.code_level_parts.proofs.in_next.Goals as goal

@@ -1,6 +1,5 @@
 -- `code_level_parts::level_leaves` meets its contract.
 use mathlib.Core.Path.{refl}
-use borrow.Author.Rules.{rules}
 use Rattle.theory_laws.proofs.Questions.{no_zero, zero-said}
 use Rattle.code_level_parts.proofs.Allowed.{leaves_fit}
 use Rattle.code_level_parts.proofs.level_leaves.Goals as goal

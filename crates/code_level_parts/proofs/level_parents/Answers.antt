@@ -1,6 +1,5 @@
 -- `code_level_parts::level_parents` meets its contract.
 use mathlib.Core.Path.{refl}
-use borrow.Author.Rules.{rules}
 use Rattle.theory_laws.proofs.Questions.{no_zero, zero-said}
 use Rattle.code_level_parts.proofs.Allowed.{parents_fit}
 use Rattle.code_level_parts.proofs.level_parents.Goals as goal

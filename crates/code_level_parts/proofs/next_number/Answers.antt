@@ -7,11 +7,10 @@ use Rattle.code_level_parts.specs.Numbers.{next_part_number}
 use Prim.Native.Nat.{◌*◌}
 use mathlib.Core.Path.{sym, ap, ◌∙◌}
 use native.Mathlib.Omega.{arith}
-use borrow.Author.Tests.{leb-true, not-false}
+use borrow.Author.Tests.{leb-true}
 use borrow.Author.Rules.{rules}
 use Rattle.code_level_parts.proofs.Allowed.{next_yes}
 use Rattle.code_level_parts.proofs.next_number.Goals as goal
-use Rattle.code_level_parts.proofs.next_number.Goals.{Else-out-ne0}
 
 pub returns-then-x-ne0 : goal.returns-then-x-ne0
 unfolding next_part_number
@@ -58,6 +57,6 @@ returns c =
       k_le = z.k_most;
       level-lt = omega arith;
       values_are = c.if-values-level_length.false ∙ ap (◌*◌ 2) c.level_length.ensures;
-      (goal.at.returns c).Else-out-ne0 = c.if-out-ne0.false;
-      c = leb-true _ _ (sym c.in_next.ensures ∙ not-false _ c.if-not-in_next.false);
+      whole = c.if-out-ne0.false;
+      within = leb-true _ _ (sym c.in_next.ensures ∙ c.if-not-in_next.false);
     })

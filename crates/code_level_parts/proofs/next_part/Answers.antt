@@ -1,6 +1,5 @@
 -- `code_level_parts::next_part` meets its contract.
 use mathlib.Core.Path.{refl}
-use borrow.Author.Rules.{rules}
 use Rattle.theory_laws.proofs.Questions.{no_zero, zero-said}
 use Rattle.code_level_parts.proofs.Allowed.{next_fits}
 use Rattle.code_level_parts.proofs.next_part.Goals as goal

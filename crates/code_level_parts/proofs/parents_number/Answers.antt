@@ -2,7 +2,6 @@
 use Rattle.theory_laws.proofs.Questions.{asks, asks-given}
 use Rattle.code_level.proofs.Sizes.{asks-sizes}
 use Rattle.code_level_parts.specs.Numbers.{level_parents_number}
-use borrow.Author.Rules.{rules}
 use Rattle.code_level_parts.proofs.parents_number.Goals as goal
 
 pub returns-then-x-ne0 : goal.returns-then-x-ne0

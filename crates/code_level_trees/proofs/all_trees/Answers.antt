@@ -2,10 +2,6 @@
 use native.Mathlib.Omega.{arith}
 use Rattle.code_level_trees.proofs.Growing.{first_made, first_starts}
 use borrow.Author.Rules.{rules}
-use Rattle.code_level_trees.proofs.all_trees.Reads as reads
-use Rattle.code_level_trees.proofs.all_trees.Lts as lts
-use Rattle.code_level_trees.proofs.level_trees.Reads as level-trees-reads
-use Rattle.code_level_trees.proofs.put_tree.Reads as put-tree-reads
 use Rattle.code_level_trees.proofs.all_trees.Goals as goal
 
 pub put_tree-requires : goal.put_tree-requires

@@ -1,18 +1,8 @@
 -- `code_level_trees::level_trees` meets its contract: the trees and roots below l are made.
-use Prim.Native.Nat.{◌+◌, ◌-◌}
 use mathlib.Core.Path.{sym, ◌∙◌}
 use native.Mathlib.Omega.{arith}
-use Rattle.theory_field.specs.Words.{words}
-use Rattle.theory_record.specs.Build.{level_values}
-use Rattle.code_level_trees.specs.helpers.Grown.{Grown}
 use Rattle.code_level_trees.proofs.Growing.{first-room, first-tree-room, begun, level-room, tree-room, grown-more, all_trees, all_roots}
 use borrow.Author.Rules.{rules}
-use Rattle.code_level_trees.proofs.level_trees.Reads as reads
-use Rattle.code_level_trees.proofs.level_trees.Lts as lts
-use Rattle.code_level_trees.proofs.put_root.Reads as put-root-reads
-use Rattle.code_level_trees.proofs.put_tree.Reads as put-tree-reads
-use Rattle.code_level.proofs.level_length.Reads as level-length-reads
-use Rattle.code_commit.proofs.trees.tree_bytes.Reads as tree-bytes-reads
 use Rattle.code_level_trees.proofs.level_trees.Goals as goal
 
 pub level_length-from-requires : goal.level_length-from-requires
@@ -57,7 +47,10 @@ overflow_add-from c =
     search rules
 
 pub overflow_mul-from-in-loop-l : goal.overflow_mul-from-in-loop-l
-overflow_mul-from-in-loop-l c = let sum = add-from c in search rules
+overflow_mul-from-in-loop-l c =
+    let g = c.loop-l.invariant in
+    let w = level-room _ _ _ c.loop-l-test.true g.from= c.level_length.ensures c.requires.0.levels_long in
+    search rules
 
 pub tree_bytes-at-requires-in-loop-l : goal.tree_bytes-at-requires-in-loop-l
 tree_bytes-at-requires-in-loop-l c =

@@ -1,18 +1,8 @@
 -- `code_level_trees::level_trees` meets its contract: the trees and roots below l are made.
 use Prim.Native.Nat.{◌+◌, ◌-◌}
-use mathlib.Core.Path.{sym, ◌∙◌}
-use native.Mathlib.Omega.{arith}
 use Rattle.theory_field.specs.Words.{words}
 use Rattle.theory_record.specs.Build.{level_values}
 use Rattle.code_level_trees.specs.helpers.Grown.{Grown}
-use Rattle.code_level_trees.proofs.Growing.{first-room, first-tree-room, begun, level-room, tree-room, grown-more, all_trees, all_roots}
-use borrow.Author.Rules.{rules}
-use Rattle.code_level_trees.proofs.level_trees.Reads as reads
-use Rattle.code_level_trees.proofs.level_trees.Lts as lts
-use Rattle.code_level_trees.proofs.put_root.Reads as put-root-reads
-use Rattle.code_level_trees.proofs.put_tree.Reads as put-tree-reads
-use Rattle.code_level.proofs.level_length.Reads as level-length-reads
-use Rattle.code_commit.proofs.trees.tree_bytes.Reads as tree-bytes-reads
 use Rattle.code_level_trees.proofs.level_trees.Given as goal
 
 abbrev pub invariant-loop-l : goal.invariant-loop-l

@@ -1,8 +1,6 @@
 -- `code_level_trees::put_root` meets its contract.
 use Rattle.bytes_numbers.proofs.Stores.{same_put}
 use borrow.Author.Rules.{rules}
-use Rattle.code_level_trees.proofs.put_root.Reads as reads
-use Rattle.code_level_trees.proofs.put_root.Lts as lts
 use Rattle.code_level_trees.proofs.put_root.Goals as goal
 
 pub returns : goal.returns

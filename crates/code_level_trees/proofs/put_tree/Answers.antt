@@ -5,11 +5,6 @@ use lib.ListN.{length}
 use Rattle.code_levels.proofs.Slices.{length_of_part}
 use Rattle.code_level_trees.proofs.Growing.{level-room, tree-room, length_of_middle, tree_put}
 use borrow.Author.Rules.{rules}
-use Rattle.code_level_trees.proofs.put_tree.Reads as reads
-use Rattle.code_level_trees.proofs.put_tree.Lts as lts
-use Rattle.code_level.proofs.level_length.Reads as level-length-reads
-use Rattle.code_commit.proofs.trees.build_level.Reads as build-level-reads
-use Rattle.code_commit.proofs.trees.tree_bytes.Reads as tree-bytes-reads
 use Rattle.code_level_trees.proofs.put_tree.Goals as goal
 use Rattle.code_level_trees.proofs.put_tree.Goals.{After-level_length, After-tree_bytes}
 

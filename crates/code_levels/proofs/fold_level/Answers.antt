@@ -8,10 +8,6 @@ use Rattle.theory_record.proofs.Offsets.{values_of_part}
 use Rattle.code_levels.proofs.Laying.{within}
 use Rattle.code_levels.proofs.Slices.{length_of_part, fold-number, fold-front}
 use borrow.Author.Rules.{rules}
-use Rattle.code_levels.proofs.fold_level.Reads as reads
-use Rattle.code_levels.proofs.fold_level.Lts as lts
-use Rattle.code_codeword.proofs.fold.Reads as fold-reads
-use Rattle.code_level.proofs.level_length.Reads as level-length-reads
 use Rattle.code_levels.proofs.fold_level.Goals as goal
 
 pub overflow_mul-to : goal.overflow_mul-to
@@ -36,6 +32,16 @@ slice_bounds-fold-end-3 c =
 
 pub returns : goal.returns
 returns c =
-    let p = c.requires.0 in let a = c.args in let es = c.level_length.ensures in let w = within p es in
-    let e = c.fold-a.ensures in let room = length-take-le _ _ c.requires.1 in
-    let out = c.fold-a.auto.out ∙ room in record { value = fold-number _ _ _ _ _ _ e.0 (length_of_part _ _ _ p.from= es _ (omega arith) ∙ ap (λ (x : ℕ). 2 * x) es) room; coordinates_after = e.1.0; half_after = fold-front _ c.fold-a.result.number a.var (word a.r) a.half.now _ _ _ _ out e.1.1 (values_of_part _ _ _ p.from= es _); half_unchanged = drop_at c.fold-a.new.out _ _ out }
+    let p = c.requires.0 in
+    let a = c.args in
+    let es = c.level_length.ensures in
+    let w = within p es in
+    let e = c.fold-a.ensures in
+    let room = length-take-le _ _ c.requires.1 in
+    let out = c.fold-a.auto.out ∙ room in
+    record {
+      value = fold-number _ _ _ _ _ _ e.value (length_of_part _ _ _ p.from= es _ (omega arith) ∙ ap (λ (x : ℕ). 2 * x) es) room;
+      coordinates_after = e.coordinates_after;
+      half_after = fold-front _ c.fold-a.result.number a.var (word a.r) a.half.now _ _ _ _ out e.out_after (values_of_part _ _ _ p.from= es _);
+      half_unchanged = drop_at c.fold-a.new.out _ _ out;
+    }

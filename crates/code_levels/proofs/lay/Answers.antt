@@ -6,9 +6,6 @@ use lib.Seq.{length-take-le}
 use Rattle.code_levels.proofs.Laying.{within}
 use Rattle.code_levels.proofs.Slices.{length_of_part, part-laid, laid_same, twice-fits}
 use borrow.Author.Rules.{rules}
-use Rattle.code_levels.proofs.lay.Reads as reads
-use Rattle.code_levels.proofs.lay.Lts as lts
-use Rattle.code_level.proofs.level_length.Reads as level-length-reads
 use Rattle.code_levels.proofs.lay.Goals as goal
 
 pub overflow_mul-room : goal.overflow_mul-room

@@ -1,9 +1,7 @@
 -- `code_parts::encode_half` meets its contract.
-use Prim.Native.Nat.{ℕ, suc, ◌-◌, ◌*◌}
+use Prim.Native.Nat.{ℕ, ◌-◌, ◌*◌}
 use mathlib.Core.Path.{ap, ◌∙◌}
 use native.Mathlib.Omega.{arith}
-use borrow.Author.Rules.{rules}
-use lib.ListN.{length}
 use Rattle.theory_laws.specs.Lists.{part}
 use Rattle.theory_field.specs.Words.{words}
 use Rattle.theory_field.proofs.Words.{words-lt}

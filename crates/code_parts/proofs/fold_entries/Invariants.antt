@@ -1,18 +1,12 @@
 -- `code_parts::fold_entries` meets its contract. The loop's invariant: the first v words are those of the fold.
-use mathlib.Core.Path.{◌≡◌, refl, ap, ap₂, ◌∙◌}
-use Prim.Native.Nat.{ℕ, ◌+◌, ◌-◌, ◌*◌, ◌/◌, ◌%◌, ◌^◌, ◌≤◌}
-use native.Mathlib.Omega.{arith}
-use borrow.Author.Rules.{rules}
-use lib.Pow.{pow_pos}
+use mathlib.Core.Path.{◌≡◌}
+use Prim.Native.Nat.{◌+◌, ◌-◌, ◌≤◌}
 use lib.ListN.{length}
 use Rattle.theory_laws.specs.Table.{at}
-use Rattle.theory_laws.proofs.Updates.{updated, updated_end, updated-turn}
+use Rattle.theory_laws.proofs.Updates.{updated}
 use Rattle.theory_field.specs.Words.{words}
-use Rattle.theory_field.proofs.Words.{length-words-even}
 use Rattle.field_gf128.specs.Word.{word}
-use Rattle.theory_multilinear.specs.Fold.{line, fold_at}
-use Rattle.field_runs.proofs.Pairs.{Pair, shift, stride, pair}
-use Rattle.code_parts.proofs.FoldPart.{part-made}
+use Rattle.theory_multilinear.specs.Fold.{fold_at}
 use Rattle.code_parts.proofs.fold_entries.Given as goal
 
 abbrev pub invariant-loop-v : goal.invariant-loop-v

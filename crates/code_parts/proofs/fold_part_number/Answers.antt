@@ -1,5 +1,4 @@
 -- `code_parts::fold_part_number` meets its contract.
-use borrow.Author.Rules.{rules}
 use Rattle.theory_laws.proofs.Questions.{asks}
 use Rattle.theory_code.specs.PartQuestions.{fold_part_number}
 use Rattle.code_parts.proofs.fold_part_number.Goals as goal

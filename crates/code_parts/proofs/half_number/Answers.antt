@@ -1,6 +1,5 @@
 -- `code_parts::half_number` meets its contract.
 use native.Mathlib.Omega.{arith}
-use borrow.Author.Rules.{rules}
 use Rattle.code_parts.proofs.Lengths.{half-said, no_half}
 use Rattle.code_parts.proofs.half_number.Goals as goal
 

@@ -1,6 +1,5 @@
 -- `code_parts::is_block` meets its contract.
 use mathlib.Core.Path.{ap}
-use borrow.Author.Rules.{rules}
 use lib.Dec.{ltb}
 use Rattle.code_parts.proofs.is_block.Goals as goal
 

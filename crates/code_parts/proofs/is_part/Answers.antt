@@ -1,7 +1,6 @@
 -- `code_parts::is_part` meets its contract.
 use Prim.Native.Nat.{◌+◌, ◌/◌}
 use mathlib.Core.Path.{◌∙◌, ap}
-use borrow.Author.Rules.{rules}
 use lib.Dec.{leb}
 use Rattle.code_parts.proofs.is_part.Goals as goal
 

@@ -1,6 +1,5 @@
 -- `code_parts::number_within` meets its contract.
 use native.Mathlib.Omega.{arith}
-use borrow.Author.Rules.{rules}
 use Rattle.theory_laws.proofs.Questions.{asks}
 use Rattle.code_parts.specs.helpers.Half.{number_within}
 use Rattle.code_codeword.proofs.Lengths.{gammas_fit}

@@ -1,7 +1,6 @@
 -- `code_parts::put_fold_part` meets its contract: the table is one for the windows of the kernel that was chosen.
 use Prim.Native.Nat.{suc}
 use native.Mathlib.Omega.{arith}
-use borrow.Author.Rules.{rules}
 use lib.Pow.{pow_pos}
 use Rattle.field_runs.proofs.Chosen.{chosen}
 use Rattle.code_parts.proofs.put_fold_part.Goals as goal

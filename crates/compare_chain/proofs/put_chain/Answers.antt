@@ -1,6 +1,5 @@
 -- `put_chain` meets its contract: the leaf message, and the node messages after it.
 use Rattle.compare_chain.proofs.Nodes.{chain_stored}
-use borrow.Author.Rules.{rules}
 use Rattle.compare_chain.proofs.put_chain.Goals as goal
 
 pub returns : goal.returns

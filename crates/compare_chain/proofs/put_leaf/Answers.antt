@@ -17,7 +17,9 @@ slice_bounds-digest-end-2 c =
 
 pub digest-requires : goal.digest-requires
 digest-requires c =
-    let p = c.leaf_prefix-prefix.ensures in let q = c.leaf_rest-n.ensures in omega (arith, both_long _ _ _ _ _ _ _ _ _ p q (omega arith), q.end, p.end)
+    let p = c.leaf_prefix-prefix.ensures in
+    let q = c.leaf_rest-n.ensures in
+    omega (arith, both_long _ _ _ _ _ _ _ _ _ p q (omega arith), q.end, p.end)
 
 pub returns : goal.returns
 returns c =

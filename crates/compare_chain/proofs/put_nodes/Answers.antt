@@ -1,13 +1,9 @@
 -- `put_nodes` meets its contract. The loop's invariant: storing the messages that are left gives the final buffer, and there is room for them.
-use Prim.Native.Nat.{◌≤◌, ◌-◌, ◌+◌, ◌*◌}
-use mathlib.Core.Path.{◌≡◌, refl}
+use Prim.Native.Nat.{◌+◌}
+use mathlib.Core.Path.{refl}
 use native.Mathlib.Omega.{arith}
-use lib.ListN.{length, drop}
-use Rattle.theory_laws.specs.Lists.{runs, flat, stored}
-use Rattle.theory_blake3.specs.Modes.{under}
-use Rattle.tree_place.specs.Place.{number}
-use Rattle.compare_chain.specs.helpers.Nodes.{nodes_of}
-use Rattle.compare_chain.proofs.Nodes.{nodes_left, nodes_begin, nodes_step, nodes_end, room_begin, one_more}
+use lib.ListN.{length}
+use Rattle.compare_chain.proofs.Nodes.{nodes_begin, nodes_step, nodes_end, room_begin, one_more}
 use borrow.Author.Rules.{rules}
 use Rattle.compare_chain.proofs.put_nodes.Goals as goal
 
@@ -27,7 +23,8 @@ overflow_add-at-in-loop-l c =
 
 pub loop-l-preserved : goal.loop-l-preserved
 loop-l-preserved c =
-    let t = c.loop-l-test.true in let h = one_more (136 + length c.args.domain.now) _ _ t in (
+    let t = c.loop-l-test.true in
+    let h = one_more (136 + length c.args.domain.now) _ _ t in (
       search rules,
       search rules,
       omega arith,

@@ -1,14 +1,12 @@
 -- `put_nodes` meets its contract. The loop's invariant: storing the messages that are left gives the final buffer, and there is room for them.
 use Prim.Native.Nat.{◌≤◌, ◌-◌, ◌+◌, ◌*◌}
-use mathlib.Core.Path.{◌≡◌, refl}
-use native.Mathlib.Omega.{arith}
+use mathlib.Core.Path.{◌≡◌}
 use lib.ListN.{length, drop}
 use Rattle.theory_laws.specs.Lists.{runs, flat, stored}
 use Rattle.theory_blake3.specs.Modes.{under}
 use Rattle.tree_place.specs.Place.{number}
 use Rattle.compare_chain.specs.helpers.Nodes.{nodes_of}
-use Rattle.compare_chain.proofs.Nodes.{nodes_left, nodes_begin, nodes_step, nodes_end, room_begin, one_more}
-use borrow.Author.Rules.{rules}
+use Rattle.compare_chain.proofs.Nodes.{nodes_left}
 use Rattle.compare_chain.proofs.put_nodes.Given as goal
 
 abbrev pub invariant-loop-l : goal.invariant-loop-l

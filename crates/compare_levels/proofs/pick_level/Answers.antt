@@ -15,7 +15,8 @@ returns-then-m-ne0 c =
 
 pub pick_path-requires : goal.pick_path-requires
 pick_path-requires c =
-    let z = c.requires in record {
+    let z = c.requires in
+    record {
       pair_most = z.pair_most;
       first_sized = z.first_sized;
       second_sized = z.second_sized;

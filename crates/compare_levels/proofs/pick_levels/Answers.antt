@@ -1,14 +1,9 @@
 -- `compare_levels::pick_levels` meets its contract: below level l nothing was found, and the buffers are as they were.
-use Prim.Native.Nat.{◌≤◌, ◌-◌}
-use mathlib.Core.Path.{◌≡◌, refl}
+use mathlib.Core.Path.{refl}
 use native.Mathlib.Omega.{arith}
-use lib.ListN.{length}
-use Rattle.theory_compare.specs.Compare.{records_found}
-use Rattle.tree_place.specs.Place.{index}
-use Rattle.compare_levels.proofs.Level.{Rest, rest_begin, rest-next, level-sized, pair-low}
-use Rattle.compare_levels.proofs.Levels.{found_begin, NoneBelow, level-picked, level_stop, level-next, levels_end}
+use Rattle.compare_levels.proofs.Level.{rest_begin, rest-next, level-sized, pair-low}
+use Rattle.compare_levels.proofs.Levels.{found_begin, level-picked, level_stop, level-next, levels_end}
 use borrow.Author.Rules.{rules}
-use Rattle.theory_record.specs.Scheme.{scheme}
 use Rattle.compare_levels.proofs.pick_levels.Goals as goal
 
 pub loop-l-init : goal.loop-l-init
@@ -28,11 +23,16 @@ pub level_at-y-requires : goal.level_at-y-requires
 level_at-y-requires c = c.loop-l.invariant.2.within
 
 pub pair_of-q-requires : goal.pair_of-q-requires
-pair_of-q-requires c = let a = c.loop-l.invariant.1.allowed in let h = c.loop-l-test.true in omega arith
+pair_of-q-requires c =
+    let a = c.loop-l.invariant.1.allowed in
+    let h = c.loop-l-test.true in
+    omega arith
 
 pub pick_level-m-requires : goal.pick_level-m-requires
 pick_level-m-requires c =
-    let p = c.requires in let test = c.loop-l-test.true in record {
+    let p = c.requires in
+    let test = c.loop-l-test.true in
+    record {
       pair_most = pair-low _ c.loop-l.invariant.1 test c.level_at-x.ensures _ c.pair_of-q.ensures;
       first_sized = level-sized _ c.loop-l.invariant.1 test c.level_at-x.ensures;
       second_sized = level-sized _ c.loop-l.invariant.2 test c.level_at-y.ensures;
@@ -48,8 +48,8 @@ returns-then-m-ne0 c =
 
 pub loop-l-preserved : goal.loop-l-preserved
 loop-l-preserved c =
-    let test = c.loop-l-test.true in let none =
-    level-next c.loop-l.invariant.5
+    let test = c.loop-l-test.true in
+    let none = level-next c.loop-l.invariant.5
     (level-picked c.level_at-x.ensures c.level_at-y.ensures c.pair_of-q.ensures c.pick_level-m.ensures)
     test c.if-m-ne0.false in (
       search rules,

@@ -1,11 +1,11 @@
 -- `compare_levels::pick_path` meets its contract.
 use Rattle.compare_levels.proofs.Level.{path-c, path-a}
-use borrow.Author.Rules.{rules}
 use Rattle.compare_levels.proofs.pick_path.Goals as goal
 
 pub pick_opening-requires : goal.pick_opening-requires
 pick_opening-requires c =
-    let z = c.requires in record {
+    let z = c.requires in
+    record {
       first_sized = z.first_sized.c_sized;
       second_sized = z.second_sized.c_sized;
       first-room = z.first-room;
@@ -18,7 +18,8 @@ returns-then-next c =
 
 pub pick_opening-requires-2 : goal.pick_opening-requires-2
 pick_opening-requires-2 c =
-    let z = c.requires in record {
+    let z = c.requires in
+    record {
       first_sized = z.first_sized.a_sized;
       second_sized = z.second_sized.a_sized;
       first-room = z.first-room;

@@ -44,7 +44,8 @@ put_chain-requires c =
 pub returns : goal.returns
 returns c =
     let h = room _ c.requires.0 in
-    let at = c.level_domain-d.ensures in record {
+    let at = c.level_domain-d.ensures in
+    record {
       value = omega (arith, at.end);
       out_after = chain_written _ c.requires.0 _ _ _ _ _ _ _ c.put_chain.ensures (prefix-is _ _ _ _ _ at (omega arith)) c.level_length-count.ensures
           c.level_width-width.ensures c.level_depth-depth.ensures;

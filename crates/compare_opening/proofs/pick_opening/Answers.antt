@@ -15,16 +15,24 @@ small c =
     omega (arith, c.level_chain-d.ensures.value, c.level_width-width.ensures)
 
 pub overflow_add-d : goal.overflow_add-d
-overflow_add-d c = let h = small (goal.at.overflow_add-d c).After-level_depth-depth in search rules
+overflow_add-d c =
+    let h = small (goal.at.overflow_add-d c).After-level_depth-depth in
+    search rules
 
 pub overflow_mul-width : goal.overflow_mul-width
-overflow_mul-width c = let h = small (goal.at.overflow_mul-width c).After-level_depth-depth in search rules
+overflow_mul-width c =
+    let h = small (goal.at.overflow_mul-width c).After-level_depth-depth in
+    search rules
 
 pub overflow_add-d-2 : goal.overflow_add-d-2
-overflow_add-d-2 c = let h = small (goal.at.overflow_add-d-2 c).After-level_depth-depth in search rules
+overflow_add-d-2 c =
+    let h = small (goal.at.overflow_add-d-2 c).After-level_depth-depth in
+    search rules
 
 pub overflow_add-d-3 : goal.overflow_add-d-3
-overflow_add-d-3 c = let h = small (goal.at.overflow_add-d-3 c).After-level_depth-depth in search rules
+overflow_add-d-3 c =
+    let h = small (goal.at.overflow_add-d-3 c).After-level_depth-depth in
+    search rules
 
 pub pick_last-requires : goal.pick_last-requires
 pick_last-requires c =

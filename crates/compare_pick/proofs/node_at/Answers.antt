@@ -2,8 +2,6 @@ use native.Mathlib.Omega.{arith}
 use mathlib.Core.Path.{refl}
 use Rattle.compare_pick.proofs.Chains.{node_room}
 use borrow.Author.Rules.{rules}
-use Rattle.compare_pick.proofs.node_at.Reads as reads
-use Rattle.compare_pick.proofs.node_at.Lts as lts
 use Rattle.compare_pick.proofs.node_at.Goals as goal
 
 pub overflow_mul-result : goal.overflow_mul-result

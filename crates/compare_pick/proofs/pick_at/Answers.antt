@@ -1,6 +1,5 @@
 -- `compare_pick::pick_at` meets its contract.
 use Rattle.compare_pick.proofs.Picked.{picked_same, picked_differ}
-use borrow.Author.Rules.{rules}
 use Rattle.compare_pick.proofs.pick_at.Goals as goal
 
 pub returns-then-same_bytes : goal.returns-then-same_bytes

@@ -1,12 +1,10 @@
 -- `compare_pick::pick_last` meets its contract. The loop's invariant: above message i nothing was found, so that the buffers are as they were.
 use Prim.Native.Nat.{◌≤◌}
-use mathlib.Core.Path.{◌≡◌, refl}
-use native.Mathlib.Omega.{arith}
+use mathlib.Core.Path.{◌≡◌}
 use lib.ListN.{length}
 use Rattle.theory_merkle.specs.Binding.{last_differing}
 use Rattle.compare_pick.specs.helpers.Chains.{chain_of}
-use Rattle.compare_pick.proofs.Chains.{found_below, below_all, below_stop, below_step, below_end}
-use borrow.Author.Rules.{rules}
+use Rattle.compare_pick.proofs.Chains.{found_below}
 use Rattle.compare_pick.proofs.pick_last.Given as goal
 
 abbrev pub invariant-loop-i : goal.invariant-loop-i

@@ -1,6 +1,5 @@
 -- `put_message` meets its contract: the message, and zeros after it.
 use Rattle.compare_pick.proofs.Buffers.{message_put}
-use borrow.Author.Rules.{rules}
 use Rattle.compare_pick.proofs.put_message.Goals as goal
 
 pub returns : goal.returns

@@ -1,11 +1,5 @@
 -- `compare_records::compare` meets its contract.
 use Rattle.compare_records.proofs.Answer.{lent-refused, records_refused, comparable, picked-answer}
-use borrow.Author.Rules.{rules}
-use Rattle.compare_records.proofs.compare.Reads as reads
-use Rattle.compare_records.proofs.compare.Lts as lts
-use Rattle.compare_records.proofs.lent_number.Reads as lent-number-reads
-use Rattle.compare_records.proofs.records_number.Reads as records-number-reads
-use Rattle.compare_levels.proofs.pick_levels.Reads as pick-levels-reads
 use Rattle.compare_records.proofs.compare.Goals as goal
 
 pub returns-then-x-ne0 : goal.returns-then-x-ne0

@@ -8,16 +8,22 @@ pub returns-then-x-ne0 : goal.returns-then-x-ne0
 returns-then-x-ne0 c = search wrong_size
 
 pub overflow_mul-n : goal.overflow_mul-n
-overflow_mul-n c = let h = sizes-said _ _ _ c.size_number-x.ensures c.if-x-ne0.false in search rules
+overflow_mul-n c =
+    let h = sizes-said _ _ _ c.size_number-x.ensures c.if-x-ne0.false in
+    search rules
 
 pub returns-then-challenges-n : goal.returns-then-challenges-n
 returns-then-challenges-n c = search wrong_challenges
 
 pub overflow_add-n : goal.overflow_add-n
-overflow_add-n c = let h = sizes-said _ _ _ c.size_number-x.ensures c.if-x-ne0.false in search rules
+overflow_add-n c =
+    let h = sizes-said _ _ _ c.size_number-x.ensures c.if-x-ne0.false in
+    search rules
 
 pub overflow_mul-n-2 : goal.overflow_mul-n-2
-overflow_mul-n-2 c = let h = sizes-said _ _ _ c.size_number-x.ensures c.if-x-ne0.false in search rules
+overflow_mul-n-2 c =
+    let h = sizes-said _ _ _ c.size_number-x.ensures c.if-x-ne0.false in
+    search rules
 
 pub returns-then-roots-n : goal.returns-then-roots-n
 returns-then-roots-n c = search wrong_roots

@@ -1,9 +1,5 @@
 -- `compare_records::records_number` meets its contract.
 use Rattle.compare_records.proofs.Records.{first-refused, second-refused, are_equal, are_not}
-use borrow.Author.Rules.{rules}
-use Rattle.compare_records.proofs.records_number.Reads as reads
-use Rattle.compare_records.proofs.records_number.Lts as lts
-use Rattle.compare_records.proofs.accepted.Reads as accepted-reads
 use Rattle.compare_records.proofs.records_number.Goals as goal
 
 pub returns-then-not-accepted : goal.returns-then-not-accepted

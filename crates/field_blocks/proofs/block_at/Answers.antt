@@ -1,7 +1,6 @@
 -- `field_blocks::block_at` meets its contract.
 use mathlib.Core.Path.{ap, ◌∙◌}
 use Prim.Native.Nat.{◌*◌}
-use borrow.Author.Rules.{rules}
 use Rattle.theory_gcm.specs.helpers.Mirrored.{turned}
 use Rattle.field_blocks.proofs.Turns.{part_turned}
 use Rattle.field_blocks.proofs.block_at.Goals as goal

@@ -1,7 +1,6 @@
 -- `field_blocks::export_block` meets its contract.
 use Prim.Native.Nat.{◌^◌, ◌<◌}
 use native.Mathlib.Omega.{arith}
-use borrow.Author.Rules.{rules}
 use Rattle.field_gf128.specs.Word.{word}
 use Rattle.field_blocks.proofs.Turns.{export_turned}
 use Rattle.field_blocks.proofs.export_block.Goals as goal

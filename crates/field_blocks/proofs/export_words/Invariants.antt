@@ -1,19 +1,13 @@
 -- `field_blocks::export_words` meets its contract. The loop's invariant: storing the turned words that are left gives the final buffer.
 use Prim.Native.Nat.{◌-◌, ◌*◌, ◌≤◌}
-use mathlib.Core.Path.{◌≡◌, refl, sym, ap, ◌∙◌}
+use mathlib.Core.Path.{◌≡◌}
 use mathlib.Core.List.{map}
-use native.Mathlib.Nat.{zero-add}
-use native.Mathlib.Omega.{arith}
-use borrow.Author.Rules.{rules}
-use lib.ListN.{length, length-map}
-use Rattle.theory_laws.specs.Table.{at}
+use lib.ListN.{length}
 use Rattle.theory_laws.specs.Lists.{stored}
 use Rattle.theory_field.specs.Words.{words}
-use Rattle.theory_field.proofs.Words.{length-words, length-words-even}
 use Rattle.theory_gcm.specs.helpers.Mirrored.{turned}
 use Rattle.field_bytes.specs.Words.{word_bytes}
-use Rattle.field_bytes.proofs.Puts.{words_left, words_begin, words_step, words_put}
-use Rattle.field_blocks.proofs.Runs.{at_map, exported_put}
+use Rattle.field_bytes.proofs.Puts.{words_left}
 use Rattle.field_blocks.proofs.export_words.Given as goal
 
 abbrev pub invariant-loop-v : goal.invariant-loop-v

@@ -2,7 +2,6 @@
 use mathlib.Core.Path.{sym, ap, ◌∙◌}
 use mathlib.Core.List.{List}
 use Prim.Native.Nat.{ℕ}
-use borrow.Author.Rules.{rules}
 use Rattle.theory_laws.specs.Lists.{le_bytes}
 use Rattle.field_blocks.specs.Block.{block}
 use Rattle.field_blocks.specs.Answers.{answer}

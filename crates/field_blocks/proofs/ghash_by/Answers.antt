@@ -1,13 +1,9 @@
 -- `field_blocks::ghash_by` meets its contract. The loop's invariant: the hash from y of the blocks that are left is that of all from zero.
-use Prim.Native.Nat.{◌-◌, ◌≤◌}
-use mathlib.Core.Path.{◌≡◌, sym, ap, ◌∙◌}
+use mathlib.Core.Path.{sym, ap, ◌∙◌}
 use native.Mathlib.Omega.{arith}
-use borrow.Author.Rules.{rules}
 use Rattle.theory_field.specs.Field.{◌⊗◌}
-use Rattle.theory_gcm.specs.helpers.Hash.{hash_from}
 use Rattle.field_gf128.specs.Word.{word}
-use Rattle.field_blocks.specs.Answers.{imported_run}
-use Rattle.field_blocks.proofs.Runs.{hash_left, hash_begin, hash-step, hash_end}
+use Rattle.field_blocks.proofs.Runs.{hash_begin, hash-step, hash_end}
 use Rattle.field_blocks.proofs.ghash_by.Goals as goal
 
 pub loop-v-init : goal.loop-v-init

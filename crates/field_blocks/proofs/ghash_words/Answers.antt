@@ -1,5 +1,4 @@
 -- `field_blocks::ghash_words` meets its contract: the table is one for the windows of the kernel that was chosen.
-use borrow.Author.Rules.{rules}
 use Rattle.field_blocks.proofs.ghash_words.Goals as goal
 
 pub ghash_by-requires : goal.ghash_by-requires

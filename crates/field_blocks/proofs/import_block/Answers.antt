@@ -2,7 +2,6 @@
 use mathlib.Core.Path.{◌∙◌}
 use Prim.Native.Nat.{◌^◌, ◌<◌}
 use native.Mathlib.Omega.{arith}
-use borrow.Author.Rules.{rules}
 use Rattle.field_gf128.specs.Word.{word}
 use Rattle.field_blocks.proofs.Turns.{import_turned}
 use Rattle.field_blocks.proofs.import_block.Goals as goal

@@ -1,11 +1,7 @@
 -- `field_blocks::import_words` meets its contract. The loop's invariant: the first v words are taken in.
-use Prim.Native.Nat.{◌-◌, ◌*◌, ◌≤◌}
-use mathlib.Core.Path.{◌≡◌, ◌∙◌}
+use mathlib.Core.Path.{◌∙◌}
 use native.Mathlib.Omega.{arith}
-use lib.ListN.{length}
-use Rattle.theory_laws.specs.Lists.{part}
-use Rattle.theory_field.proofs.Words.{Filled, filled_more, filled_all}
-use Rattle.theory_gcm.specs.Blocks.{imported}
+use Rattle.theory_field.proofs.Words.{filled_more, filled_all}
 use Rattle.field_blocks.proofs.Runs.{imported-tab}
 use Rattle.field_blocks.proofs.import_words.Goals as goal
 

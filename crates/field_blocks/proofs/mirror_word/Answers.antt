@@ -2,7 +2,6 @@
 use mathlib.Core.Path.{sym, ap₂, ◌∙◌}
 use Prim.Native.Nat.{◌^◌, ◌<◌}
 use native.Mathlib.Omega.{arith}
-use borrow.Author.Rules.{rules}
 use Rattle.theory_field.specs.Words.{joined}
 use Rattle.field_gf128.specs.Word.{word}
 use Rattle.theory_gcm.proofs.Mirrored.{turned-joined}

@@ -1,15 +1,9 @@
 -- `field_equality::eq_build` meets its contract: the buffer begins with the table of the coordinates so far.
-use mathlib.Core.Path.{◌≡◌, refl}
+use mathlib.Core.Path.{◌≡◌}
 use Prim.Native.Nat.{◌-◌, ◌^◌, ◌≤◌}
-use native.Mathlib.Numerals.{add-one}
-use native.Mathlib.Omega.{arith}
 use lib.ListN.{length}
-use lib.Pow.{pow_pos, pow_mono}
 use Rattle.theory_field.specs.Words.{words}
-use Rattle.theory_field.proofs.Words.{length-words, length-words-even}
-use Rattle.field_gf128.specs.Word.{word}
-use Rattle.field_equality.proofs.Growing.{room, Begins, begins-none, begins-more, begins-all}
-use borrow.Author.Rules.{rules}
+use Rattle.field_equality.proofs.Growing.{Begins}
 use Rattle.field_equality.proofs.eq_build.Given as goal
 
 abbrev pub invariant-loop-i : goal.invariant-loop-i

@@ -3,7 +3,6 @@ use Prim.Native.Nat.{◌<◌}
 use native.Mathlib.Omega.{arith}
 use Rattle.theory_laws.proofs.Questions.{asks, asks-given}
 use Rattle.field_equality.specs.Eq.{eq_number}
-use borrow.Author.Rules.{rules}
 use Rattle.field_equality.proofs.eq_number.Goals as goal
 
 pub returns-then-n-gt20 : goal.returns-then-n-gt20

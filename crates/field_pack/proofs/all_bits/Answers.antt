@@ -1,10 +1,6 @@
 -- `pack::all_bits` meets its contract: what is left of the bytes gives the answer.
-use Prim.Native.Nat.{◌≤◌, ◌-◌}
-use mathlib.Core.Path.{◌≡◌}
 use native.Mathlib.Omega.{arith}
 use borrow.Author.Rules.{rules}
-use lib.ListN.{length, drop}
-use Rattle.field_pack.specs.Pack.{all_bits}
 use Rattle.field_pack.proofs.Groups.{bits-step, bits_stop, bits_end}
 use Rattle.field_pack.proofs.all_bits.Goals as goal
 

@@ -1,8 +1,7 @@
 -- `pack::double_entries` meets its contract: the entries so far are doubled, the others still there.
 use mathlib.Core.Path.{◌≡◌, sym, ap, ◌∙◌, subst}
-use Prim.Native.Nat.{ℕ, ◌+◌, ◌-◌, ◌≤◌}
+use Prim.Native.Nat.{ℕ, ◌+◌}
 use native.Mathlib.Omega.{arith}
-use lib.ListN.{length}
 use Rattle.theory_laws.specs.Xor.{◌⊕◌}
 use Rattle.theory_field.specs.Field.{◌⊗◌}
 use Rattle.field_gf128.specs.Word.{word}

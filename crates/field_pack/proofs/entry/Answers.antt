@@ -2,7 +2,6 @@
 use mathlib.Core.Path.{sym}
 use Rattle.theory_field.proofs.Words.{at_words}
 use Rattle.field_gf128.specs.Word.{word}
-use borrow.Author.Rules.{rules}
 use Rattle.field_pack.proofs.entry.Goals as goal
 
 pub returns : goal.returns

@@ -1,16 +1,15 @@
 -- `pack::eq_coefficients` meets its contract: the array begins with the table of the coordinates so far.
 use mathlib.Core.Path.{◌≡◌, refl, sym, ap}
 use mathlib.Core.List.{[], ◌∷◌}
-use Prim.Native.Nat.{ℕ, ◌-◌, ◌^◌, ◌≤◌}
+use Prim.Native.Nat.{ℕ, ◌^◌, ◌≤◌}
 use native.Mathlib.Numerals.{add-one}
 use native.Mathlib.Omega.{arith}
-use lib.ListN.{length}
 use lib.Pow.{pow_mono}
 use Rattle.theory_laws.specs.Table.{tab}
 use Rattle.field_gf128.specs.Word.{word}
 use Rattle.theory_multilinear.specs.Equality.{eq_table}
 use Rattle.theory_multilinear.proofs.Equality.{eq-nil}
-use Rattle.field_equality.proofs.Growing.{room, Begins, begins-more, begins-all}
+use Rattle.field_equality.proofs.Growing.{room, begins-more, begins-all}
 use Rattle.field_pack.specs.Phi.{numbers}
 use Rattle.field_pack.proofs.Numbers.{numbers-at, length-numbers}
 use borrow.Author.Rules.{rules}
@@ -33,11 +32,11 @@ loop-j-preserved c =
       rw add-one (omega arith),
       search rules,
       search rules,
-      begins-more (numbers a.t1) (numbers c.loop-j.c) _ c.loop-j.j c.loop-j.n _
-          (omega (arith, length-numbers a.t1))
+      begins-more (numbers a.r) (numbers c.loop-j.c) _ c.loop-j.j c.loop-j.n _
+          (omega (arith, length-numbers a.r))
           c.loop-j.invariant.1
           (omega (arith, length-numbers c.loop-j.c, room c.loop-j.j 7 c.loop-j.n (omega arith) c.loop-j.invariant.1))
-          (numbers-at a.t1 c.loop-j.j _ (omega arith))
+          (numbers-at a.r c.loop-j.j _ (omega arith))
           c.double_entries-d.ensures
           c.loop-j.invariant.4,
     )

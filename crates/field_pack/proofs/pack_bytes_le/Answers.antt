@@ -8,7 +8,6 @@ use Rattle.theory_laws.proofs.Sum.{sum-ext}
 use Rattle.theory_field.specs.Words.{joined}
 use Rattle.field_gf128.specs.Word.{word}
 use Rattle.field_pack.proofs.Groups.{halves-word, is-bit}
-use borrow.Author.Rules.{rules}
 use Rattle.field_pack.proofs.pack_bytes_le.Goals as goal
 
 pub returns : goal.returns

@@ -1,13 +1,9 @@
 -- `pack::pack_groups` meets its contract: the words so far are those of the groups so far.
-use mathlib.Core.Path.{◌≡◌, refl}
-use Prim.Native.Nat.{◌+◌, ◌-◌, ◌*◌, ◌≤◌}
+use mathlib.Core.Path.{refl}
 use native.Mathlib.Omega.{arith}
 use borrow.Author.Rules.{rules}
-use lib.ListN.{length}
-use Rattle.theory_laws.specs.Table.{at}
-use Rattle.theory_multilinear.specs.Partials.{word_of}
 use Rattle.field_pack.specs.Pack.{packed}
-use Rattle.theory_field.proofs.Words.{Filled, filled_more, filled_all}
+use Rattle.theory_field.proofs.Words.{filled_more, filled_all}
 use Rattle.field_pack.proofs.pack_groups.Goals as goal
 
 pub loop-v-init : goal.loop-v-init

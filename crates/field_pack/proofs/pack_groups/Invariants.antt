@@ -1,13 +1,10 @@
 -- `pack::pack_groups` meets its contract: the words so far are those of the groups so far.
-use mathlib.Core.Path.{◌≡◌, refl}
+use mathlib.Core.Path.{◌≡◌}
 use Prim.Native.Nat.{◌+◌, ◌-◌, ◌*◌, ◌≤◌}
-use native.Mathlib.Omega.{arith}
-use borrow.Author.Rules.{rules}
 use lib.ListN.{length}
 use Rattle.theory_laws.specs.Table.{at}
 use Rattle.theory_multilinear.specs.Partials.{word_of}
-use Rattle.field_pack.specs.Pack.{packed}
-use Rattle.theory_field.proofs.Words.{Filled, filled_more, filled_all}
+use Rattle.theory_field.proofs.Words.{Filled}
 use Rattle.field_pack.proofs.pack_groups.Given as goal
 
 abbrev pub invariant-loop-v : goal.invariant-loop-v

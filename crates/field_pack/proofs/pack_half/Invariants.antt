@@ -1,13 +1,9 @@
 -- `pack::pack_half` meets its contract: the bits so far are those of the bytes so far.
 use Prim.Native.Nat.{◌≤◌, ◌-◌, ◌+◌, ◌^◌}
-use mathlib.Core.Path.{◌≡◌, refl}
-use borrow.Author.Rules.{rules}
-use native.Mathlib.Omega.{arith}
+use mathlib.Core.Path.{◌≡◌}
 use Rattle.theory_laws.specs.Sum.{sum}
 use Rattle.theory_laws.specs.Table.{at}
 use Rattle.theory_laws.specs.Xor.{sel}
-use Rattle.field_pack.proofs.Groups.{half-more, is-bit}
-use Rattle.theory_laws.proofs.Windows.{sum-all}
 use Rattle.field_pack.proofs.pack_half.Given as goal
 
 abbrev pub invariant-loop-b : goal.invariant-loop-b

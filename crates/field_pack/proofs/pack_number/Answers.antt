@@ -5,7 +5,6 @@ use native.Mathlib.Omega.{arith}
 use lib.ListN.{length}
 use Rattle.theory_laws.proofs.Questions.{asks}
 use Rattle.field_pack.specs.Pack.{pack_number}
-use borrow.Author.Rules.{rules}
 use Rattle.field_pack.proofs.pack_number.Goals as goal
 
 pub returns-then-bytes-ne0 : goal.returns-then-bytes-ne0

@@ -1,11 +1,10 @@
 -- `field_pack::phi_c` meets its contract: in each half what was added, and phi of the bits that are left, make the whole.
-use mathlib.Core.Path.{◌≡◌, refl, sym, ap, ◌∙◌}
-use Prim.Native.Nat.{ℕ, ◌+◌, ◌-◌, ◌*◌, ◌^◌, ◌≤◌}
+use mathlib.Core.Path.{refl, sym, ap, ◌∙◌}
+use Prim.Native.Nat.{ℕ, ◌+◌, ◌-◌, ◌*◌, ◌^◌}
 use native.Mathlib.Nat.{zero-add}
 use native.Mathlib.Omega.{arith}
 use lib.Bits.{and_le_l, and_le_r}
 use lib.Count.{count_trailing_zeros}
-use lib.ListN.{length}
 use Rattle.theory_laws.specs.Xor.{◌⊕◌}
 use Rattle.theory_laws.proofs.Xor.{zero-⊕}
 use Rattle.field_gf128.specs.Word.{word}
@@ -80,7 +79,7 @@ loop-hi-preserved c =
 pub returns : goal.returns
 unfolding word
 returns c =
-    let a = c.args in let f = coefficients a.t2 in
+    let a = c.args in let f = coefficients a.c in
     phi_end f 64 c.loop-hi.hi (word c.loop-hi.acc) _ (omega (arith, c.loop-hi-test.false)) c.loop-hi.invariant.2
     ∙ ap (λ (x : ℕ). x ⊕ phi f (a.w.hi * 2 ^ 64)) (phi_end f 0 c.loop-lo.lo (word c.loop-lo.acc) _ (omega (arith, c.loop-lo-test.false)) c.loop-lo.invariant.2)
     ∙ phi-halves f a.w.hi a.w.lo (omega arith)

@@ -1,19 +1,11 @@
 -- `field_pack::phi_c` meets its contract: in each half what was added, and phi of the bits that are left, make the whole.
-use mathlib.Core.Path.{◌≡◌, refl, sym, ap, ◌∙◌}
-use Prim.Native.Nat.{ℕ, ◌+◌, ◌-◌, ◌*◌, ◌^◌, ◌≤◌}
-use native.Mathlib.Nat.{zero-add}
-use native.Mathlib.Omega.{arith}
-use lib.Bits.{and_le_l, and_le_r}
-use lib.Count.{count_trailing_zeros}
+use mathlib.Core.Path.{◌≡◌}
+use Prim.Native.Nat.{◌*◌, ◌^◌, ◌≤◌}
 use lib.ListN.{length}
 use Rattle.theory_laws.specs.Xor.{◌⊕◌}
-use Rattle.theory_laws.proofs.Xor.{zero-⊕}
 use Rattle.field_gf128.specs.Word.{word}
 use Rattle.theory_multilinear.specs.Phi.{phi}
 use Rattle.field_pack.specs.Phi.{coefficients}
-use Rattle.field_pack.proofs.Numbers.{numbers-at}
-use Rattle.field_pack.proofs.SetBits.{Lowest, lowest, phi-turn, phi_end, phi-halves}
-use borrow.Author.Rules.{rules}
 use Rattle.field_pack.proofs.phi_c.Given as goal
 
 abbrev pub invariant-loop-lo : goal.invariant-loop-lo

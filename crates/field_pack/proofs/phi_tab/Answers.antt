@@ -1,17 +1,15 @@
 -- `pack::phi_tab` meets its contract: the entries so far are phi of what they stand for.
 use mathlib.Core.Path.{◌≡◌, refl, ap₂, ◌∙◌}
-use Prim.Native.Nat.{◌+◌, ◌-◌, ◌*◌, ◌/◌, ◌%◌, ◌^◌, ◌≤◌}
+use Prim.Native.Nat.{◌+◌, ◌*◌, ◌/◌}
 use native.Mathlib.Omega.{arith}
-use lib.ListN.{length}
 use Rattle.theory_laws.specs.Sum.{sum}
-use Rattle.theory_laws.specs.Xor.{bit, sel}
+use Rattle.theory_laws.specs.Xor.{sel}
 use Rattle.field_gf128.specs.Word.{word}
-use Rattle.theory_multilinear.specs.Phi.{phi}
 use Rattle.field_pack.specs.Phi.{coefficients, phi_tab}
 use Rattle.field_pack.proofs.Numbers.{numbers-at}
 use Rattle.field_pack.proofs.Windows.{bit_of_number, entry-phi}
 use borrow.Author.Rules.{rules}
-use Rattle.theory_field.proofs.Words.{Filled, filled_more, filled_all}
+use Rattle.theory_field.proofs.Words.{filled_more, filled_all}
 use Rattle.theory_laws.proofs.Windows.{sum_more}
 use Rattle.field_pack.proofs.phi_tab.Goals as goal
 

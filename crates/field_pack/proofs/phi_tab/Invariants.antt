@@ -1,18 +1,13 @@
 -- `pack::phi_tab` meets its contract: the entries so far are phi of what they stand for.
-use mathlib.Core.Path.{◌≡◌, refl, ap₂, ◌∙◌}
+use mathlib.Core.Path.{◌≡◌}
 use Prim.Native.Nat.{◌+◌, ◌-◌, ◌*◌, ◌/◌, ◌%◌, ◌^◌, ◌≤◌}
-use native.Mathlib.Omega.{arith}
 use lib.ListN.{length}
 use Rattle.theory_laws.specs.Sum.{sum}
 use Rattle.theory_laws.specs.Xor.{bit, sel}
 use Rattle.field_gf128.specs.Word.{word}
 use Rattle.theory_multilinear.specs.Phi.{phi}
-use Rattle.field_pack.specs.Phi.{coefficients, phi_tab}
-use Rattle.field_pack.proofs.Numbers.{numbers-at}
-use Rattle.field_pack.proofs.Windows.{bit_of_number, entry-phi}
-use borrow.Author.Rules.{rules}
-use Rattle.theory_field.proofs.Words.{Filled, filled_more, filled_all}
-use Rattle.theory_laws.proofs.Windows.{sum_more}
+use Rattle.field_pack.specs.Phi.{coefficients}
+use Rattle.theory_field.proofs.Words.{Filled}
 use Rattle.field_pack.proofs.phi_tab.Given as goal
 
 abbrev pub invariant-loop-i : goal.invariant-loop-i
@@ -24,7 +19,7 @@ decreases-loop-i l = 4 - l.i
 
 abbrev pub invariant-loop-k : goal.invariant-loop-k
 invariant-loop-k l =
-    (l.k ≤ 512) × (length l.c ≡ 128) × (length l.t ≡ 1024) × Filled (λ l.k. phi (coefficients l.c) (l.k % 16 * 2 ^ (4 * (l.k / 16)))) l.k l.t
+    (l.k ≤ 512) × (length l.c ≡ 128) × (length l.t ≡ 1024) × Filled (λ e. phi (coefficients l.c) (e % 16 * 2 ^ (4 * (e / 16)))) l.k l.t
 
 abbrev pub decreases-loop-k : goal.decreases-loop-k
 decreases-loop-k l = 512 - l.k

@@ -9,7 +9,6 @@ use Rattle.field_gf128.specs.Word.{word}
 use Rattle.field_gf128.proofs.Halves.{joined-lt}
 use Rattle.field_pack.specs.Phi.{chosen}
 use Rattle.field_pack.proofs.Windows.{halves-chosen, chosen-phi}
-use borrow.Author.Rules.{rules}
 use Rattle.field_pack.proofs.phi_tab_apply.Goals as goal
 
 pub returns : goal.returns

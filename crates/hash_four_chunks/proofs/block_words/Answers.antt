@@ -1,7 +1,6 @@
 -- `hash_four_chunks::block_words` meets its contract.
 use mathlib.Core.Path.{sym, ap, ◌∙◌}
-use Prim.Native.Nat.{ℕ, ◌-◌}
-use borrow.Author.Rules.{rules}
+use Prim.Native.Nat.{ℕ}
 use Rattle.theory_laws.specs.Lists.{part}
 use Rattle.theory_blake3.specs.Chunk as B
 use Rattle.hash_four_chunks.proofs.block_words.Goals as goal

@@ -1,7 +1,6 @@
 -- `hash_four_chunks::blocks_at`: lane after lane.
 use mathlib.Core.List.{List}
-use Prim.Native.Nat.{ℕ, ◌-◌}
-use borrow.Author.Rules.{rules}
+use Prim.Native.Nat.{ℕ}
 use Rattle.theory_laws.specs.Lists.{part}
 use Rattle.theory_blake3.specs.Chunk as B
 use Rattle.hash_four_chunks.proofs.Laws.{four_lanes}

@@ -2,7 +2,6 @@
 use mathlib.Core.Path.{◌∙◌, ap}
 use mathlib.Core.List.{List}
 use Prim.Native.Nat.{ℕ, ◌-◌}
-use borrow.Author.Rules.{rules}
 use Rattle.theory_laws.specs.Table.{at}
 use Rattle.theory_blake3.specs.Compression as C
 use Rattle.theory_blake3.specs.Flags.{start_flag}

@@ -1,7 +1,5 @@
 -- `hash_four_chunks::lane_bytes` meets its contract.
 use mathlib.Core.Path.{ap, ◌∙◌}
-use Prim.Native.Nat.{◌-◌}
-use borrow.Author.Rules.{rules}
 use Rattle.theory_blake3.specs.Digest.{bytes_of_words32}
 use Rattle.hash_four_chunks.proofs.lane_bytes.Goals as goal
 

@@ -1,16 +1,12 @@
 -- `hash_four_chunks::rests`: in each lane, what the rest of the message gives after the blocks so far is what the whole of it gives from h.
-use mathlib.Core.Path.{◌≡◌, refl, sym, ap}
+use mathlib.Core.Path.{◌≡◌}
 use Prim.Native.Nat.{ℕ, ◌≤◌, ◌<◌, ◌-◌, ◌*◌, ◌+◌}
-use native.Mathlib.Omega.{arith}
 use lib.ListN.{length, drop}
-use borrow.Author.Rules.{rules}
 use Rattle.theory_laws.specs.Table.{at}
-use Rattle.theory_blake3.specs.Compression as C
 use Rattle.theory_blake3.specs.Flags.{start_flag}
 use Rattle.theory_blake3.specs.Chunk as B
 use Rattle.hash_four_lanes.specs.helpers.Lane as X
 use Rattle.hash_four_chunks.specs.helpers.FourChunks.{which}
-use Rattle.hash_four_chunks.proofs.Laws.{which-length, block_within, walk_turn, walk_end}
 use Rattle.hash_four_chunks.proofs.rests.Given as goal
 
 abbrev pub invariant-loop-from : goal.invariant-loop-from

@@ -1,8 +1,8 @@
 -- `hash_four_chunks::spread`: place by place.
-use mathlib.Core.Path.{◌≡◌, refl}
-use Prim.Native.Nat.{ℕ, ◌≤◌, ◌<◌, ◌-◌, ◌/◌}
+use mathlib.Core.Path.{refl}
+use Prim.Native.Nat.{ℕ, ◌/◌}
 use native.Mathlib.Omega.{arith}
-use lib.ListN.{length, length-set}
+use lib.ListN.{length-set}
 use Rattle.theory_laws.specs.Table.{at}
 use Rattle.theory_laws.proofs.Updates.{fill_step}
 use Rattle.hash_four_chunks.proofs.Laws.{spread_law}
@@ -13,8 +13,8 @@ loop-j-init c = (omega arith, refl, λ i b. absurd (omega arith))
 
 pub loop-j-preserved : goal.loop-j-preserved
 loop-j-preserved c =
-    let a = c.args in (omega arith, simp length-set c.loop-j.invariant.1, fill_step (λ (i : ℕ). at a.t1 (i / 4)) c.loop-j.j c.loop-j.s _ (omega arith) refl c.loop-j.invariant.2)
+    let a = c.args in (omega arith, simp length-set c.loop-j.invariant.1, fill_step (λ (i : ℕ). at a.h (i / 4)) c.loop-j.j c.loop-j.s _ (omega arith) refl c.loop-j.invariant.2)
 
 pub returns : goal.returns
 returns c =
-    let a = c.args in λ k b. spread_law c.loop-j.s a.t1 k b (omega arith) (λ i q. c.loop-j.invariant.2 i (omega arith))
+    let a = c.args in λ k b. spread_law c.loop-j.s a.h k b (omega arith) (λ i q. c.loop-j.invariant.2 i (omega arith))

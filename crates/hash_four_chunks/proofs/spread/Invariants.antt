@@ -1,11 +1,8 @@
 -- `hash_four_chunks::spread`: place by place.
-use mathlib.Core.Path.{◌≡◌, refl}
+use mathlib.Core.Path.{◌≡◌}
 use Prim.Native.Nat.{ℕ, ◌≤◌, ◌<◌, ◌-◌, ◌/◌}
-use native.Mathlib.Omega.{arith}
-use lib.ListN.{length, length-set}
+use lib.ListN.{length}
 use Rattle.theory_laws.specs.Table.{at}
-use Rattle.theory_laws.proofs.Updates.{fill_step}
-use Rattle.hash_four_chunks.proofs.Laws.{spread_law}
 use Rattle.hash_four_chunks.proofs.spread.Given as goal
 
 abbrev pub invariant-loop-j : goal.invariant-loop-j

@@ -1,5 +1,4 @@
 -- `hash_four_lanes::compress`: in each lane, the state to start from, the seven rounds and the output.
-use borrow.Author.Rules.{rules}
 use Rattle.theory_laws.specs.Table.{at}
 use Rattle.hash_four_lanes.specs.helpers.Lane as X
 use Rattle.hash_four_lanes.proofs.Laws.{compress-lane}

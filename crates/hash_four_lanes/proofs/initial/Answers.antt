@@ -1,9 +1,8 @@
 -- `hash_four_lanes::initial`: lane after lane.
-use mathlib.Core.Path.{◌≡◌, refl, ap, ◌∙◌}
+use mathlib.Core.Path.{refl, ap, ◌∙◌}
 use mathlib.Core.List.{List}
-use Prim.Native.Nat.{ℕ, ◌≤◌, ◌<◌, ◌-◌}
+use Prim.Native.Nat.{ℕ}
 use native.Mathlib.Omega.{arith}
-use lib.ListN.{length}
 use Rattle.theory_laws.specs.Table.{at}
 use Rattle.theory_blake3.specs.Compression as C
 use Rattle.hash_four_lanes.specs.helpers.Lane as X

@@ -1,13 +1,10 @@
 -- `hash_four_lanes::initial`: lane after lane.
-use mathlib.Core.Path.{◌≡◌, refl, ap, ◌∙◌}
-use mathlib.Core.List.{List}
+use mathlib.Core.Path.{◌≡◌}
 use Prim.Native.Nat.{ℕ, ◌≤◌, ◌<◌, ◌-◌}
-use native.Mathlib.Omega.{arith}
 use lib.ListN.{length}
 use Rattle.theory_laws.specs.Table.{at}
 use Rattle.theory_blake3.specs.Compression as C
 use Rattle.hash_four_lanes.specs.helpers.Lane as X
-use Rattle.hash_four_lanes.proofs.Laws.{lanes_step}
 use Rattle.hash_four_lanes.proofs.initial.Given as goal
 
 abbrev pub invariant-loop-l : goal.invariant-loop-l

@@ -1,8 +1,8 @@
 -- `hash_four_lanes::ordered`: each word is read where the order has it.
-use mathlib.Core.Path.{◌≡◌, refl}
-use Prim.Native.Nat.{ℕ, ◌≤◌, ◌<◌, ◌-◌}
+use mathlib.Core.Path.{refl}
+use Prim.Native.Nat.{ℕ}
 use native.Mathlib.Omega.{arith}
-use lib.ListN.{length, length-set}
+use lib.ListN.{length-set}
 use Rattle.theory_laws.specs.Table.{at}
 use Rattle.theory_laws.proofs.Updates.{fill_step}
 use Rattle.theory_blake3.specs.Orders as O

@@ -1,8 +1,8 @@
 -- `hash_four_lanes::output`: word by word, the two halves of the state.
-use mathlib.Core.Path.{◌≡◌, refl}
-use Prim.Native.Nat.{ℕ, ◌≤◌, ◌<◌, ◌-◌, ◌+◌}
+use mathlib.Core.Path.{refl}
+use Prim.Native.Nat.{ℕ, ◌+◌}
 use native.Mathlib.Omega.{arith}
-use lib.ListN.{length, length-set}
+use lib.ListN.{length-set}
 use Rattle.theory_laws.specs.Table.{at}
 use Rattle.theory_laws.proofs.Updates.{fill_step}
 use Rattle.theory_laws.specs.Xor.{◌⊕◌}

@@ -1,12 +1,9 @@
 -- `hash_four_lanes::output`: word by word, the two halves of the state.
-use mathlib.Core.Path.{◌≡◌, refl}
+use mathlib.Core.Path.{◌≡◌}
 use Prim.Native.Nat.{ℕ, ◌≤◌, ◌<◌, ◌-◌, ◌+◌}
-use native.Mathlib.Omega.{arith}
-use lib.ListN.{length, length-set}
+use lib.ListN.{length}
 use Rattle.theory_laws.specs.Table.{at}
-use Rattle.theory_laws.proofs.Updates.{fill_step}
 use Rattle.theory_laws.specs.Xor.{◌⊕◌}
-use Rattle.hash_four_lanes.proofs.Laws.{value_law}
 use Rattle.hash_four_lanes.proofs.output.Given as goal
 
 abbrev pub invariant-loop-j : goal.invariant-loop-j

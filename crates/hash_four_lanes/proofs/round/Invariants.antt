@@ -1,12 +1,10 @@
 -- `hash_four_lanes::round`: lane after lane, the words in their order and a round over them; the lanes not yet reached are as they were.
-use mathlib.Core.Path.{◌≡◌, refl}
+use mathlib.Core.Path.{◌≡◌}
 use Prim.Native.Nat.{ℕ, ◌≤◌, ◌<◌, ◌-◌}
-use native.Mathlib.Omega.{arith}
 use lib.ListN.{length}
 use Rattle.theory_blake3.specs.Compression as C
 use Rattle.theory_blake3.specs.Orders as O
 use Rattle.hash_four_lanes.specs.helpers.Lane as X
-use Rattle.hash_four_lanes.proofs.Laws.{lanes_step, lanes_rest, round-lane}
 use Rattle.hash_four_lanes.proofs.round.Given as goal
 
 abbrev pub invariant-loop-l : goal.invariant-loop-l

@@ -1,11 +1,8 @@
 -- `hash_four_lanes::rounds`: in each lane, what the orders that are left would do to the state is what all of them do to the first.
-use mathlib.Core.Path.{◌≡◌, refl, ◌∙◌}
+use mathlib.Core.Path.{refl, ◌∙◌}
 use mathlib.Core.List.{[]}
-use Prim.Native.Nat.{ℕ, ◌≤◌, ◌<◌, ◌-◌}
 use native.Mathlib.Omega.{arith}
-use lib.ListN.{length, drop}
 use Rattle.theory_blake3.specs.Orders as O
-use Rattle.hash_four_lanes.specs.helpers.Lane as X
 use Rattle.theory_blake3.proofs.Compression.{rounds-step}
 use Rattle.hash_compress.proofs.Laws.{small-orders, rounds-all}
 use Rattle.hash_four_lanes.proofs.rounds.Goals as goal

@@ -1,9 +1,7 @@
 -- `hash_four_lanes::store`: the words go to the places of lane l, and no other place is written.
-use mathlib.Core.Path.{◌≡◌, refl, sym}
-use Prim.Native.Nat.{ℕ, ◌≤◌, ◌<◌, ◌-◌, ◌*◌, ◌+◌}
+use mathlib.Core.Path.{refl, sym}
 use native.Mathlib.Omega.{arith}
-use lib.ListN.{length, length-set}
-use Rattle.theory_laws.specs.Table.{at}
+use lib.ListN.{length-set}
 use Rattle.hash_four_lanes.proofs.Laws.{lane-ext, lane-all, store_at, store_other}
 use Rattle.hash_four_lanes.proofs.store.Goals as goal
 
@@ -15,7 +13,7 @@ loop-i-preserved c =
     let a = c.args in (
       omega arith,
       simp length-set c.loop-i.invariant.1,
-      store_at c.loop-i.s a.t3 a.l c.loop-i.i _ (omega arith) refl c.loop-i.invariant.2,
+      store_at c.loop-i.s a.v a.l c.loop-i.i _ (omega arith) refl c.loop-i.invariant.2,
       store_other c.loop-i.s a.s.now a.l c.loop-i.i _ (omega arith) c.loop-i.invariant.3,
     )
 
@@ -23,6 +21,6 @@ pub returns : goal.returns
 returns c =
     let a = c.args in record {
       size = c.loop-i.invariant.1;
-      here = sym (lane-all 16 c.loop-i.s a.t3 a.l (omega arith) (λ k h. sym (c.loop-i.invariant.2 k (omega arith))));
+      here = sym (lane-all 16 c.loop-i.s a.v a.l (omega arith) (λ k h. sym (c.loop-i.invariant.2 k (omega arith))));
       others = λ k b q. lane-ext 16 c.loop-i.s a.s.now k (λ i h. c.loop-i.invariant.3 i k b q);
     }

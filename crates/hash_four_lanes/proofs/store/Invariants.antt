@@ -1,10 +1,8 @@
 -- `hash_four_lanes::store`: the words go to the places of lane l, and no other place is written.
-use mathlib.Core.Path.{◌≡◌, refl, sym}
+use mathlib.Core.Path.{◌≡◌}
 use Prim.Native.Nat.{ℕ, ◌≤◌, ◌<◌, ◌-◌, ◌*◌, ◌+◌}
-use native.Mathlib.Omega.{arith}
-use lib.ListN.{length, length-set}
+use lib.ListN.{length}
 use Rattle.theory_laws.specs.Table.{at}
-use Rattle.hash_four_lanes.proofs.Laws.{lane-ext, lane-all, store_at, store_other}
 use Rattle.hash_four_lanes.proofs.store.Given as goal
 
 abbrev pub invariant-loop-i : goal.invariant-loop-i

@@ -1,8 +1,7 @@
 -- `hash_four_lanes::value`: the words are copied one by one.
 use mathlib.Core.Path.{refl}
-use Prim.Native.Nat.{◌-◌}
 use native.Mathlib.Omega.{arith}
-use Rattle.hash_four_lanes.proofs.Laws.{Copied, copied_more, copied_all}
+use Rattle.hash_four_lanes.proofs.Laws.{copied_more, copied_all}
 use Rattle.hash_four_lanes.proofs.value.Goals as goal
 
 pub loop-i-init : goal.loop-i-init

@@ -1,8 +1,6 @@
 -- `hash_four_lanes::value`: the words are copied one by one.
-use mathlib.Core.Path.{refl}
 use Prim.Native.Nat.{◌-◌}
-use native.Mathlib.Omega.{arith}
-use Rattle.hash_four_lanes.proofs.Laws.{Copied, copied_more, copied_all}
+use Rattle.hash_four_lanes.proofs.Laws.{Copied}
 use Rattle.hash_four_lanes.proofs.value.Given as goal
 
 abbrev pub invariant-loop-i : goal.invariant-loop-i

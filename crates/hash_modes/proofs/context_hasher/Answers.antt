@@ -2,7 +2,6 @@
 use borrow.Author.Tests.{lt-leb}
 use Rattle.hash_modes.proofs.Modes.{context_begun}
 use Rattle.hash_modes.specs.Answers.{context_hasher_of}
-use borrow.Author.Rules.{rules}
 use Rattle.hash_modes.proofs.context_hasher.Goals as goal
 
 pub returns-then-context-gt16777216 : goal.returns-then-context-gt16777216

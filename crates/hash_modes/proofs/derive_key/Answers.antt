@@ -2,7 +2,6 @@
 use borrow.Author.Tests.{lt-leb}
 use Rattle.hash_modes.proofs.Modes.{derive_made}
 use Rattle.hash_modes.specs.Answers.{derived_key_of}
-use borrow.Author.Rules.{rules}
 use Rattle.hash_modes.proofs.derive_key.Goals as goal
 
 pub returns-then-context-gt16777216 : goal.returns-then-context-gt16777216

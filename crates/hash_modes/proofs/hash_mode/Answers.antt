@@ -1,6 +1,5 @@
 -- `hash_modes::hash_mode` meets its contract.
 use Rattle.hash_modes.proofs.Modes.{same_key}
-use borrow.Author.Rules.{rules}
 use Rattle.hash_modes.proofs.hash_mode.Goals as goal
 
 pub returns : goal.returns

@@ -1,6 +1,5 @@
 -- `hash_modes::key_words` meets its contract.
 use Rattle.hash_modes.proofs.Modes.{words_of_key}
-use borrow.Author.Rules.{rules}
 use Rattle.hash_modes.proofs.key_words.Goals as goal
 
 pub returns : goal.returns

@@ -2,7 +2,6 @@
 use borrow.Author.Tests.{ne_eqb}
 use Rattle.hash_modes.proofs.Modes.{keyed_made}
 use Rattle.hash_modes.specs.Answers.{keyed_digest_of}
-use borrow.Author.Rules.{rules}
 use Rattle.hash_modes.proofs.keyed_digest.Goals as goal
 
 pub returns-then-key-ne32 : goal.returns-then-key-ne32

@@ -2,7 +2,6 @@
 use borrow.Author.Tests.{ne_eqb}
 use Rattle.hash_modes.proofs.Modes.{keyed_begun}
 use Rattle.hash_modes.specs.Answers.{keyed_hasher_of}
-use borrow.Author.Rules.{rules}
 use Rattle.hash_modes.proofs.keyed_hasher.Goals as goal
 
 pub returns-then-key-ne32 : goal.returns-then-key-ne32

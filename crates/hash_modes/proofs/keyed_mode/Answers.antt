@@ -1,6 +1,5 @@
 -- `hash_modes::keyed_mode` meets its contract.
 use Rattle.hash_modes.proofs.Modes.{same_key}
-use borrow.Author.Rules.{rules}
 use Rattle.hash_modes.proofs.keyed_mode.Goals as goal
 
 pub returns : goal.returns

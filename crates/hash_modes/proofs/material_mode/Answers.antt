@@ -1,6 +1,5 @@
 -- `hash_modes::material_mode` meets its contract.
 use Rattle.hash_modes.proofs.Modes.{material_key}
-use borrow.Author.Rules.{rules}
 use Rattle.hash_modes.proofs.material_mode.Goals as goal
 
 pub returns : goal.returns

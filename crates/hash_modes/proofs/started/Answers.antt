@@ -3,7 +3,6 @@ use mathlib.Core.Path.{ap}
 use Prim.Native.Nat.{ℕ}
 use Rattle.hash_hasher.specs.declared.hasher.Hasher.{Hasher}
 use Rattle.hash_hasher.specs.declared.hasher.Updated.{Updated}
-use borrow.Author.Rules.{rules}
 use Rattle.hash_modes.proofs.started.Goals as goal
 
 abbrev updated : ℕ → Hasher → Updated

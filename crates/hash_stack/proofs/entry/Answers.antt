@@ -2,7 +2,6 @@
 use native.Mathlib.Nat.{add-zero}
 use Rattle.theory_laws.specs.Table.{tab}
 use Rattle.theory_blake3.specs.Stack as B
-use borrow.Author.Rules.{rules}
 use Rattle.hash_stack.proofs.entry.Goals as goal
 
 pub returns : goal.returns

@@ -1,9 +1,6 @@
 -- `stack::joined` meets its contract.
-use mathlib.Core.Path.{◌≡◌, refl}
-use Prim.Native.Nat.{◌≤◌}
+use mathlib.Core.Path.{refl}
 use native.Mathlib.Omega.{arith}
-use borrow.Author.Rules.{rules}
-use Rattle.theory_blake3.specs.Stack as S
 use Rattle.hash_stack.proofs.Array.{joined-turn, joined_end}
 use Rattle.hash_stack.proofs.joined.Goals as goal
 

@@ -1,10 +1,7 @@
 -- `stack::joined` meets its contract.
-use mathlib.Core.Path.{◌≡◌, refl}
+use mathlib.Core.Path.{◌≡◌}
 use Prim.Native.Nat.{◌≤◌}
-use native.Mathlib.Omega.{arith}
-use borrow.Author.Rules.{rules}
 use Rattle.theory_blake3.specs.Stack as S
-use Rattle.hash_stack.proofs.Array.{joined-turn, joined_end}
 use Rattle.hash_stack.proofs.joined.Given as goal
 
 abbrev pub invariant-loop-left : goal.invariant-loop-left

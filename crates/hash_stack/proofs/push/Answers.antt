@@ -2,7 +2,6 @@
 use mathlib.Core.Path.{refl, ap, ◌∙◌}
 use Rattle.theory_laws.specs.Lists.{stored}
 use Rattle.theory_blake3.specs.Stack as S
-use borrow.Author.Rules.{rules}
 use Rattle.hash_stack.proofs.push.Goals as goal
 
 pub returns : goal.returns

@@ -1,10 +1,8 @@
 -- `stack::put` meets its contract.
 use mathlib.Core.Path.{◌≡◌}
 use Prim.Native.Nat.{◌≤◌, ◌-◌, ◌*◌, ◌+◌}
-use native.Mathlib.Omega.{arith}
 use lib.ListN.{drop}
 use Rattle.theory_laws.specs.Lists.{stored}
-use Rattle.theory_laws.proofs.Lists.{put_begin, put_step, put_end}
 use Rattle.hash_stack.proofs.put.Given as goal
 
 abbrev pub invariant-loop-j : goal.invariant-loop-j

@@ -1,9 +1,6 @@
 -- `stack::root` meets its contract.
-use mathlib.Core.Path.{◌≡◌, refl, ◌∙◌}
-use Prim.Native.Nat.{ℕ, ◌≤◌}
+use mathlib.Core.Path.{refl, ◌∙◌}
 use native.Mathlib.Omega.{arith}
-use borrow.Author.Rules.{rules}
-use Rattle.theory_blake3.specs.Stack as B
 use Rattle.hash_node.specs.helpers.Node.{out_of}
 use Rattle.hash_stack.proofs.Array.{fold-turn, fold_end}
 use Rattle.hash_stack.proofs.root.Goals as goal

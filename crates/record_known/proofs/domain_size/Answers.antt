@@ -1,6 +1,5 @@
 -- `record_known::domain_size` meets its contract.
 use Rattle.theory_laws.proofs.Questions.{asks}
-use borrow.Author.Rules.{rules}
 use Rattle.record_known.proofs.domain_size.Goals as goal
 
 pub returns-then-e-lt10 : goal.returns-then-e-lt10

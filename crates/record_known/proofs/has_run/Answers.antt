@@ -1,7 +1,6 @@
 -- `record_known::has_run` meets its contract.
 use Rattle.record_opening.proofs.Again.{no_claim}
 use Rattle.record_known.proofs.Lanes.{run-sized}
-use borrow.Author.Rules.{rules}
 use Rattle.record_known.proofs.has_run.Goals as goal
 
 pub returns-then-at-gt-FARTHEST : goal.returns-then-at-gt-FARTHEST

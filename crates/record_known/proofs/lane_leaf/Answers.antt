@@ -2,7 +2,6 @@
 use mathlib.Core.Path.{sym, ◌∙◌}
 use borrow.Author.Tests.{not-true}
 use Rattle.record_opening.proofs.Again.{no_claim}
-use borrow.Author.Rules.{rules}
 use Rattle.record_known.proofs.lane_leaf.Goals as goal
 
 pub returns-then-not-lane : goal.returns-then-not-lane

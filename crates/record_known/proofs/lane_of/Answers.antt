@@ -1,7 +1,5 @@
 -- `record_known::lane_of` meets its contract.
-use borrow.Author.Tests.{not-false}
 use Rattle.record_known.proofs.Lanes.{none-lane, runs-sized}
-use borrow.Author.Rules.{rules}
 use Rattle.record_known.proofs.lane_of.Goals as goal
 
 pub returns-then-not-has_run : goal.returns-then-not-has_run
@@ -12,8 +10,8 @@ returns-then-not-has_run-2 c = none-lane _ _ _ _ _ _ _ c.no_lane-then-not-has_ru
 
 pub sized_lane-requires : goal.sized_lane-requires
 sized_lane-requires c =
-    let digests = c.has_run-2.ensures (not-false _ c.if-not-has_run-2.false) in (
-      runs-sized _ c.requires (c.has_run.ensures (not-false _ c.if-not-has_run.false)) digests c.level_width.ensures
+    let digests = c.has_run-2.ensures c.if-not-has_run-2.false in (
+      runs-sized _ c.requires (c.has_run.ensures c.if-not-has_run.false) digests c.level_width.ensures
           c.level_depth.ensures,
       digests.near,
     )

@@ -2,7 +2,6 @@
 use native.Mathlib.Omega.{arith}
 use Rattle.theory_laws.proofs.Questions.{asks}
 use Rattle.record_known.specs.helpers.Domains.{level_in}
-use borrow.Author.Rules.{rules}
 use Rattle.record_known.proofs.level_in.Goals as goal
 
 pub returns-then-e-k : goal.returns-then-e-k

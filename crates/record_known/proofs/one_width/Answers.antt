@@ -1,6 +1,5 @@
 -- `record_known::one_width` meets its contract.
 use Rattle.record_opening.proofs.Again.{no_claim}
-use borrow.Author.Rules.{rules}
 use Rattle.record_known.proofs.one_width.Goals as goal
 
 pub returns-then-not-a : goal.returns-then-not-a

@@ -1,9 +1,7 @@
 -- `record_known::put_domains` meets its contract: the domains of the first k levels stand in their strides.
-use Prim.Native.Nat.{◌≤◌, ◌-◌, ◌*◌}
-use mathlib.Core.Path.{◌≡◌, refl, sym}
+use mathlib.Core.Path.{refl, sym}
 use native.Mathlib.Omega.{arith}
-use lib.ListN.{length}
-use Rattle.record_known.proofs.Domains.{FirstStand, none_stand, laid, one-more-stands, all_stand}
+use Rattle.record_known.proofs.Domains.{none_stand, laid, one-more-stands, all_stand}
 use Rattle.record_known.proofs.LevelDomains.{size-most}
 use borrow.Author.Rules.{rules}
 use Rattle.record_known.proofs.put_domains.Goals as goal
@@ -25,7 +23,8 @@ put-requires c =
 
 pub loop-k-preserved : goal.loop-k-preserved
 loop-k-preserved c =
-    let inv = c.loop-k.invariant in let one = laid _ _ _ _ _ _ _ _ _ _ c.requires c.level_in-l.ensures.0 c.domain_size-size.ensures inv.3 c.level_domain.ensures in (
+    let inv = c.loop-k.invariant in
+    let one = laid _ _ _ _ _ _ _ _ _ _ c.requires c.level_in-l.ensures.0 c.domain_size-size.ensures inv.3 c.level_domain.ensures in (
       search rules,
       search rules,
       search rules,
@@ -36,4 +35,5 @@ loop-k-preserved c =
 
 pub returns : goal.returns
 returns c =
-    let inv = c.loop-k.invariant in all_stand _ _ _ _ _ _ c.loop-k-test.false inv.4 inv.5
+    let inv = c.loop-k.invariant in
+    all_stand _ _ _ _ _ _ c.loop-k-test.false inv.4 inv.5

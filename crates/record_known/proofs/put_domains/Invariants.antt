@@ -1,11 +1,8 @@
 -- `record_known::put_domains` meets its contract: the domains of the first k levels stand in their strides.
 use Prim.Native.Nat.{◌≤◌, ◌-◌, ◌*◌}
-use mathlib.Core.Path.{◌≡◌, refl, sym}
-use native.Mathlib.Omega.{arith}
+use mathlib.Core.Path.{◌≡◌}
 use lib.ListN.{length}
-use Rattle.record_known.proofs.Domains.{FirstStand, none_stand, laid, one-more-stands, all_stand}
-use Rattle.record_known.proofs.LevelDomains.{size-most}
-use borrow.Author.Rules.{rules}
+use Rattle.record_known.proofs.Domains.{FirstStand}
 use Rattle.record_known.proofs.put_domains.Given as goal
 
 abbrev pub invariant-loop-k : goal.invariant-loop-k

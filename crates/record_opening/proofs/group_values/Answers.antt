@@ -1,11 +1,6 @@
 -- `group_values` meets its contract. The loop's invariant: the first i words are read.
-use Prim.Native.Nat.{◌≤◌, ◌-◌, ◌+◌, ◌*◌}
-use mathlib.Core.Path.{◌≡◌}
-use lib.ListN.{length}
 use native.Mathlib.Omega.{arith}
-use Rattle.theory_laws.specs.Lists.{part, le_value}
-use Rattle.theory_field.proofs.Words.{Filled, filled_more}
-use Rattle.theory_record.specs.Widths.{widest}
+use Rattle.theory_field.proofs.Words.{filled_more}
 use Rattle.record_opening.proofs.Values.{values_filled}
 use borrow.Author.Rules.{rules}
 use Rattle.record_opening.proofs.group_values.Goals as goal

@@ -2,12 +2,9 @@
 use Prim.Native.Nat.{◌≤◌, ◌-◌, ◌+◌, ◌*◌}
 use mathlib.Core.Path.{◌≡◌}
 use lib.ListN.{length}
-use native.Mathlib.Omega.{arith}
 use Rattle.theory_laws.specs.Lists.{part, le_value}
-use Rattle.theory_field.proofs.Words.{Filled, filled_more}
+use Rattle.theory_field.proofs.Words.{Filled}
 use Rattle.theory_record.specs.Widths.{widest}
-use Rattle.record_opening.proofs.Values.{values_filled}
-use borrow.Author.Rules.{rules}
 use Rattle.record_opening.proofs.group_values.Given as goal
 
 abbrev pub invariant-loop-i : goal.invariant-loop-i

@@ -32,6 +32,7 @@ root_from-requires c =
 
 pub returns : goal.returns
 returns c =
-    let p = c.requires in let h = sized-room _ p in
+    let p = c.requires in
+    let h = sized-room _ p in
     leads_is _ _ _ _ _ _ _ _ _ _ _ p c.root_from.ensures (prefix-is _ _ _ _ _ c.level_domain-d.ensures (omega arith))
     c.level_length-count.ensures c.level_width-width.ensures c.level_depth-depth.ensures

@@ -1,12 +1,12 @@
 -- `record_opening::opening_again` meets its contract.
 use Rattle.theory_record.proofs.Widths.{powers}
 use Rattle.record_opening.proofs.Again.{sized-old, again-right, even-width}
-use borrow.Author.Rules.{rules}
 use Rattle.record_opening.proofs.opening_again.Goals as goal
 
 pub same_opening-requires : goal.same_opening-requires
 same_opening-requires c =
-    let p = c.requires in let ew = c.level_width-w.ensures in (
+    let p = c.requires in
+    let ew = c.level_width-w.ensures in (
       p.0.group_fits,
       p.0.path_fits,
       even-width _ (powers _) _ _ _ _ p.1 ew,

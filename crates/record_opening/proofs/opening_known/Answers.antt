@@ -1,6 +1,5 @@
 -- `record_opening::opening_known` meets its contract.
 use Rattle.record_opening.proofs.Again.{again-right, place_same}
-use borrow.Author.Rules.{rules}
 use Rattle.record_opening.proofs.opening_known.Goals as goal
 
 pub returns-then-same_place : goal.returns-then-same_place

@@ -1,6 +1,5 @@
 -- `record_opening::opening_number` meets its contract.
 use Rattle.record_opening.proofs.Numbers.{wrong_width, wrong_depth, wrong_root, all_right, now_sized}
-use borrow.Author.Rules.{rules}
 use Rattle.record_opening.proofs.opening_number.Goals as goal
 
 pub returns-then-count_at-level_width : goal.returns-then-count_at-level_width

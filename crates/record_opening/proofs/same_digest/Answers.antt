@@ -1,7 +1,6 @@
 -- `record_opening::same_digest` meets its contract: the sum of what the bytes differ by is 0 where all are the same.
-use Prim.Native.Nat.{◌≤◌, ◌-◌, ◌*◌}
 use native.Mathlib.Omega.{arith}
-use Rattle.record_opening.proofs.Differ.{Differ, differ_begin, differ_step, differ_end}
+use Rattle.record_opening.proofs.Differ.{differ_begin, differ_step, differ_end}
 use borrow.Author.Rules.{rules}
 use Rattle.record_opening.proofs.same_digest.Goals as goal
 

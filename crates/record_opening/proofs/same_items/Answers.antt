@@ -1,8 +1,5 @@
 -- `record_opening::same_items` meets its contract. The loop's invariant: the items so far are the same.
 use Rattle.record_opening.proofs.Again.{no_claim, items_begin, items-step, items_end}
-use Prim.Native.Nat.{◌-◌, ◌*◌, ◌≤◌}
-use mathlib.Core.Path.{◌≡◌}
-use Rattle.theory_laws.specs.Lists.{part}
 use borrow.Author.Rules.{rules}
 use Rattle.record_opening.proofs.same_items.Goals as goal
 
@@ -14,7 +11,8 @@ returns-then-not-same_digest c = λ e. no_claim e
 
 pub loop-t-preserved : goal.loop-t-preserved
 loop-t-preserved c =
-    let q = c.loop-t.invariant in (search rules, items-step _ _ _ _ q.1 _ _ _ c.digest_at-d.ensures c.digest_at-e.ensures c.same_digest.ensures c.if-not-same_digest.false)
+    let q = c.loop-t.invariant in
+    (search rules, items-step _ _ _ _ q.1 _ _ _ c.digest_at-d.ensures c.digest_at-e.ensures c.same_digest.ensures c.if-not-same_digest.false)
 
 pub returns : goal.returns
 returns c = λ e. items_end _ _ _ _ c.loop-t.invariant.1 _ c.loop-t.invariant.0 c.loop-t-test.false

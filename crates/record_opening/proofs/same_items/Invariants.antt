@@ -1,9 +1,7 @@
 -- `record_opening::same_items` meets its contract. The loop's invariant: the items so far are the same.
-use Rattle.record_opening.proofs.Again.{no_claim, items_begin, items-step, items_end}
 use Prim.Native.Nat.{◌-◌, ◌*◌, ◌≤◌}
 use mathlib.Core.Path.{◌≡◌}
 use Rattle.theory_laws.specs.Lists.{part}
-use borrow.Author.Rules.{rules}
 use Rattle.record_opening.proofs.same_items.Given as goal
 
 abbrev pub invariant-loop-t : goal.invariant-loop-t

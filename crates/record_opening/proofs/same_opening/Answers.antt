@@ -17,13 +17,16 @@ returns-then-count_at-depth c = λ e. no_claim e
 
 -- both openings are all there
 room : (c : Else-count_at-depth)
-    → let a = c.args in BothRoom (length a.s.now) a.group_at a.path-at a.old a.width a.depth
+    → let a = c.args in BothRoom (length a.s.now) a.group_at a.path_at a.old a.width a.depth
 room c =
-    let p = c.requires in both-room _ _ _ _ _ _ _ _ p.0 p.1 p.2 (p.3 (not-false _ c.if-not-old.false)) c.count_at.ensures.0 c.if-count_at-width.false
+    let p = c.requires in
+    both-room _ _ _ _ _ _ _ _ p.0 p.1 p.2 (p.3 (not-false _ c.if-not-old.false)) c.count_at.ensures.0 c.if-count_at-width.false
     c.count_at-2.ensures.0 c.if-count_at-depth.false
 
 pub overflow_add-group_at : goal.overflow_add-group_at
-overflow_add-group_at c = let h = room c in search rules
+overflow_add-group_at c =
+    let h = room c in
+    search rules
 
 pub overflow_add-old : goal.overflow_add-old
 overflow_add-old c =
@@ -32,7 +35,8 @@ overflow_add-old c =
 
 pub same_items-requires : goal.same_items-requires
 same_items-requires c =
-    ((room (goal.at.same_items-requires c).Else-count_at-depth).group_room, (room (goal.at.same_items-requires c).Else-count_at-depth).old_group_room)
+    let h = room (goal.at.same_items-requires c).Else-count_at-depth in
+    (h.group_room, h.old_group_room)
 
 pub returns-then-not-same_items : goal.returns-then-not-same_items
 returns-then-not-same_items c = λ e. no_claim e
@@ -49,9 +53,12 @@ overflow_add-old-2 c =
 
 pub same_items-requires-2 : goal.same_items-requires-2
 same_items-requires-2 c =
-    ((room (goal.at.same_items-requires-2 c).Else-count_at-depth).path_room, (room (goal.at.same_items-requires-2 c).Else-count_at-depth).old_path_room)
+    let h = room (goal.at.same_items-requires-2 c).Else-count_at-depth in
+    (h.path_room, h.old_path_room)
 
 pub returns : goal.returns
 returns c =
-    let p = c.requires in let kn = c.if-not-old.false in λ e. openings_same _ _ _ _ _ _ _ _ kn c.count_at.ensures.0 c.if-count_at-width.false c.count_at-2.ensures.0 c.if-count_at-depth.false
-    (p.3 (not-false _ kn)) p.2 (c.same_items.ensures (not-false _ c.if-not-same_items.false)) (c.same_items-2.ensures e)
+    let p = c.requires in
+    let kn = c.if-not-old.false in
+    λ e. openings_same _ _ _ _ _ _ _ _ kn c.count_at.ensures.0 c.if-count_at-width.false c.count_at-2.ensures.0 c.if-count_at-depth.false
+    (p.3 (not-false _ kn)) p.2 (c.same_items.ensures c.if-not-same_items.false) (c.same_items-2.ensures e)

@@ -2,7 +2,6 @@
 use borrow.Author.Tests.{not-false}
 use Rattle.record_opening.proofs.Again.{no_claim}
 use Rattle.record_opening.proofs.same_place.Goals as goal
-use Rattle.record_opening.proofs.same_place.Goals.{Else-not-old}
 
 pub returns-then-not-old : goal.returns-then-not-old
 returns-then-not-old c = λ e. no_claim e
@@ -15,4 +14,4 @@ returns-then-path_at-old c = λ e. no_claim e
 
 pub returns : goal.returns
 returns c =
-    λ e. record { (goal.at.returns c).Else-not-old = not-false _ c.if-not-old.false; group_is = c.if-group_at-old.false; path-is = c.if-path_at-old.false }
+    λ e. record { known = not-false _ c.if-not-old.false; group_is = c.if-group_at-old.false; path-is = c.if-path_at-old.false }

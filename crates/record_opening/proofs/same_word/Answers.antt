@@ -1,7 +1,6 @@
+-- `record_opening::same_word` meets its contract: one half differs, or none.
 use Rattle.record_opening.proofs.Words.{low_differs, high_differs, words_same}
 use borrow.Author.Rules.{rules}
-use Rattle.record_opening.proofs.same_word.Reads as reads
-use Rattle.record_opening.proofs.same_word.Lts as lts
 use Rattle.record_opening.proofs.same_word.Goals as goal
 
 pub returns-then-a-b : goal.returns-then-a-b

@@ -30,4 +30,5 @@ overflow_add-tree_at c =
 
 pub lent_level-requires : goal.lent_level-requires
 lent_level-requires c =
-    let p = c.requires in (search rules, search rules, next-first _ _ _ _ _ p.0 p.1 p.2 _ c.level_length.ensures, next-tree _ _ _ _ _ p.0 p.1 p.2)
+    let p = c.requires in
+    (search rules, search rules, next-first _ _ _ _ _ p.0 p.1 p.2 _ c.level_length.ensures, next-tree _ _ _ _ _ p.0 p.1 p.2)

@@ -1,18 +1,10 @@
 -- `record_query_build::put_levels` meets its contract: what is left to store from level l on gives the record.
 use borrow.Author.Rules.{rules}
 use Rattle.record_query_build.proofs.Sizes.{no_levels}
-use Rattle.record_query_build.proofs.Puts.{levels_left, first-level, pair_is, next-from, levels_end, levels-step, count_room, first-levels}
+use Rattle.record_query_build.proofs.Puts.{first-level, pair_is, next-from, levels_end, levels-step, count_room, first-levels}
 use Rattle.record_query_build.proofs.Levels.{level-room}
-use Prim.Native.Nat.{◌+◌, ◌-◌, ◌≤◌}
-use mathlib.Core.Path.{◌≡◌, ◌∙◌}
+use mathlib.Core.Path.{◌∙◌}
 use native.Mathlib.Omega.{arith}
-use lib.ListN.{length}
-use Rattle.theory_field.specs.Words.{words}
-use Rattle.theory_record.specs.Widths.{widths_of, total}
-use Rattle.theory_record.specs.Sizes.{level_size}
-use Rattle.theory_record.specs.Build.{query_bytes}
-use Rattle.tree_place.specs.Place.{index}
-use Rattle.record_query_build.specs.helpers.Levels.{lent_level}
 use Rattle.record_query_build.proofs.put_levels.Goals as goal
 
 pub put_number-at-requires : goal.put_number-at-requires
@@ -38,7 +30,8 @@ next_level-y-requires c =
 
 pub put_level-at-requires : goal.put_level-at-requires
 put_level-at-requires c =
-    let i = c.loop-l.invariant in level-room _ c.requires _ c.loop-l-test.true i.2 c.next_level-y.ensures (pair_is _ _ _ c.folded-q.ensures) i.3
+    let i = c.loop-l.invariant in
+    level-room _ c.requires _ c.loop-l-test.true i.2 c.next_level-y.ensures (pair_is _ _ _ c.folded-q.ensures) i.3
     (i.1 ∙ c.put_number-at.auto.out)
 
 pub overflow_add-l-in-loop-l : goal.overflow_add-l-in-loop-l
@@ -47,7 +40,9 @@ overflow_add-l-in-loop-l c =
 
 pub loop-l-preserved : goal.loop-l-preserved
 loop-l-preserved c =
-    let i = c.loop-l.invariant in let y = c.next_level-y.ensures in let p = c.put_level-at.ensures in (
+    let i = c.loop-l.invariant in
+    let y = c.next_level-y.ensures in
+    let p = c.put_level-at.ensures in (
       search rules,
       search rules,
       y,

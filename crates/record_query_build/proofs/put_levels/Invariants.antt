@@ -1,11 +1,7 @@
 -- `record_query_build::put_levels` meets its contract: what is left to store from level l on gives the record.
-use borrow.Author.Rules.{rules}
-use Rattle.record_query_build.proofs.Sizes.{no_levels}
-use Rattle.record_query_build.proofs.Puts.{levels_left, first-level, pair_is, next-from, levels_end, levels-step, count_room, first-levels}
-use Rattle.record_query_build.proofs.Levels.{level-room}
+use Rattle.record_query_build.proofs.Puts.{levels_left}
 use Prim.Native.Nat.{◌+◌, ◌-◌, ◌≤◌}
-use mathlib.Core.Path.{◌≡◌, ◌∙◌}
-use native.Mathlib.Omega.{arith}
+use mathlib.Core.Path.{◌≡◌}
 use lib.ListN.{length}
 use Rattle.theory_field.specs.Words.{words}
 use Rattle.theory_record.specs.Widths.{widths_of, total}
@@ -17,8 +13,10 @@ use Rattle.record_query_build.proofs.put_levels.Given as goal
 
 abbrev pub invariant-loop-l : goal.invariant-loop-l
 invariant-loop-l l =
-    (l.l ≤ l.n) × (length l.out ≡ length l.initial.out) × (l.x ≡ lent_level (widths_of l.set) l.n l.k l.l) × (l.at ≡ 4 + total l.l (level_size (widths_of l.set) l.n l.k))
-    × (levels_left (widths_of l.set) l.out l.at l.n l.k (words l.levels) l.trees (index l.position) l.l ≡ query_bytes (widths_of l.set) l.n l.k (words l.levels) l.trees (index l.position))
+    (l.l ≤ l.n) × (length l.out ≡ length l.initial.out) × (l.x ≡ lent_level (widths_of l.set) l.n l.k l.l)
+    × (l.at ≡ 4 + total l.l (level_size (widths_of l.set) l.n l.k))
+    × (levels_left (widths_of l.set) l.out l.at l.n l.k (words l.levels) l.trees (index l.position) l.l
+    ≡ query_bytes (widths_of l.set) l.n l.k (words l.levels) l.trees (index l.position))
 
 abbrev pub decreases-loop-l : goal.decreases-loop-l
 decreases-loop-l l = l.n - l.l

@@ -1,8 +1,6 @@
 -- `record_query_build::put_pair` meets its contract.
 use mathlib.Core.Path.{◌∙◌}
-use native.Mathlib.Omega.{arith}
 use Rattle.record_query_build.proofs.Puts.{pair_put}
-use borrow.Author.Rules.{rules}
 use Rattle.record_query_build.proofs.put_pair.Goals as goal
 
 pub returns : goal.returns

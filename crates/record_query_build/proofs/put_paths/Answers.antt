@@ -5,12 +5,14 @@ use Rattle.record_query_build.proofs.put_paths.Goals as goal
 
 pub put_digests-a-requires : goal.put_digests-a-requires
 put_digests-a-requires c =
-    let a = c.requires.a_there in let e = first_group _ _ c.group_of-g.ensures c.first_of_pair.ensures in
+    let a = c.requires.a_there in
+    let e = first_group _ _ c.group_of-g.ensures c.first_of_pair.ensures in
     record { groups_are = a.groups_are; group_lt = rw e a.group_lt; tree_there = a.tree_there; fits = search rules }
 
 pub put_digests-requires : goal.put_digests-requires
 put_digests-requires c =
-    let a = c.requires.c_there in record {
+    let a = c.requires.c_there in
+    record {
       groups_are = a.groups_are;
       group_lt = rw c.group_of-h.ensures a.group_lt;
       tree_there = a.tree_there;

@@ -4,13 +4,6 @@ use Rattle.code_level.proofs.Totals.{levels_fit}
 use Rattle.code_level.proofs.Sizes.{sizes-said}
 use Rattle.theory_record.proofs.Ranges.{sizes-small}
 use borrow.Author.Rules.{rules}
-use Rattle.record_query_build.proofs.query_number.Reads as reads
-use Rattle.record_query_build.proofs.query_number.Lts as lts
-use Rattle.code_level.proofs.level_length.Reads as level-length-reads
-use Rattle.code_level.proofs.size_number.Reads as size-number-reads
-use Rattle.code_level.proofs.levels_length.Reads as levels-length-reads
-use Rattle.record_query_build.proofs.query_size.Reads as query-size-reads
-use Rattle.code_level.proofs.trees_size.Reads as trees-size-reads
 use Rattle.record_query_build.proofs.query_number.Goals as goal
 
 pub returns-then-x-ne0 : goal.returns-then-x-ne0
@@ -20,7 +13,9 @@ pub levels_length-requires : goal.levels_length-requires
 levels_length-requires c = sizes-said _ _ _ c.size_number-x.ensures c.if-x-ne0.false
 
 pub overflow_mul-levels_length : goal.overflow_mul-levels_length
-overflow_mul-levels_length c = let h = levels_fit _ _ (sizes-said _ _ _ c.size_number-x.ensures c.if-x-ne0.false) in search rules
+overflow_mul-levels_length c =
+    let h = levels_fit _ _ (sizes-said _ _ _ c.size_number-x.ensures c.if-x-ne0.false) in
+    search rules
 
 pub returns-then-levels-levels_length : goal.returns-then-levels-levels_length
 returns-then-levels-levels_length c = search wrong_levels

@@ -1,14 +1,8 @@
 -- `record_query_build::query_size` meets its contract.
 use borrow.Author.Rules.{rules}
 use Rattle.record_query_build.proofs.Sizes.{levels-size-le, no_levels, size_step, size_is}
-use Prim.Native.Nat.{◌+◌, ◌-◌, ◌≤◌}
-use mathlib.Core.Path.{◌≡◌, refl}
-use Rattle.theory_record.specs.Widths.{widths_of, total}
-use Rattle.theory_record.specs.Sizes.{level_size}
+use mathlib.Core.Path.{refl}
 use Rattle.theory_record.proofs.Ranges.{sizes-small}
-use Rattle.record_query_build.proofs.query_size.Reads as reads
-use Rattle.record_query_build.proofs.query_size.Lts as lts
-use Rattle.record_query_build.proofs.group_size.Reads as group-size-reads
 use Rattle.record_query_build.proofs.query_size.Goals as goal
 
 pub loop-l-init : goal.loop-l-init

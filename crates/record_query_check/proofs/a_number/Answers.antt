@@ -9,7 +9,8 @@ use Rattle.record_query_check.proofs.a_number.Goals.{After-level_width-w}
 
 pub opening_again-x-requires : goal.opening_again-x-requires
 opening_again-x-requires c =
-    let p = c.requires in (p.readable, p.level_low, search rules, λ known. rw c.first_of_pair-first.ensures (p.known known))
+    let p = c.requires in
+    (p.readable, p.level_low, search rules, λ known. rw c.first_of_pair-first.ensures (p.known known))
 
 pub returns-then-x-ne0 : goal.returns-then-x-ne0
 returns-then-x-ne0 c = search a_stops

@@ -2,7 +2,6 @@
 use Rattle.theory_record.proofs.Widths.{powers}
 use Rattle.record_query_check.proofs.Groups.{opened-wide, c_stops, no_c, c-held}
 use native.Mathlib.Omega.{arith}
-use borrow.Author.Rules.{rules}
 use Rattle.record_query_check.proofs.c_number.Goals as goal
 
 pub returns-then-x-ne0 : goal.returns-then-x-ne0

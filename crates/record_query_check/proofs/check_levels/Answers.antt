@@ -1,26 +1,16 @@
 -- `record_query_check::check_levels` meets its contract: from level l on, what is left to check gives the answer, and what is known is so.
 use Rattle.theory_record.proofs.Widths.{powers}
 use Rattle.record_query_check.proofs.Again.{leads_next, first-known, next_known}
-use Rattle.record_opening.specs.helpers.Opening.{Known}
 use Rattle.record_query_check.proofs.Loop.{begin_within, begin_whole, begin_check, level-there, rest-there, level-refused, level-passed, all-passed}
 use Rattle.record_reader.proofs.Places.{level-places}
-use Rattle.theory_record.proofs.Reading.{check_from}
-use Rattle.theory_record.specs.Format.{level_form, whole_items}
-use Rattle.theory_record.specs.Query.{pair_of, root_at}
-use Rattle.tree_place.specs.Place.{index}
-use Rattle.record_query_check.specs.helpers.Level.{all_asked}
-use Prim.Native.Nat.{◌-◌, ◌*◌, ◌<◌, ◌≤◌}
-use mathlib.Core.Path.{◌≡◌}
-use mathlib.Core.Bool.{true}
-use lib.ListN.{length, drop}
 use native.Mathlib.Omega.{arith}
 use borrow.Author.Rules.{rules}
-use Rattle.theory_record.specs.Scheme.{scheme}
 use Rattle.record_query_check.proofs.check_levels.Goals as goal
 
 pub loop-l-init : goal.loop-l-init
 loop-l-init c =
-    let z = c.requires.1 in (search rules, begin_within _ _ z, begin_whole _ _ z, begin_check _ _ _ _ _, λ h. first-known _ _ _ _ _ c.requires.2 (powers _) h)
+    let z = c.requires.1 in
+    (search rules, begin_within _ _ z, begin_whole _ _ z, begin_check _ _ _ _ _, λ h. first-known _ _ _ _ _ c.requires.2 (powers _) h)
 
 pub bounds-ways-l : goal.bounds-ways-l
 bounds-ways-l c =
@@ -28,7 +18,9 @@ bounds-ways-l c =
 
 pub level_number-q-requires : goal.level_number-q-requires
 level_number-q-requires c =
-    let test = c.loop-l-test.true in let inv = c.loop-l.invariant in record {
+    let test = c.loop-l-test.true in
+    let inv = c.loop-l.invariant in
+    record {
       allowed = c.requires.0;
       level_low = test;
       read = c.level_at-v.ensures;
@@ -42,7 +34,9 @@ returns-then-q-ne0 c = search level-refused
 
 pub loop-l-preserved : goal.loop-l-preserved
 loop-l-preserved c =
-    let v = c.level_at-v.ensures in let t = c.loop-l-test.true in let i = c.loop-l.invariant in (
+    let v = c.level_at-v.ensures in
+    let t = c.loop-l-test.true in
+    let i = c.loop-l.invariant in (
       search rules,
       (level-places _ _ _ v).within,
       rest-there _ _ _ _ _ v t i.2,

@@ -1,9 +1,5 @@
 -- `record_query_check::check_levels` meets its contract: from level l on, what is left to check gives the answer, and what is known is so.
-use Rattle.theory_record.proofs.Widths.{powers}
-use Rattle.record_query_check.proofs.Again.{leads_next, first-known, next_known}
 use Rattle.record_opening.specs.helpers.Opening.{Known}
-use Rattle.record_query_check.proofs.Loop.{begin_within, begin_whole, begin_check, level-there, rest-there, level-refused, level-passed, all-passed}
-use Rattle.record_reader.proofs.Places.{level-places}
 use Rattle.theory_record.proofs.Reading.{check_from}
 use Rattle.theory_record.specs.Format.{level_form, whole_items}
 use Rattle.theory_record.specs.Query.{pair_of, root_at}
@@ -13,15 +9,14 @@ use Prim.Native.Nat.{◌-◌, ◌*◌, ◌<◌, ◌≤◌}
 use mathlib.Core.Path.{◌≡◌}
 use mathlib.Core.Bool.{true}
 use lib.ListN.{length, drop}
-use native.Mathlib.Omega.{arith}
-use borrow.Author.Rules.{rules}
 use Rattle.theory_record.specs.Scheme.{scheme}
 use Rattle.record_query_check.proofs.check_levels.Given as goal
 
 abbrev pub invariant-loop-l : goal.invariant-loop-l
 invariant-loop-l l =
     (l.l ≤ l.n) × (l.at ≤ length l.s) × (whole_items level_form (l.n - l.l) (drop l.at l.s) ≡ true)
-    × (check_from (scheme l.how l.base l.n l.k) (index l.position) l.challenges l.roots l.s l.at l.l ≡ all_asked (scheme l.how l.base l.n l.k) (index l.position) l.challenges l.roots l.s)
+    × (check_from (scheme l.how l.base l.n l.k) (index l.position) l.challenges l.roots l.s l.at l.l
+    ≡ all_asked (scheme l.how l.base l.n l.k) (index l.position) l.challenges l.roots l.s)
     × (l.l < l.n → Known (scheme l.how l.base l.n l.k) l.l (2 * pair_of (index l.position) l.l) l.s l.old (root_at l.roots l.l))
 
 abbrev pub decreases-loop-l : goal.decreases-loop-l

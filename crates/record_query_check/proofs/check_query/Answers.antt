@@ -2,7 +2,6 @@
 use Rattle.record_query_check.proofs.Numbers.{query_refused, query_allowed, query_checked}
 use Rattle.record_query_check.proofs.Again.{levels-lent}
 use Rattle.record_query_check.proofs.Loop.{begin_within}
-use borrow.Author.Rules.{rules}
 use Rattle.record_query_check.proofs.check_query.Goals as goal
 
 pub returns-then-number-ne0 : goal.returns-then-number-ne0

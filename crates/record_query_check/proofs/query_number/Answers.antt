@@ -2,28 +2,28 @@
 use Rattle.record_query_check.proofs.Numbers.{wrong_size, wrong_challenges, wrong_roots, long_base, high_position, not_whole, other-count, none_says_no}
 use Rattle.code_level.proofs.Sizes.{sizes-said}
 use borrow.Author.Rules.{rules}
-use Rattle.record_query_check.proofs.query_number.Reads as reads
-use Rattle.record_query_check.proofs.query_number.Lts as lts
-use Rattle.code_level.proofs.level_length.Reads as level-length-reads
-use Rattle.code_level.proofs.size_number.Reads as size-number-reads
-use Rattle.record_reader.proofs.count_at.Reads as count-at-reads
-use Rattle.record_reader.proofs.query_whole.Reads as query-whole-reads
 use Rattle.record_query_check.proofs.query_number.Goals as goal
 
 pub returns-then-x-ne0 : goal.returns-then-x-ne0
 returns-then-x-ne0 c = λ how. search wrong_size
 
 pub overflow_mul-n : goal.overflow_mul-n
-overflow_mul-n c = let h = sizes-said _ _ _ c.size_number-x.ensures c.if-x-ne0.false in search rules
+overflow_mul-n c =
+    let h = sizes-said _ _ _ c.size_number-x.ensures c.if-x-ne0.false in
+    search rules
 
 pub returns-then-challenges-n : goal.returns-then-challenges-n
 returns-then-challenges-n c = λ how. search wrong_challenges
 
 pub overflow_add-n : goal.overflow_add-n
-overflow_add-n c = let h = sizes-said _ _ _ c.size_number-x.ensures c.if-x-ne0.false in search rules
+overflow_add-n c =
+    let h = sizes-said _ _ _ c.size_number-x.ensures c.if-x-ne0.false in
+    search rules
 
 pub overflow_mul-n-2 : goal.overflow_mul-n-2
-overflow_mul-n-2 c = let h = sizes-said _ _ _ c.size_number-x.ensures c.if-x-ne0.false in search rules
+overflow_mul-n-2 c =
+    let h = sizes-said _ _ _ c.size_number-x.ensures c.if-x-ne0.false in
+    search rules
 
 pub returns-then-roots-n : goal.returns-then-roots-n
 returns-then-roots-n c = λ how. search wrong_roots

@@ -1,6 +1,5 @@
+-- `record_reader::and` meets its contract.
 use Rattle.record_reader.proofs.Places.{and_no, and_yes}
-use Rattle.record_reader.proofs.and.Reads as reads
-use Rattle.record_reader.proofs.and.Lts as lts
 use Rattle.record_reader.proofs.and.Goals as goal
 
 pub returns-then-not-a : goal.returns-then-not-a

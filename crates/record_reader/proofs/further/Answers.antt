@@ -1,8 +1,6 @@
+-- `record_reader::further` meets its contract: where as many bytes end, or the end.
 use Rattle.theory_laws.proofs.Questions.{asks}
 use Rattle.record_reader.specs.helpers.Places.{further_of}
-use borrow.Author.Rules.{rules}
-use Rattle.record_reader.proofs.further.Reads as reads
-use Rattle.record_reader.proofs.further.Lts as lts
 use Rattle.record_reader.proofs.further.Goals as goal
 
 pub returns-then-len-at : goal.returns-then-len-at

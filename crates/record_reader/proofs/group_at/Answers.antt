@@ -1,9 +1,6 @@
+-- `record_reader::group_at` meets its contract: a run of values, then a run of digests.
 use Rattle.record_reader.proofs.Runs.{run-within, group_read}
 use borrow.Author.Rules.{rules}
-use Rattle.record_reader.proofs.group_at.Reads as reads
-use Rattle.record_reader.proofs.group_at.Lts as lts
-use Rattle.record_reader.proofs.and.Reads as and-reads
-use Rattle.record_reader.proofs.run_at.Reads as run-at-reads
 use Rattle.record_reader.proofs.group_at.Goals as goal
 
 pub run_at-p-requires : goal.run_at-p-requires

@@ -1,7 +1,5 @@
+-- `record_reader::has` meets its contract: there are as many, or not.
 use borrow.Author.Tests.{lt-leb, le-leb}
-use borrow.Author.Rules.{rules}
-use Rattle.record_reader.proofs.has.Reads as reads
-use Rattle.record_reader.proofs.has.Lts as lts
 use Rattle.record_reader.proofs.has.Goals as goal
 
 pub returns-then-len-at : goal.returns-then-len-at

@@ -2,10 +2,8 @@
 use borrow.Author.Rules.{rules}
 use Rattle.record_reader.proofs.Places.{level-places, level-more, level-less}
 use Rattle.theory_record.proofs.Reading.{whole_begin, whole-short, whole_end}
-use Rattle.theory_record.specs.Format.{level_form, whole_items, record_whole}
-use lib.ListN.{length, drop}
-use mathlib.Core.Path.{◌≡◌, ◌∙◌}
-use Prim.Native.Nat.{◌-◌, ◌≤◌}
+use Rattle.theory_record.specs.Format.{level_form}
+use mathlib.Core.Path.{◌∙◌}
 use Rattle.record_reader.proofs.query_whole.Goals as goal
 
 pub returns-then-s-lt4 : goal.returns-then-s-lt4
@@ -20,8 +18,10 @@ returns-then-not-v c =
 
 pub loop-l-preserved : goal.loop-l-preserved
 loop-l-preserved c =
-    let v = c.level_at-v.ensures in (search rules, (level-places _ _ _ v).within, level-more _ _ _ _ _ _ v c.loop-l-test.true c.loop-l.invariant.2 c.if-not-v.false)
+    let v = c.level_at-v.ensures in
+    (search rules, (level-places _ _ _ v).within, level-more _ _ _ _ _ _ v c.loop-l-test.true c.loop-l.invariant.2 c.if-not-v.false)
 
 pub returns : goal.returns
 returns c =
-    let q = c.loop-l.invariant in c.at_end.ensures ∙ whole_end level_form _ _ _ _ _ c.loop-l-test.false q.1 q.2
+    let q = c.loop-l.invariant in
+    c.at_end.ensures ∙ whole_end level_form _ _ _ _ _ c.loop-l-test.false q.1 q.2

@@ -1,19 +1,20 @@
+-- `record_reader::run_at` meets its contract: no count, no items, or all of them.
 use Rattle.record_reader.proofs.Runs.{product_small, no_count, no_items, all-items}
-use native.Mathlib.Omega.{arith}
 use borrow.Author.Rules.{rules}
-use Rattle.record_reader.proofs.run_at.Reads as reads
-use Rattle.record_reader.proofs.run_at.Lts as lts
-use Rattle.record_reader.proofs.count_at.Reads as count-at-reads
 use Rattle.record_reader.proofs.run_at.Goals as goal
 
 pub returns-then-left-lt4 : goal.returns-then-left-lt4
 returns-then-left-lt4 c = search (no_count, rules)
 
 pub overflow_mul-size : goal.overflow_mul-size
-overflow_mul-size c = let h = product_small _ _ c.requires.1 c.count_at-count.ensures.1 in search rules
+overflow_mul-size c =
+    let h = product_small _ _ c.requires.1 c.count_at-count.ensures.1 in
+    search rules
 
 pub overflow_add-size : goal.overflow_add-size
-overflow_add-size c = let h = product_small _ _ c.requires.1 c.count_at-count.ensures.1 in search rules
+overflow_add-size c =
+    let h = product_small _ _ c.requires.1 c.count_at-count.ensures.1 in
+    search rules
 
 pub returns-then-left-size : goal.returns-then-left-size
 returns-then-left-size c = search (no_items, rules)

@@ -2,10 +2,8 @@
 use borrow.Author.Rules.{rules}
 use Rattle.record_reader.proofs.Places.{group_places, group_more, group_less}
 use Rattle.theory_record.proofs.Reading.{whole_begin, whole-short, whole_end}
-use Rattle.theory_record.specs.Format.{tail_form, whole_items, record_whole}
-use lib.ListN.{length, drop}
-use mathlib.Core.Path.{◌≡◌, ◌∙◌}
-use Prim.Native.Nat.{◌-◌, ◌≤◌}
+use Rattle.theory_record.specs.Format.{tail_form}
+use mathlib.Core.Path.{◌∙◌}
 use Rattle.record_reader.proofs.tail_whole.Goals as goal
 
 pub returns-then-s-lt4 : goal.returns-then-s-lt4
@@ -20,8 +18,10 @@ returns-then-not-v c =
 
 pub loop-g-preserved : goal.loop-g-preserved
 loop-g-preserved c =
-    let v = c.group_at-v.ensures in (search rules, (group_places _ _ _ v).within, group_more _ _ _ _ _ _ v c.loop-g-test.true c.loop-g.invariant.2 c.if-not-v.false)
+    let v = c.group_at-v.ensures in
+    (search rules, (group_places _ _ _ v).within, group_more _ _ _ _ _ _ v c.loop-g-test.true c.loop-g.invariant.2 c.if-not-v.false)
 
 pub returns : goal.returns
 returns c =
-    let q = c.loop-g.invariant in c.at_end.ensures ∙ whole_end tail_form _ _ _ _ _ c.loop-g-test.false q.1 q.2
+    let q = c.loop-g.invariant in
+    c.at_end.ensures ∙ whole_end tail_form _ _ _ _ _ c.loop-g-test.false q.1 q.2

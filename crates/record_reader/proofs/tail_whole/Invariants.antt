@@ -1,10 +1,7 @@
 -- `record_reader::tail_whole` meets its contract. The loop's invariant: whether what is left reads whole decides.
-use borrow.Author.Rules.{rules}
-use Rattle.record_reader.proofs.Places.{group_places, group_more, group_less}
-use Rattle.theory_record.proofs.Reading.{whole_begin, whole-short, whole_end}
 use Rattle.theory_record.specs.Format.{tail_form, whole_items, record_whole}
 use lib.ListN.{length, drop}
-use mathlib.Core.Path.{◌≡◌, ◌∙◌}
+use mathlib.Core.Path.{◌≡◌}
 use Prim.Native.Nat.{◌-◌, ◌≤◌}
 use Rattle.record_reader.proofs.tail_whole.Given as goal
 

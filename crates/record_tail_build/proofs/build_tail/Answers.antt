@@ -1,10 +1,5 @@
 -- `record_tail_build::build_tail` meets its contract.
 use Rattle.record_tail_build.proofs.Sizes.{number_is, refused, allowed, zero_is, done}
-use borrow.Author.Rules.{rules}
-use Rattle.record_tail_build.proofs.build_tail.Reads as reads
-use Rattle.record_tail_build.proofs.build_tail.Lts as lts
-use Rattle.record_tail_build.proofs.put_groups.Reads as put-groups-reads
-use Rattle.record_tail_build.proofs.tail_number.Reads as tail-number-reads
 use Rattle.record_tail_build.proofs.build_tail.Goals as goal
 
 pub returns-then-q-ne0 : goal.returns-then-q-ne0
@@ -15,4 +10,6 @@ put_groups-requires c = search allowed
 
 pub returns : goal.returns
 returns c =
-    let e = c.tail_number-q.ensures in let z = c.if-q-ne0.false in record { value = zero_is _ _ _ _ _ _ _ e z; out_after = done _ _ _ _ _ _ _ e _ z c.put_groups.ensures }
+    let e = c.tail_number-q.ensures in
+    let z = c.if-q-ne0.false in
+    record { value = zero_is _ _ _ _ _ _ _ e z; out_after = done _ _ _ _ _ _ _ e _ z c.put_groups.ensures }

@@ -1,10 +1,7 @@
 -- `record_tail_build::put_groups` meets its contract: from group g on, what is left to store is what was left when the loop began.
-use Rattle.record_tail_build.proofs.Groups.{groups_left, groups-step, groups_end}
+use Rattle.record_tail_build.proofs.Groups.{groups-step, groups_end}
 use Rattle.record_tail_build.proofs.Sizes.{count_room, group_room, first-groups, next_place}
-use Prim.Native.Nat.{◌-◌, ◌≤◌, ◌+◌, ◌*◌}
-use mathlib.Core.Path.{◌≡◌, refl, ◌∙◌}
-use lib.ListN.{length}
-use Rattle.theory_field.specs.Words.{words}
+use mathlib.Core.Path.{refl, ◌∙◌}
 use native.Mathlib.Omega.{arith}
 use borrow.Author.Rules.{rules}
 use Rattle.record_tail_build.proofs.put_groups.Goals as goal
@@ -23,7 +20,8 @@ put_group-at-requires c =
 
 pub loop-g-preserved : goal.loop-g-preserved
 loop-g-preserved c =
-    let q = c.loop-g.invariant in let put = rw c.numbered-group.ensures at c.put_group-at.ensures in (
+    let q = c.loop-g.invariant in
+    let put = rw c.numbered-group.ensures at c.put_group-at.ensures in (
       search rules,
       search rules,
       next_place _ _ _ _ q.2 put.end,

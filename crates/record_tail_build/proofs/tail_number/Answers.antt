@@ -2,19 +2,15 @@
 use Rattle.record_tail_build.proofs.Sizes.{wrong_size, wrong_level, wrong_tree, wrong_out, none_says_no, length-small, groups-small}
 use Rattle.code_level.proofs.Sizes.{sizes-said}
 use borrow.Author.Rules.{rules}
-use Rattle.record_tail_build.proofs.tail_number.Reads as reads
-use Rattle.record_tail_build.proofs.tail_number.Lts as lts
-use Rattle.code_level.proofs.level_groups.Reads as level-groups-reads
-use Rattle.code_level.proofs.level_length.Reads as level-length-reads
-use Rattle.code_level.proofs.size_number.Reads as size-number-reads
-use Rattle.record_tail_build.proofs.tail_size.Reads as tail-size-reads
 use Rattle.record_tail_build.proofs.tail_number.Goals as goal
 
 pub returns-then-x-ne0 : goal.returns-then-x-ne0
 returns-then-x-ne0 c = search wrong_size
 
 pub level_length-requires : goal.level_length-requires
-level_length-requires c = let h = sizes-said _ _ _ c.size_number-x.ensures c.if-x-ne0.false in search rules
+level_length-requires c =
+    let h = sizes-said _ _ _ c.size_number-x.ensures c.if-x-ne0.false in
+    search rules
 
 pub overflow_mul-level_length : goal.overflow_mul-level_length
 overflow_mul-level_length c =
@@ -25,7 +21,9 @@ pub returns-then-level-level_length : goal.returns-then-level-level_length
 returns-then-level-level_length c = search wrong_level
 
 pub level_groups-requires : goal.level_groups-requires
-level_groups-requires c = let h = sizes-said _ _ _ c.size_number-x.ensures c.if-x-ne0.false in search rules
+level_groups-requires c =
+    let h = sizes-said _ _ _ c.size_number-x.ensures c.if-x-ne0.false in
+    search rules
 
 pub overflow_mul-level_groups : goal.overflow_mul-level_groups
 overflow_mul-level_groups c =

@@ -1,11 +1,6 @@
 -- `record_tail_build::tail_size` meets its contract.
 use Rattle.record_tail_build.proofs.Sizes.{last-level, size_small, size_is}
 use borrow.Author.Rules.{rules}
-use Rattle.record_tail_build.proofs.tail_size.Reads as reads
-use Rattle.record_tail_build.proofs.tail_size.Lts as lts
-use Rattle.code_level.proofs.level_depth.Reads as level-depth-reads
-use Rattle.code_level.proofs.level_groups.Reads as level-groups-reads
-use Rattle.code_level.proofs.level_width.Reads as level-width-reads
 use Rattle.record_tail_build.proofs.tail_size.Goals as goal
 
 pub overflow_mul-result : goal.overflow_mul-result

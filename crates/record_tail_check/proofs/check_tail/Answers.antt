@@ -1,10 +1,5 @@
 -- `record_tail_check::check_tail` meets its contract.
 use Rattle.record_tail_check.proofs.Numbers.{tail-refused, tail-passes, tail-allowed, root-room, whole-root}
-use borrow.Author.Rules.{rules}
-use Rattle.record_tail_check.proofs.check_tail.Reads as reads
-use Rattle.record_tail_check.proofs.check_tail.Lts as lts
-use Rattle.record_tail_check.proofs.groups_number.Reads as groups-number-reads
-use Rattle.record_tail_check.proofs.head_number.Reads as head-number-reads
 use Rattle.record_tail_check.proofs.check_tail.Goals as goal
 
 pub returns-then-number-ne0 : goal.returns-then-number-ne0
@@ -18,4 +13,6 @@ groups_number-requires c = (tail-allowed _ _ _ _ _ _ _ c.head_number-number.ensu
 
 pub returns : goal.returns
 returns c =
-    let e = c.head_number-number.ensures in let z = c.if-number-ne0.false in tail-passes _ _ _ _ _ _ _ _ e z _ _ (whole-root _ _ _ _ _ _ _ e z _ c.load-last.ensures) c.groups_number.ensures
+    let e = c.head_number-number.ensures in
+    let z = c.if-number-ne0.false in
+    tail-passes _ _ _ _ _ _ _ _ e z _ _ (whole-root _ _ _ _ _ _ _ e z _ c.load-last.ensures) c.groups_number.ensures

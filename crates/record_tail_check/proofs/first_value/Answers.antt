@@ -1,10 +1,5 @@
 -- `record_tail_check::first_value` meets its contract.
 use Rattle.record_tail_check.proofs.Groups.{no_first, first-there}
-use borrow.Author.Rules.{rules}
-use Rattle.record_tail_check.proofs.first_value.Reads as reads
-use Rattle.record_tail_check.proofs.first_value.Lts as lts
-use Rattle.record_reader.proofs.count_at.Reads as count-at-reads
-use Rattle.record_reader.proofs.word_at.Reads as word-at-reads
 use Rattle.record_tail_check.proofs.first_value.Goals as goal
 
 pub returns-then-count_at-eq0 : goal.returns-then-count_at-eq0

@@ -1,16 +1,10 @@
 -- `record_tail_check::groups_number` meets its contract: from group g on, what is left to check gives the number.
-use Rattle.record_tail_check.proofs.Groups.{groups_left, groups-lent, groups-few, begin_within, begin_whole, begin_groups, some_group, place-small, rest-there}
+use Rattle.record_tail_check.proofs.Groups.{groups-lent, groups-few, begin_within, begin_whole, begin_groups, some_group, place-small, rest-there}
 use Rattle.record_tail_check.proofs.Groups.{group_known, group_readable, group_refused, group_passed, not_claimed, is-claimed}
 use Rattle.record_known.proofs.TailGroups.{group_first}
-use Rattle.record_tail_check.specs.helpers.Numbers.{groups_number}
-use Rattle.field_gf128.specs.Word.{word}
 use Rattle.record_reader.proofs.Places.{group_places}
-use Rattle.theory_record.specs.Format.{tail_form, whole_items}
-use Prim.Native.Nat.{◌-◌, ◌≤◌}
-use mathlib.Core.Path.{◌≡◌, refl}
+use mathlib.Core.Path.{refl}
 use native.Mathlib.Omega.{arith}
-use mathlib.Core.Bool.{true}
-use lib.ListN.{length, drop}
 use borrow.Author.Rules.{rules}
 use Rattle.record_tail_check.proofs.groups_number.Goals as goal
 
@@ -20,7 +14,9 @@ known_groups-ways-requires c =
 
 pub loop-g-init : goal.loop-g-init
 loop-g-init c =
-    let z = c.requires in let e = c.level_groups-groups.ensures in (search rules, begin_within z e, begin_whole z e, begin_groups _ _ _ _ _ _ _ _ e)
+    let z = c.requires in
+    let e = c.level_groups-groups.ensures in
+    (search rules, begin_within z e, begin_whole z e, begin_groups _ _ _ _ _ _ _ _ e)
 
 pub first_place-first-requires : goal.first_place-first-requires
 first_place-first-requires c =
@@ -50,7 +46,9 @@ returns-then-q-ne0 c =
 
 pub loop-g-preserved : goal.loop-g-preserved
 loop-g-preserved c =
-    let v = c.group_at-v.ensures in let t = c.loop-g-test.true in let i = c.loop-g.invariant in (
+    let v = c.group_at-v.ensures in
+    let t = c.loop-g-test.true in
+    let i = c.loop-g.invariant in (
       search rules,
       (group_places _ _ _ v).within,
       rest-there c.requires c.level_groups-groups.ensures _ _ v t i.2,

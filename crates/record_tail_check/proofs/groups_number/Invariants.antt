@@ -1,17 +1,12 @@
 -- `record_tail_check::groups_number` meets its contract: from group g on, what is left to check gives the number.
-use Rattle.record_tail_check.proofs.Groups.{groups_left, groups-lent, groups-few, begin_within, begin_whole, begin_groups, some_group, place-small, rest-there}
-use Rattle.record_tail_check.proofs.Groups.{group_known, group_readable, group_refused, group_passed, not_claimed, is-claimed}
-use Rattle.record_known.proofs.TailGroups.{group_first}
+use Rattle.record_tail_check.proofs.Groups.{groups_left}
 use Rattle.record_tail_check.specs.helpers.Numbers.{groups_number}
 use Rattle.field_gf128.specs.Word.{word}
-use Rattle.record_reader.proofs.Places.{group_places}
 use Rattle.theory_record.specs.Format.{tail_form, whole_items}
 use Prim.Native.Nat.{◌-◌, ◌≤◌}
-use mathlib.Core.Path.{◌≡◌, refl}
-use native.Mathlib.Omega.{arith}
+use mathlib.Core.Path.{◌≡◌}
 use mathlib.Core.Bool.{true}
 use lib.ListN.{length, drop}
-use borrow.Author.Rules.{rules}
 use Rattle.record_tail_check.proofs.groups_number.Given as goal
 
 abbrev pub invariant-loop-g : goal.invariant-loop-g

@@ -2,12 +2,6 @@
 use Rattle.record_tail_check.proofs.Numbers.{wrong_size, wrong_root, long_base, not_whole, other-count, none_says_no}
 use Rattle.code_level.proofs.Sizes.{sizes-said}
 use borrow.Author.Rules.{rules}
-use Rattle.record_tail_check.proofs.head_number.Reads as reads
-use Rattle.record_tail_check.proofs.head_number.Lts as lts
-use Rattle.code_level.proofs.level_groups.Reads as level-groups-reads
-use Rattle.code_level.proofs.size_number.Reads as size-number-reads
-use Rattle.record_reader.proofs.count_at.Reads as count-at-reads
-use Rattle.record_reader.proofs.tail_whole.Reads as tail-whole-reads
 use Rattle.record_tail_check.proofs.head_number.Goals as goal
 
 pub returns-then-x-ne0 : goal.returns-then-x-ne0

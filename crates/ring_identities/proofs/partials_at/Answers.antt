@@ -1,7 +1,6 @@
 -- `ring_identities::partials_at` meets its contract: of lengths that are as required neither entry refuses.
 use mathlib.Core.Path.{◌≡◌, refl, ◌∙◌}
 use Rattle.ring_identities.proofs.Sizes.{eq-passes, partial-passes}
-use borrow.Author.Rules.{rules}
 use Rattle.ring_identities.proofs.partials_at.Goals as goal
 
 pub returns : goal.returns

@@ -1,17 +1,13 @@
 -- `ring_identities::row_sum` meets its contract: the sum so far is that of the products so far.
-use mathlib.Core.Path.{◌≡◌, refl, ap₂, ◌∙◌}
+use mathlib.Core.Path.{◌≡◌}
 use Prim.Native.Nat.{◌-◌, ◌≤◌}
-use native.Mathlib.Omega.{arith}
-use borrow.Author.Rules.{rules}
 use lib.ListN.{length}
 use Rattle.theory_laws.specs.Sum.{sum}
 use Rattle.theory_laws.specs.Table.{at}
-use Rattle.theory_laws.proofs.Windows.{sum_more, sum-all}
 use Rattle.theory_field.specs.Field.{◌⊗◌}
 use Rattle.theory_field.specs.Words.{words}
 use Rattle.field_gf128.specs.Word.{word}
 use Rattle.field_pack.specs.Phi.{numbers}
-use Rattle.field_pack.proofs.Numbers.{numbers-at}
 use Rattle.ring_identities.proofs.row_sum.Given as goal
 
 abbrev pub invariant-loop-b : goal.invariant-loop-b

@@ -1,7 +1,6 @@
 -- `ring_identities::sides_number` meets its contract: each `return` is the first question that says no.
 use Rattle.theory_laws.proofs.Questions.{asks, asks-given}
 use Rattle.ring_identities.specs.Numbers.{sides_number}
-use borrow.Author.Rules.{rules}
 use Rattle.ring_identities.proofs.sides_number.Goals as goal
 
 pub returns-then-n-gt20 : goal.returns-then-n-gt20

@@ -1,11 +1,8 @@
 -- `ring_identities::sum_of_products` meets its contract: the sum so far is that of the products so far.
-use mathlib.Core.Path.{◌≡◌, refl, ap₂, ◌∙◌}
+use mathlib.Core.Path.{◌≡◌}
 use Prim.Native.Nat.{◌-◌, ◌≤◌}
-use native.Mathlib.Omega.{arith}
-use borrow.Author.Rules.{rules}
 use Rattle.theory_laws.specs.Sum.{sum}
 use Rattle.theory_laws.specs.Table.{at}
-use Rattle.theory_laws.proofs.Windows.{sum_more, sum-all}
 use Rattle.theory_field.specs.Field.{◌⊗◌}
 use Rattle.theory_field.specs.Words.{words}
 use Rattle.field_gf128.specs.Word.{word}

@@ -1,16 +1,13 @@
 -- `ring_identities::sum_of_rows` meets its contract: the sum so far is that of the products so far, of whatever coefficients the tables are.
-use mathlib.Core.Path.{◌≡◌, refl, ap, ap₂, ◌∙◌}
+use mathlib.Core.Path.{◌≡◌}
 use Prim.Native.Nat.{ℕ, ◌-◌, ◌≤◌}
-use native.Mathlib.Omega.{arith}
-use borrow.Author.Rules.{rules}
 use Rattle.theory_laws.specs.Sum.{sum}
 use Rattle.theory_laws.specs.Table.{at}
-use Rattle.theory_laws.proofs.Windows.{sum_more, sum-all}
 use Rattle.theory_field.specs.Field.{◌⊗◌}
 use Rattle.theory_field.specs.Words.{words}
 use Rattle.theory_multilinear.specs.Phi.{phi}
 use Rattle.field_gf128.specs.Word.{word}
-use Rattle.field_pack.specs.Phi.{coefficients, phi_tab}
+use Rattle.field_pack.specs.Phi.{phi_tab}
 use Rattle.ring_identities.proofs.sum_of_rows.Given as goal
 
 abbrev pub invariant-loop-v : goal.invariant-loop-v

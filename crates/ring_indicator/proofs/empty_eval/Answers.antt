@@ -8,7 +8,6 @@ use Rattle.field_gf128.proofs.Halves.{joined-lt}
 use Rattle.theory_multilinear.proofs.Phi.{phi-one}
 use Rattle.theory_multilinear.proofs.Tensor.{indicator-nil}
 use Rattle.field_pack.specs.Phi.{coefficients}
-use borrow.Author.Rules.{rules}
 use Rattle.ring_indicator.proofs.empty_eval.Goals as goal
 use Rattle.ring_indicator.proofs.empty_eval.Goals.{After-phi_c}
 

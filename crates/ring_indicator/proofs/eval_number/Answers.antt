@@ -1,7 +1,6 @@
 -- `ring_indicator::eval_number` meets its contract: each `return` is the first question that says no.
 use Rattle.theory_laws.proofs.Questions.{asks}
 use Rattle.ring_indicator.specs.Numbers.{eval_number}
-use borrow.Author.Rules.{rules}
 use Rattle.ring_indicator.proofs.eval_number.Goals as goal
 
 pub returns-then-n-gt20 : goal.returns-then-n-gt20

@@ -1,9 +1,6 @@
 -- `ring_indicator::join_parts` meets its contract: the words so far are joined.
-use mathlib.Core.Path.{◌≡◌, refl, ap, ap₂, ◌∙◌}
-use Prim.Native.Nat.{◌-◌, ◌≤◌}
+use mathlib.Core.Path.{refl, ap, ap₂, ◌∙◌}
 use native.Mathlib.Omega.{arith}
-use borrow.Author.Rules.{rules}
-use lib.ListN.{length}
 use Rattle.theory_laws.specs.Xor.{◌⊕◌}
 use Rattle.theory_laws.specs.Table.{at}
 use Rattle.theory_laws.proofs.Updates.{updated, updated-read, updated-turn, updated_end}
@@ -12,7 +9,6 @@ use Rattle.theory_field.proofs.Words.{length-words-even}
 use Rattle.field_gf128.specs.Word.{word}
 use Rattle.ring_indicator.specs.helpers.Steps.{join_parts}
 use Rattle.ring_indicator.proofs.join_parts.Goals as goal
-use Rattle.ring_indicator.proofs.join_parts.Goals.{After-get}
 
 pub loop-k-init : goal.loop-k-init
 unfolding updated
@@ -26,7 +22,7 @@ loop-k-preserved c =
       c.put.ensures
           ∙ updated-turn l.k step (words a.t.now) (words l.t) (word c.add.result) l.invariant.2
           (c.add.ensures
-          ∙ ap₂ ◌⊕◌ (c.add-vertical.ensures ∙ ap (λ (goal.at.loop-k-preserved c).After-get. word c.get-e.result ⊕ (goal.at.loop-k-preserved c).After-get) c.mul.ensures) c.get.ensures
+          ∙ ap₂ ◌⊕◌ (c.add-vertical.ensures ∙ ap (λ y. word c.get-e.result ⊕ y) c.mul.ensures) c.get.ensures
           ∙ ap (step l.k) (c.get-e.ensures ∙ updated-read l.k step (words a.t.now) (words l.t) l.invariant.2)),
     )
 

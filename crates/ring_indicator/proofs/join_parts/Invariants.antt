@@ -1,14 +1,10 @@
 -- `ring_indicator::join_parts` meets its contract: the words so far are joined.
-use mathlib.Core.Path.{◌≡◌, refl, ap, ap₂, ◌∙◌}
+use mathlib.Core.Path.{◌≡◌}
 use Prim.Native.Nat.{◌-◌, ◌≤◌}
-use native.Mathlib.Omega.{arith}
-use borrow.Author.Rules.{rules}
 use lib.ListN.{length}
-use Rattle.theory_laws.specs.Xor.{◌⊕◌}
 use Rattle.theory_laws.specs.Table.{at}
-use Rattle.theory_laws.proofs.Updates.{updated, updated-read, updated-turn, updated_end}
+use Rattle.theory_laws.proofs.Updates.{updated}
 use Rattle.theory_field.specs.Words.{words}
-use Rattle.theory_field.proofs.Words.{length-words-even}
 use Rattle.field_gf128.specs.Word.{word}
 use Rattle.ring_indicator.specs.helpers.Steps.{join_parts}
 use Rattle.ring_indicator.proofs.join_parts.Given as goal

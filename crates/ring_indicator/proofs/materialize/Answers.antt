@@ -9,7 +9,6 @@ use Rattle.field_equality.specs.helpers.Sizes.{Sizes}
 use Rattle.field_equality.proofs.Growing.{sizes}
 use Rattle.field_pack.specs.Phi.{coefficients}
 use Rattle.ring_indicator.proofs.Materialized.{materialized}
-use borrow.Author.Rules.{rules}
 use Rattle.theory_laws.proofs.Questions.{on_refused}
 use Rattle.ring_indicator.proofs.materialize.Goals as goal
 use Rattle.ring_indicator.proofs.materialize.Goals.{After-eq_table-number}

@@ -1,6 +1,5 @@
 -- `ring_indicator::phi_all` meets its contract, one by one and by the tables of the coefficients.
 use Rattle.field_pack.specs.Phi.{coefficients}
-use borrow.Author.Rules.{rules}
 use Rattle.ring_indicator.proofs.phi_all.Goals as goal
 
 pub returns-else-m-lt-MANY : goal.returns-else-m-lt-MANY

@@ -1,15 +1,11 @@
 -- `ring_indicator::phi_each_by_tables` meets its contract: the words so far are phi of what stood there.
-use mathlib.Core.Path.{◌≡◌, refl}
-use Prim.Native.Nat.{ℕ, ◌-◌, ◌≤◌}
+use mathlib.Core.Path.{refl}
 use native.Mathlib.Omega.{arith}
-use borrow.Author.Rules.{rules}
-use lib.ListN.{length}
 use Rattle.theory_laws.proofs.Updates.{updated, updated_end}
 use Rattle.theory_field.specs.Words.{words}
 use Rattle.theory_field.proofs.Words.{length-words-even}
 use Rattle.field_gf128.specs.Word.{word}
 use Rattle.theory_multilinear.specs.Phi.{phi}
-use Rattle.field_pack.specs.Phi.{phi_tab}
 use Rattle.ring_indicator.proofs.Materialized.{each_turn}
 use Rattle.ring_indicator.proofs.phi_each_by_tables.Goals as goal
 

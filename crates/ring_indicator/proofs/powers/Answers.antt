@@ -1,14 +1,10 @@
 -- `ring_indicator::powers` meets its contract: the products so far stand there.
-use mathlib.Core.Path.{◌≡◌, refl, ◌∙◌}
-use Prim.Native.Nat.{◌-◌, ◌≤◌}
+use mathlib.Core.Path.{refl, ◌∙◌}
 use native.Mathlib.Omega.{arith}
-use borrow.Author.Rules.{rules}
-use lib.ListN.{length}
-use Rattle.theory_field.proofs.Product.{times}
 use Rattle.field_gf128.specs.Word.{word}
 use Rattle.field_gf128.proofs.Halves.{word_lt}
 use Rattle.ring_indicator.proofs.Steps.{next-times, times-tab}
-use Rattle.theory_field.proofs.Words.{Filled, filled_more, filled_all}
+use Rattle.theory_field.proofs.Words.{filled_more, filled_all}
 use Rattle.ring_indicator.proofs.powers.Goals as goal
 
 pub loop-j-init : goal.loop-j-init

@@ -1,14 +1,10 @@
 -- `ring_indicator::powers` meets its contract: the products so far stand there.
-use mathlib.Core.Path.{◌≡◌, refl, ◌∙◌}
+use mathlib.Core.Path.{◌≡◌}
 use Prim.Native.Nat.{◌-◌, ◌≤◌}
-use native.Mathlib.Omega.{arith}
-use borrow.Author.Rules.{rules}
 use lib.ListN.{length}
 use Rattle.theory_field.proofs.Product.{times}
 use Rattle.field_gf128.specs.Word.{word}
-use Rattle.field_gf128.proofs.Halves.{word_lt}
-use Rattle.ring_indicator.proofs.Steps.{next-times, times-tab}
-use Rattle.theory_field.proofs.Words.{Filled, filled_more, filled_all}
+use Rattle.theory_field.proofs.Words.{Filled}
 use Rattle.ring_indicator.proofs.powers.Given as goal
 
 abbrev pub invariant-loop-j : goal.invariant-loop-j

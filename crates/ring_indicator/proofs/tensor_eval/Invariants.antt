@@ -1,18 +1,10 @@
 -- `ring_indicator::tensor_eval` meets its contract: what is left of the steps gives the final words, and their fold is the indicator.
-use mathlib.Core.Path.{◌≡◌, ap, ap₂, ◌∙◌}
+use mathlib.Core.Path.{◌≡◌}
 use Prim.Native.Nat.{◌-◌, ◌≤◌}
-use native.Mathlib.Omega.{arith}
-use borrow.Author.Rules.{rules}
 use lib.ListN.{length, drop}
 use Rattle.theory_laws.specs.Table.{at}
 use Rattle.theory_field.specs.Words.{words}
-use Rattle.theory_field.proofs.Words.{length-words, length-words-even}
-use Rattle.field_gf128.specs.Word.{word}
-use Rattle.theory_multilinear.specs.Partials.{fold_partials}
-use Rattle.theory_multilinear.proofs.Tensor.{tensor_step, tensor_run, unit}
-use Rattle.field_pack.specs.Phi.{coefficients}
-use Rattle.theory_multilinear.proofs.Indicator.{tensor_indicator}
-use Rattle.ring_indicator.proofs.Steps.{step_words, run_begin, run_step, run_end}
+use Rattle.theory_multilinear.proofs.Tensor.{tensor_run, unit}
 use Rattle.ring_indicator.proofs.tensor_eval.Given as goal
 
 abbrev pub invariant-loop-i : goal.invariant-loop-i

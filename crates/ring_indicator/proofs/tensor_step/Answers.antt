@@ -4,7 +4,6 @@ use Rattle.theory_laws.specs.Table.{at}
 use Rattle.theory_field.specs.Words.{words}
 use Rattle.field_gf128.specs.Word.{word}
 use Rattle.ring_indicator.proofs.Steps.{joined_step}
-use borrow.Author.Rules.{rules}
 use Rattle.ring_indicator.proofs.tensor_step.Goals as goal
 
 pub returns : goal.returns

@@ -1,7 +1,6 @@
 -- `ring_partials::partial_number` meets its contract: each `return` is the first question that says no.
 use Rattle.theory_laws.proofs.Questions.{asks, asks-given}
 use Rattle.ring_partials.specs.Numbers.{partial_number}
-use borrow.Author.Rules.{rules}
 use Rattle.ring_partials.proofs.partial_number.Goals as goal
 
 pub returns-then-n-gt20 : goal.returns-then-n-gt20

@@ -7,7 +7,6 @@ use Rattle.tree_place.proofs.Yes.{build_yes}
 use Rattle.theory_merkle.proofs.Sizes.{tree-fits}
 use Rattle.tree_build.proofs.Built.{all-groups, built}
 use native.Mathlib.Omega.{arith}
-use borrow.Author.Rules.{rules}
 use Rattle.tree_build.proofs.build.Goals as goal
 
 pub returns-then-q-ne0 : goal.returns-then-q-ne0

@@ -3,7 +3,6 @@ use Rattle.theory_blake3.proofs.Modes.{length-under}
 use Rattle.tree_by_fours.proofs.Walk.{by_fours-le}
 use Rattle.tree_build.proofs.Leaves.{leaves_join}
 use native.Mathlib.Omega.{arith}
-use borrow.Author.Rules.{rules}
 use Rattle.tree_build.proofs.put_leaves.Goals as goal
 
 pub put_leaves-done-requires : goal.put_leaves-done-requires

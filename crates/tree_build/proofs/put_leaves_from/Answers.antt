@@ -1,14 +1,8 @@
 -- `tree_build::put_leaves_from` meets its contract.
 -- The loop's invariant: storing the leaves of the groups that are left gives the final buffer, and the message's prefix is kept.
-use Prim.Native.Nat.{◌≤◌, ◌-◌, ◌+◌, ◌*◌}
-use mathlib.Core.Path.{◌≡◌, refl, ◌∙◌}
+use Prim.Native.Nat.{◌*◌}
+use mathlib.Core.Path.{refl, ◌∙◌}
 use native.Mathlib.Nat.{mul-le-mul_left}
-use lib.ListN.{length, take, drop}
-use Rattle.theory_laws.specs.Lists.{runs, flat, stored}
-use Rattle.theory_field.specs.Words.{words}
-use Rattle.theory_blake3.specs.Modes.{under}
-use Rattle.theory_merkle.specs.Message.{leaf_prefix}
-use Rattle.theory_merkle.specs.Tree.{leaves_from}
 use Rattle.tree_digest.proofs.Messages.{prefix-is}
 use Rattle.tree_four_messages.proofs.Values.{group_length, next_group}
 use Rattle.tree_by_fours.proofs.Leaves.{leaves_end}

@@ -1,15 +1,10 @@
 -- `tree_build::put_levels` meets its contract. The loop's invariant: storing the levels from this one on gives the whole tree.
 use Prim.Native.Nat.{◌≤◌, ◌-◌, ◌+◌, ◌*◌, ◌^◌}
-use mathlib.Core.Path.{◌≡◌, refl}
+use mathlib.Core.Path.{◌≡◌}
 use lib.ListN.{length, drop}
 use Rattle.theory_laws.specs.Lists.{runs, flat, stored}
-use Rattle.theory_blake3.proofs.Modes.{length-under}
 use Rattle.theory_blake3.specs.Modes.{under}
 use Rattle.theory_merkle.specs.Tree.{levels_from, end_to_end}
-use Rattle.tree_build.proofs.Levels.{levels-step, levels_end, levels_begin}
-use Rattle.theory_merkle.proofs.Sizes.{next_power, half-even, half_some, power_begin}
-use borrow.Author.Rules.{rules}
-use native.Mathlib.Omega.{arith}
 use Rattle.tree_build.proofs.put_levels.Given as goal
 
 abbrev pub invariant-loop-level : goal.invariant-loop-level

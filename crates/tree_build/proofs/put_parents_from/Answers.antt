@@ -1,12 +1,7 @@
 -- `tree_build::put_parents_from` meets its contract.
 -- The loop's invariant: storing the parents that are left gives the final buffer; the level below and the message's prefix are kept.
-use Prim.Native.Nat.{ℕ, ◌≤◌, ◌-◌, ◌+◌, ◌*◌}
-use mathlib.Core.Path.{◌≡◌, refl, ◌∙◌}
-use lib.ListN.{length, take, drop}
-use Rattle.theory_laws.specs.Lists.{runs, flat, stored}
-use Rattle.theory_blake3.specs.Modes.{under}
-use Rattle.theory_merkle.specs.Message.{node_prefix}
-use Rattle.theory_merkle.specs.Tree.{parents}
+use Prim.Native.Nat.{ℕ, ◌+◌, ◌*◌}
+use mathlib.Core.Path.{refl, ◌∙◌}
 use Rattle.tree_digest.proofs.Messages.{prefix-is}
 use Rattle.tree_by_fours.proofs.Parents.{below-kept, parents_end}
 use Rattle.tree_build.proofs.Levels.{parents-step}

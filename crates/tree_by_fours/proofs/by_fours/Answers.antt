@@ -1,5 +1,4 @@
 -- `tree_by_fours::by_fours` meets its contract.
-use borrow.Author.Rules.{rules}
 use borrow.Author.Tests.{le-leb, lt-leb}
 use Rattle.tree_by_fours.specs.helpers.Fours.{by_fours}
 use Rattle.tree_by_fours.proofs.by_fours.Goals as goal

@@ -1,18 +1,12 @@
 -- `tree_by_fours::put_leaves` meets its contract.
 -- The loop's invariant: storing the leaves of the groups that are left gives the final buffer, and the messages' prefixes are kept.
-use Prim.Native.Nat.{◌-◌, ◌+◌, ◌*◌, ◌/◌, ◌≤◌}
-use mathlib.Core.Path.{◌≡◌, sym, ◌∙◌}
+use Prim.Native.Nat.{◌+◌, ◌*◌, ◌≤◌}
+use mathlib.Core.Path.{sym, ◌∙◌}
 use native.Mathlib.Omega.{arith}
-use lib.ListN.{drop}
 use borrow.Author.Rules.{rules}
-use Rattle.theory_laws.specs.Lists.{runs, flat, stored}
-use Rattle.theory_field.specs.Words.{words}
-use Rattle.theory_blake3.specs.Modes.{under}
-use Rattle.theory_merkle.specs.Message.{leaf_prefix}
-use Rattle.theory_merkle.specs.Tree.{leaves_from}
 use Rattle.tree_digest.proofs.Messages.{message-length}
 use Rattle.tree_four_messages.proofs.Values.{group_length}
-use Rattle.tree_by_fours.proofs.Walk.{Walk, walk_begin, four-left, walk_common, walk_turn}
+use Rattle.tree_by_fours.proofs.Walk.{walk_begin, four-left, walk_common, walk_turn}
 use Rattle.tree_by_fours.proofs.Leaves.{four-room, leaves_none, leaves_begin, leaves-turn, leaves_end}
 use Rattle.tree_by_fours.proofs.put_leaves.Goals as goal
 use Rattle.tree_by_fours.proofs.put_leaves.Goals.{In-loop-g}

@@ -1,16 +1,11 @@
 -- `tree_by_fours::put_parents` meets its contract.
 -- The loop's invariant: storing the parents that are left gives the final buffer; the level below and the messages' prefixes are kept.
-use Prim.Native.Nat.{ℕ, ◌-◌, ◌+◌, ◌*◌}
-use mathlib.Core.Path.{◌≡◌, refl, sym, ◌∙◌}
+use Prim.Native.Nat.{ℕ, ◌+◌, ◌*◌}
+use mathlib.Core.Path.{refl, sym, ◌∙◌}
 use native.Mathlib.Omega.{arith}
-use lib.ListN.{take, drop}
 use borrow.Author.Rules.{rules}
-use Rattle.theory_laws.specs.Lists.{runs, flat, stored}
-use Rattle.theory_blake3.specs.Modes.{under}
-use Rattle.theory_merkle.specs.Message.{node_prefix}
-use Rattle.theory_merkle.specs.Tree.{parents}
 use Rattle.tree_digest.proofs.Messages.{message-length}
-use Rattle.tree_by_fours.proofs.Walk.{Walk, walk_begin, four-left, walk_common, walk_turn}
+use Rattle.tree_by_fours.proofs.Walk.{walk_begin, four-left, walk_common, walk_turn}
 use Rattle.tree_by_fours.proofs.Parents.{parents-none, parents_begin, parents-turn, parents_end, below-kept}
 use Rattle.tree_by_fours.proofs.put_parents.Goals as goal
 

@@ -2,7 +2,6 @@
 use mathlib.Core.Path.{refl}
 use native.Mathlib.Omega.{arith}
 use Rattle.tree_digest.proofs.Front.{nodes_length, nodes_begun}
-use borrow.Author.Rules.{rules}
 use Rattle.tree_digest.proofs.begin_nodes.Goals as goal
 
 pub slice_bounds-first_blocks-end-2 : goal.slice_bounds-first_blocks-end-2

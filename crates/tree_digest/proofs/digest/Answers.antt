@@ -1,6 +1,5 @@
 -- `digests::digest` meets its contract.
 use Rattle.theory_blake3.specs.Modes.{under}
-use borrow.Author.Rules.{rules}
 use Rattle.tree_digest.proofs.digest.Goals as goal
 
 pub returns : goal.returns

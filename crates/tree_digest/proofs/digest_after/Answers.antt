@@ -1,6 +1,5 @@
 -- `digests::digest_after` meets its contract.
 use Rattle.tree_digest.proofs.Front.{after_hashed}
-use borrow.Author.Rules.{rules}
 use Rattle.tree_digest.proofs.digest_after.Goals as goal
 
 pub returns : goal.returns

@@ -1,6 +1,5 @@
 -- `digests::hash_level_node` meets its contract.
 use Rattle.tree_digest.proofs.Front.{front_length, front-begun, front_hashed}
-use borrow.Author.Rules.{rules}
 use Rattle.tree_digest.proofs.hash_level_node.Goals as goal
 
 pub slice_bounds-digest_after-end-2 : goal.slice_bounds-digest_after-end-2

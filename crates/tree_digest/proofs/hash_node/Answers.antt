@@ -1,7 +1,6 @@
 -- `digests::hash_node` meets its contract.
 use Rattle.tree_digest.proofs.Messages.{message-length, message_hashed}
 use native.Mathlib.Omega.{arith}
-use borrow.Author.Rules.{rules}
 use Rattle.tree_digest.proofs.hash_node.Goals as goal
 
 pub slice_bounds-digest-end-2 : goal.slice_bounds-digest-end-2

@@ -2,7 +2,6 @@
 use Rattle.tree_place.proofs.Yes.{leaf_yes}
 use Rattle.tree_digest.proofs.Answers.{refused-digest, done-digest, leaf_of_place}
 use native.Mathlib.Omega.{arith}
-use borrow.Author.Rules.{rules}
 use Rattle.tree_digest.proofs.leaf_digest.Goals as goal
 
 pub returns-then-q-ne0 : goal.returns-then-q-ne0

@@ -1,7 +1,6 @@
 -- `digests::leaf_of` meets its contract.
 use Rattle.tree_digest.proofs.Messages.{leaf_hashed}
 use native.Mathlib.Omega.{arith}
-use borrow.Author.Rules.{rules}
 use Rattle.tree_digest.proofs.leaf_of.Goals as goal
 
 pub returns : goal.returns

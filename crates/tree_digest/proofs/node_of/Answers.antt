@@ -1,7 +1,6 @@
 -- `digests::node_of` meets its contract.
 use Rattle.tree_digest.proofs.Messages.{node_hashed}
 use native.Mathlib.Omega.{arith}
-use borrow.Author.Rules.{rules}
 use Rattle.tree_digest.proofs.node_of.Goals as goal
 
 pub returns : goal.returns

@@ -1,5 +1,4 @@
 -- `tree_four_messages::begin` meets its contract.
-use borrow.Author.Rules.{rules}
 use Rattle.tree_four_messages.proofs.begin.Goals as goal
 
 pub returns : goal.returns

@@ -1,6 +1,5 @@
 -- `tree_four_messages::digests_from` meets its contract.
 use Rattle.hash_four_lanes.specs.helpers.Lane.{lane}
-use borrow.Author.Rules.{rules}
 use Rattle.tree_four_messages.proofs.Digests.{lanes_hashed}
 use Rattle.tree_four_messages.proofs.digests_from.Goals as goal
 

@@ -1,5 +1,4 @@
 -- `tree_four_messages::digests_of` meets its contract.
-use borrow.Author.Rules.{rules}
 use Rattle.tree_four_messages.proofs.Digests.{common-begun}
 use Rattle.tree_four_messages.proofs.digests_of.Goals as goal
 

@@ -4,7 +4,6 @@ use native.Mathlib.Omega.{arith}
 use Rattle.theory_laws.proofs.Lists.{length-lent}
 use lib.Seq.{length-take-le}
 use Rattle.tree_four_messages.proofs.Digests.{lanes_begun}
-use borrow.Author.Rules.{rules}
 use Rattle.tree_four_messages.proofs.first_lanes.Goals as goal
 
 pub slice_bounds-first_of-end : goal.slice_bounds-first_of-end

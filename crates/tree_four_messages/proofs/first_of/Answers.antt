@@ -1,11 +1,10 @@
 -- `tree_four_messages::first_of` meets its contract. The loop's invariant: in each lane, the blocks that are left give the chaining value of all.
-use Prim.Native.Nat.{ℕ, ◌≤◌, ◌<◌, ◌-◌, ◌*◌}
-use mathlib.Core.Path.{◌≡◌, ◌∙◌, ap}
+use Prim.Native.Nat.{ℕ}
+use mathlib.Core.Path.{◌∙◌, ap}
 use mathlib.Core.List.{List}
-use lib.ListN.{drop}
 use Rattle.hash_four_lanes.specs.helpers.Lane as X
 use Rattle.hash_four_chunks.specs.helpers.FourChunks.{which}
-use Rattle.hash_chunk.specs.helpers.Blocks.{blocks_from, first_blocks}
+use Rattle.hash_chunk.specs.helpers.Blocks.{first_blocks}
 use Rattle.hash_chunk.proofs.Blocks.{blocks_end, blocks_begin}
 use Rattle.tree_four_messages.proofs.Blocks.{lane-step, no_count}
 use borrow.Author.Rules.{rules}

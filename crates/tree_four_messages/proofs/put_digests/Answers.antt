@@ -1,6 +1,5 @@
 -- `tree_four_messages::put_digests` meets its contract.
 use Prim.Native.Nat.{◌*◌}
-use borrow.Author.Rules.{rules}
 use Rattle.theory_laws.specs.Lists.{part}
 use Rattle.theory_blake3.specs.Modes.{under}
 use Rattle.theory_blake3.proofs.Modes.{length-under}

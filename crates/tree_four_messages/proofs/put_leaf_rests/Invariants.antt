@@ -1,15 +1,12 @@
 -- `tree_four_messages::put_leaf_rests` meets its contract. The loop's invariant: the messages so far are whole, and the prefixes of the others stand.
 use Prim.Native.Nat.{◌≤◌, ◌-◌, ◌+◌, ◌*◌}
-use mathlib.Core.Path.{◌≡◌, refl}
-use native.Mathlib.Omega.{arith}
+use mathlib.Core.Path.{◌≡◌}
 use lib.ListN.{length}
-use borrow.Author.Rules.{rules}
 use Rattle.theory_laws.specs.Lists.{part}
 use Rattle.theory_field.specs.Words.{words}
 use Rattle.theory_merkle.specs.Message.{leaf_rest}
 use Rattle.tree_place.specs.Place.{number}
-use Rattle.tree_four_messages.proofs.Filling.{StridesFilled, strides_begin, strides_step, strides_end, leaf-rest_put}
-use Rattle.tree_four_messages.proofs.Values.{group_length, group_of_four, next_group}
+use Rattle.tree_four_messages.proofs.Filling.{StridesFilled}
 use Rattle.tree_four_messages.proofs.put_leaf_rests.Given as goal
 
 abbrev pub invariant-loop-k : goal.invariant-loop-k

@@ -1,13 +1,11 @@
 -- `tree_four_messages::put_node_rests` meets its contract. The loop's invariant: the messages so far are whole, and the prefixes of the others stand.
 use Prim.Native.Nat.{◌≤◌, ◌-◌, ◌+◌, ◌*◌}
-use mathlib.Core.Path.{◌≡◌, refl}
+use mathlib.Core.Path.{◌≡◌}
 use mathlib.Core.List.{◌++◌}
-use native.Mathlib.Omega.{arith}
 use lib.ListN.{length}
-use borrow.Author.Rules.{rules}
 use Rattle.theory_laws.specs.Lists.{part}
 use Rattle.theory_merkle.specs.Message.{prefixed}
-use Rattle.tree_four_messages.proofs.Filling.{StridesFilled, strides_begin, strides_step, strides_end, node_rest_put}
+use Rattle.tree_four_messages.proofs.Filling.{StridesFilled}
 use Rattle.tree_four_messages.proofs.put_node_rests.Given as goal
 
 abbrev pub invariant-loop-k : goal.invariant-loop-k

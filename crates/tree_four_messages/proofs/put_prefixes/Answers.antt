@@ -1,10 +1,8 @@
 -- `tree_four_messages::put_prefixes` meets its contract. The loop's invariant: the strides so far have the prefix at their fronts.
-use Prim.Native.Nat.{◌≤◌, ◌-◌, ◌*◌}
-use mathlib.Core.Path.{◌≡◌, refl}
+use mathlib.Core.Path.{refl}
 use native.Mathlib.Omega.{arith}
-use lib.ListN.{length}
 use borrow.Author.Rules.{rules}
-use Rattle.tree_four_messages.proofs.Filling.{StridesFilled, strides_begin, strides_step, prefixes_end}
+use Rattle.tree_four_messages.proofs.Filling.{strides_begin, strides_step, prefixes_end}
 use Rattle.tree_four_messages.proofs.put_prefixes.Goals as goal
 
 pub loop-k-init : goal.loop-k-init

@@ -1,15 +1,13 @@
 -- `tree_four_ways::climb_four` meets its contract. The loop's invariant: what is left of each way leads to the same root.
-use Prim.Native.Nat.{ℕ, ◌≤◌, ◌<◌, ◌+◌, ◌-◌, ◌/◌, ◌^◌}
-use mathlib.Core.Path.{◌≡◌, ◌∙◌, ap}
+use Prim.Native.Nat.{ℕ, ◌+◌}
+use mathlib.Core.Path.{◌∙◌, ap}
 use mathlib.Core.List.{List}
 use native.Mathlib.Omega.{arith}
-use lib.ListN.{length}
 use Rattle.theory_laws.specs.Table.{at}
 use Rattle.theory_blake3.specs.Modes.{under}
-use Rattle.tree_four_messages.specs.helpers.Strides.{Each}
-use Rattle.tree_walk.proofs.Climb.{climb_from, climb_end}
+use Rattle.tree_walk.proofs.Climb.{climb_end}
 use Rattle.tree_digest.specs.helpers.Begun.{node_front}
-use Rattle.tree_four_ways.specs.helpers.Ways.{domain_of, digest_of, lane_rest, way_up}
+use Rattle.tree_four_ways.specs.helpers.Ways.{domain_of, lane_rest}
 use Rattle.tree_four_ways.proofs.Climb.{fronts_long, whole-messages, fronts_kept, from_fronts, way_begin, way_step}
 use borrow.Author.Rules.{rules}
 use Rattle.tree_four_ways.proofs.climb_four.Goals as goal

@@ -4,7 +4,6 @@ use Rattle.theory_blake3.specs.Modes.{under}
 use Rattle.theory_blake3.proofs.Modes.{length-under}
 use Rattle.theory_merkle.specs.Tree.{leaf_digest}
 use Rattle.tree_four_ways.proofs.Leaves.{messages_hashed, none-begun}
-use borrow.Author.Rules.{rules}
 use Rattle.tree_four_ways.proofs.leaves_four.Goals as goal
 
 pub put_digests-requires : goal.put_digests-requires

@@ -1,10 +1,7 @@
 -- `tree_four_ways::put_ends` meets its contract. The loop's invariant: the first k messages have what follows their fronts.
-use Prim.Native.Nat.{◌≤◌, ◌-◌, ◌+◌, ◌*◌}
-use mathlib.Core.Path.{◌≡◌, refl}
+use mathlib.Core.Path.{refl}
 use native.Mathlib.Omega.{arith}
-use lib.ListN.{length}
-use Rattle.tree_four_messages.proofs.Filling.{StridesFilled, strides_begin, strides_step, strides_end}
-use Rattle.tree_four_ways.specs.helpers.Ways.{lane_rest}
+use Rattle.tree_four_messages.proofs.Filling.{strides_begin, strides_step, strides_end}
 use Rattle.tree_four_ways.proofs.Ways.{lane_end_put}
 use borrow.Author.Rules.{rules}
 use Rattle.tree_four_ways.proofs.put_ends.Goals as goal

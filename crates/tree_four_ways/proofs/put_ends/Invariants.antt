@@ -1,12 +1,9 @@
 -- `tree_four_ways::put_ends` meets its contract. The loop's invariant: the first k messages have what follows their fronts.
 use Prim.Native.Nat.{◌≤◌, ◌-◌, ◌+◌, ◌*◌}
-use mathlib.Core.Path.{◌≡◌, refl}
-use native.Mathlib.Omega.{arith}
+use mathlib.Core.Path.{◌≡◌}
 use lib.ListN.{length}
-use Rattle.tree_four_messages.proofs.Filling.{StridesFilled, strides_begin, strides_step, strides_end}
+use Rattle.tree_four_messages.proofs.Filling.{StridesFilled}
 use Rattle.tree_four_ways.specs.helpers.Ways.{lane_rest}
-use Rattle.tree_four_ways.proofs.Ways.{lane_end_put}
-use borrow.Author.Rules.{rules}
 use Rattle.tree_four_ways.proofs.put_ends.Given as goal
 
 abbrev pub invariant-loop-k : goal.invariant-loop-k

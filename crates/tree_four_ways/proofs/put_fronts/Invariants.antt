@@ -1,13 +1,10 @@
 -- `tree_four_ways::put_fronts` meets its contract. The loop's invariant: the first k messages have their fronts.
 use Prim.Native.Nat.{◌≤◌, ◌-◌, ◌+◌, ◌*◌}
-use mathlib.Core.Path.{◌≡◌, refl, sym}
-use native.Mathlib.Omega.{arith}
+use mathlib.Core.Path.{◌≡◌}
 use lib.ListN.{length}
-use Rattle.tree_four_messages.proofs.Filling.{StridesFilled, strides_begin, strides_step, strides_end}
+use Rattle.tree_four_messages.proofs.Filling.{StridesFilled}
 use Rattle.tree_digest.specs.helpers.Begun.{node_front}
 use Rattle.tree_four_ways.specs.helpers.Ways.{domain_of}
-use Rattle.tree_four_ways.proofs.Ways.{front_length, front_put, strides_front}
-use borrow.Author.Rules.{rules}
 use Rattle.tree_four_ways.proofs.put_fronts.Given as goal
 
 abbrev pub invariant-loop-k : goal.invariant-loop-k

@@ -1,6 +1,5 @@
 -- `tree_four_ways::put_leaf_rest` meets its contract.
 use Rattle.tree_four_ways.proofs.Leaves.{leaf-rest_put}
-use borrow.Author.Rules.{rules}
 use Rattle.tree_four_ways.proofs.put_leaf_rest.Goals as goal
 
 pub returns : goal.returns

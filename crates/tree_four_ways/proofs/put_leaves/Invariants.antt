@@ -1,14 +1,9 @@
 -- `tree_four_ways::put_leaves` meets its contract. The loop's invariant: the first k messages are whole.
 use Prim.Native.Nat.{◌≤◌, ◌-◌, ◌+◌, ◌*◌}
-use mathlib.Core.Path.{◌≡◌, refl}
-use native.Mathlib.Omega.{arith}
+use mathlib.Core.Path.{◌≡◌}
 use lib.ListN.{length}
-use borrow.Author.Rules.{rules}
-use Rattle.theory_laws.proofs.Lists.{length-lent}
-use Rattle.tree_four_messages.proofs.Filling.{StridesFilled, strides_begin, strides_step, strides_end}
+use Rattle.tree_four_messages.proofs.Filling.{StridesFilled}
 use Rattle.tree_four_ways.specs.helpers.Ways.{lane_leaf}
-use Rattle.tree_four_ways.proofs.Ways.{strides_front}
-use Rattle.tree_four_ways.proofs.Leaves.{lane-leaf_put}
 use Rattle.tree_four_ways.proofs.put_leaves.Given as goal
 
 abbrev pub invariant-loop-k : goal.invariant-loop-k

@@ -1,9 +1,7 @@
 -- `tree_four_ways::settled` meets its contract. The loop's invariant: the first k digests are settled.
-use Prim.Native.Nat.{ℕ, ◌≤◌, ◌<◌, ◌-◌}
-use mathlib.Core.Path.{◌≡◌, refl}
+use mathlib.Core.Path.{refl}
 use native.Mathlib.Omega.{arith}
 use lib.Dec.{ltb}
-use lib.ListN.{length}
 use Rattle.theory_laws.specs.Table as T
 use Rattle.theory_laws.specs.Questions.{pick}
 use Rattle.theory_blake3.specs.Digest.{bytes_of_words32}
@@ -21,9 +19,9 @@ loop-k-preserved c =
     let a = c.args in let inv = c.loop-k.invariant in let k = c.loop-k.k in (
       search rules,
       search rules,
-      digests-step (λ j. pick (ltb a.level (T.at a.t4 j)) (bytes_of_words32 (lane 8 a.v.now j)) (digest_of a.t1 j)) k _ _ _ _ _ _
+      digests-step (λ j. pick (ltb a.level (T.at a.depths j)) (bytes_of_words32 (lane 8 a.v.now j)) (digest_of a.digests j)) k _ _ _ _ _ _
           c.loop-k-test.true inv.1 (omega arith) refl
-          (chosen_is a.level (T.at a.t4 k) _ _ _ _ _ c.chosen-d.ensures c.lane_bytes-new.ensures c.load-old.ensures)
+          (chosen_is a.level (T.at a.depths k) _ _ _ _ _ c.chosen-d.ensures c.lane_bytes-new.ensures c.load-old.ensures)
           c.put.ensures inv.2,
     )
 

@@ -1,7 +1,6 @@
 -- `tree_four_ways::settled` meets its contract. The loop's invariant: the first k digests are settled.
 use Prim.Native.Nat.{ℕ, ◌≤◌, ◌<◌, ◌-◌}
-use mathlib.Core.Path.{◌≡◌, refl}
-use native.Mathlib.Omega.{arith}
+use mathlib.Core.Path.{◌≡◌}
 use lib.Dec.{ltb}
 use lib.ListN.{length}
 use Rattle.theory_laws.specs.Table as T
@@ -9,8 +8,6 @@ use Rattle.theory_laws.specs.Questions.{pick}
 use Rattle.theory_blake3.specs.Digest.{bytes_of_words32}
 use Rattle.hash_four_lanes.specs.helpers.Lane.{lane}
 use Rattle.tree_four_ways.specs.helpers.Ways.{digest_of}
-use Rattle.tree_four_ways.proofs.Ways.{digests-step, chosen_is}
-use borrow.Author.Rules.{rules}
 use Rattle.tree_four_ways.proofs.settled.Given as goal
 
 abbrev pub invariant-loop-k : goal.invariant-loop-k

@@ -1,7 +1,6 @@
 -- `messages::leaf_prefix` meets its contract.
 use Rattle.theory_merkle.specs.Message.{leaf_label}
 use Rattle.tree_message.proofs.Stores.{leaf-prefix_put}
-use borrow.Author.Rules.{rules}
 use Rattle.tree_message.proofs.leaf_prefix.Goals as goal
 
 pub returns : goal.returns

@@ -1,6 +1,5 @@
 -- `messages::leaf_rest` meets its contract.
 use Rattle.tree_message.proofs.Stores.{leaf-rest_put}
-use borrow.Author.Rules.{rules}
 use Rattle.tree_message.proofs.leaf_rest.Goals as goal
 
 pub returns : goal.returns

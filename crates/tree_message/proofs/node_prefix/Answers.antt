@@ -1,7 +1,6 @@
 -- `messages::node_prefix` meets its contract.
 use Rattle.theory_merkle.specs.Message.{node_label}
 use Rattle.tree_message.proofs.Stores.{node_prefix_put}
-use borrow.Author.Rules.{rules}
 use Rattle.tree_message.proofs.node_prefix.Goals as goal
 
 pub returns : goal.returns

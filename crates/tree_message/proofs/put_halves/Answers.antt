@@ -1,9 +1,5 @@
 -- `messages::put_halves` meets its contract. The loop's invariant: storing the halves that are left gives the final buffer.
-use Prim.Native.Nat.{◌≤◌, ◌-◌, ◌+◌, ◌*◌}
-use mathlib.Core.Path.{◌≡◌, refl}
-use mathlib.Core.List.{map}
-use lib.ListN.{length, drop}
-use Rattle.theory_laws.specs.Lists.{stored, flat, le_bytes}
+use mathlib.Core.Path.{refl}
 use Rattle.tree_message.proofs.Stores.{halves-step, halves-all}
 use borrow.Author.Rules.{rules}
 use Rattle.tree_message.proofs.put_halves.Goals as goal

@@ -1,11 +1,9 @@
 -- `messages::put_halves` meets its contract. The loop's invariant: storing the halves that are left gives the final buffer.
 use Prim.Native.Nat.{◌≤◌, ◌-◌, ◌+◌, ◌*◌}
-use mathlib.Core.Path.{◌≡◌, refl}
+use mathlib.Core.Path.{◌≡◌}
 use mathlib.Core.List.{map}
 use lib.ListN.{length, drop}
 use Rattle.theory_laws.specs.Lists.{stored, flat, le_bytes}
-use Rattle.tree_message.proofs.Stores.{halves-step, halves-all}
-use borrow.Author.Rules.{rules}
 use Rattle.tree_message.proofs.put_halves.Given as goal
 
 abbrev pub invariant-loop-i : goal.invariant-loop-i

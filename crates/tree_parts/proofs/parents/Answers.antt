@@ -1,6 +1,5 @@
 -- `tree_parts::parents` meets its contract.
 use mathlib.Core.Path.{refl}
-use borrow.Author.Rules.{rules}
 use Rattle.theory_laws.proofs.Questions.{yes_zero, no_zero, zero-said}
 use Rattle.tree_place.proofs.Yes.{parents_yes}
 use Rattle.tree_parts.proofs.parents.Goals as goal

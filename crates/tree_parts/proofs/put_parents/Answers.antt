@@ -1,15 +1,11 @@
 -- `tree_parts::put_parents` meets its contract. The loop's invariant: storing the parents that are left gives the final buffer.
-use Prim.Native.Nat.{◌≤◌, ◌-◌, ◌*◌}
-use mathlib.Core.Path.{◌≡◌, refl}
+use Prim.Native.Nat.{◌*◌}
+use mathlib.Core.Path.{refl}
 use native.Mathlib.Omega.{arith}
 use borrow.Author.Rules.{rules}
-use lib.ListN.{length, drop}
-use Rattle.theory_laws.specs.Lists.{stored}
 use Rattle.theory_laws.proofs.Lists.{length-lent}
-use Rattle.theory_blake3.specs.Modes.{under}
 use Rattle.theory_blake3.proofs.Modes.{length-under}
 use Rattle.tree_by_fours.proofs.Parents.{parents_begin}
-use Rattle.tree_parts.specs.helpers.Some.{some_parents}
 use Rattle.tree_parts.proofs.SomeParents.{parents-turn, parents-made}
 use Rattle.tree_parts.proofs.put_parents.Goals as goal
 

@@ -1,6 +1,5 @@
 -- `tree_parts::some_parents` meets its contract.
 use native.Mathlib.Omega.{arith}
-use borrow.Author.Rules.{rules}
 use Rattle.theory_blake3.proofs.Modes.{length-under}
 use Rattle.tree_parts.proofs.SomeParents.{length_some, some_made}
 use Rattle.tree_parts.proofs.some_parents.Goals as goal

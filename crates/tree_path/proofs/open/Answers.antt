@@ -6,7 +6,6 @@ use Rattle.theory_merkle.proofs.Sizes.{group_lt, tree-fits}
 use Rattle.tree_place.proofs.Yes.{open_yes}
 use Rattle.tree_path.proofs.Opened.{path_of_place}
 use native.Mathlib.Omega.{arith}
-use borrow.Author.Rules.{rules}
 use Rattle.tree_path.proofs.open.Goals as goal
 
 pub returns-then-q-ne0 : goal.returns-then-q-ne0

@@ -5,7 +5,6 @@ use native.Mathlib.Omega.{arith}
 use Rattle.tree_place.proofs.Yes.{root_yes}
 use Rattle.tree_digest.proofs.Answers.{refused-digest, done-digest}
 use Rattle.tree_path.proofs.Opened.{root_of_place}
-use borrow.Author.Rules.{rules}
 use Rattle.tree_path.proofs.root_of_path.Goals as goal
 
 pub returns-then-q-ne0 : goal.returns-then-q-ne0

@@ -2,7 +2,6 @@
 use Rattle.theory_laws.proofs.Questions.{asks}
 use Rattle.tree_place.proofs.Asked.{build_asked, tree-bounded, yes_worked, no_worked}
 use native.Mathlib.Omega.{arith}
-use borrow.Author.Rules.{rules}
 use Rattle.tree_place.proofs.build_number.Goals as goal
 
 pub returns-then-q-ne0 : goal.returns-then-q-ne0

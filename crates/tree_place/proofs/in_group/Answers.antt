@@ -1,7 +1,6 @@
 -- `tree_place::in_group` meets its contract.
 use native.Mathlib.Nat.{mod-lt}
 use mathlib.Core.Path.{refl}
-use borrow.Author.Rules.{rules}
 use Rattle.tree_place.proofs.in_group.Goals as goal
 
 pub returns : goal.returns

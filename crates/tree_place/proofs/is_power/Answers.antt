@@ -1,7 +1,5 @@
 -- `groups::is_power` meets its contract. The loop's invariant: the exponents that are left decide.
-use Prim.Native.Nat.{◌^◌}
-use mathlib.Core.Path.{◌≡◌, refl}
-use Rattle.theory_merkle.specs.Questions.{is_pow}
+use mathlib.Core.Path.{refl}
 use Rattle.tree_place.proofs.Loops.{power_halves, power_step, power_yes, power_no}
 use borrow.Author.Rules.{rules}
 use Rattle.tree_place.proofs.is_power.Goals as goal

@@ -1,9 +1,7 @@
 -- `groups::is_power` meets its contract. The loop's invariant: the exponents that are left decide.
 use Prim.Native.Nat.{◌^◌}
-use mathlib.Core.Path.{◌≡◌, refl}
+use mathlib.Core.Path.{◌≡◌}
 use Rattle.theory_merkle.specs.Questions.{is_pow}
-use Rattle.tree_place.proofs.Loops.{power_halves, power_step, power_yes, power_no}
-use borrow.Author.Rules.{rules}
 use Rattle.tree_place.proofs.is_power.Given as goal
 
 abbrev pub invariant-loop-left : goal.invariant-loop-left

@@ -2,7 +2,6 @@
 use Rattle.theory_laws.proofs.Questions.{asks}
 use Rattle.tree_place.proofs.Asked.{leaf-asked, tree-bounded}
 use native.Mathlib.Omega.{arith}
-use borrow.Author.Rules.{rules}
 use Rattle.tree_place.proofs.leaf_number.Goals as goal
 
 pub returns-then-q-ne0 : goal.returns-then-q-ne0

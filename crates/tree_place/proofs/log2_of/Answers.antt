@@ -1,7 +1,4 @@
 -- `groups::log2_of` meets its contract. The loop's invariant: the halvings done and the logarithm of what is left make the whole.
-use Prim.Native.Nat.{◌≤◌, ◌+◌}
-use mathlib.Core.Path.{◌≡◌}
-use Rattle.theory_merkle.specs.Tree.{log2}
 use Rattle.tree_place.proofs.Loops.{log2-turn, log2-done}
 use borrow.Author.Rules.{rules}
 use native.Mathlib.Omega.{arith}

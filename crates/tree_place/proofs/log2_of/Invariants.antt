@@ -2,9 +2,6 @@
 use Prim.Native.Nat.{◌≤◌, ◌+◌}
 use mathlib.Core.Path.{◌≡◌}
 use Rattle.theory_merkle.specs.Tree.{log2}
-use Rattle.tree_place.proofs.Loops.{log2-turn, log2-done}
-use borrow.Author.Rules.{rules}
-use native.Mathlib.Omega.{arith}
 use Rattle.tree_place.proofs.log2_of.Given as goal
 
 abbrev pub invariant-loop-rest : goal.invariant-loop-rest

@@ -1,7 +1,6 @@
 -- `groups::open_number` meets its contract.
 use Rattle.theory_laws.proofs.Questions.{asks}
 use Rattle.tree_place.proofs.Asked.{open_asked, shape-bounded, yes_worked, no_worked}
-use borrow.Author.Rules.{rules}
 use Rattle.tree_place.proofs.open_number.Goals as goal
 
 pub returns-then-q-ne0 : goal.returns-then-q-ne0

@@ -3,7 +3,8 @@ use native.Mathlib.Omega.{arith}
 use Rattle.theory_laws.proofs.Questions.{asks}
 use Rattle.theory_merkle.specs.Numbers.{shape_number}
 use Rattle.tree_place.proofs.Asked.{power_some}
-use borrow.Author.Rules.{rules}
+use mathlib.Core.Path.{ap}
+use mathlib.Core.Bool.{not}
 use Rattle.tree_place.proofs.shape_number.Goals as goal
 
 pub returns-then-not-is_power : goal.returns-then-not-is_power
@@ -15,7 +16,7 @@ unfolding shape_number
 returns-then-not-is_power-2 c = search asks
 
 pub nonzero_rem-count : goal.nonzero_rem-count
-nonzero_rem-count c = omega (arith, power_some 9 _ _ c.is_power-2.ensures c.if-not-is_power-2.false)
+nonzero_rem-count c = omega (arith, power_some 9 _ _ c.is_power-2.ensures (ap not c.if-not-is_power-2.false))
 
 pub returns-then-count-width-ne0 : goal.returns-then-count-width-ne0
 unfolding shape_number

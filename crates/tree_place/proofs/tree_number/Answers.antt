@@ -1,7 +1,6 @@
 -- `groups::tree_number` meets its contract.
 use Rattle.theory_laws.proofs.Questions.{asks}
 use Rattle.theory_merkle.specs.Numbers.{shape_number, tree_number}
-use borrow.Author.Rules.{rules}
 use Rattle.tree_place.proofs.tree_number.Goals as goal
 
 pub returns-then-domain-gt255 : goal.returns-then-domain-gt255

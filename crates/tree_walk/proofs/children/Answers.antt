@@ -1,6 +1,5 @@
 -- `children` meets its contract, by the side on which the digest is.
 use mathlib.Core.Path.{sym, ◌∙◌}
-use borrow.Author.Rules.{rules}
 use Rattle.tree_walk.proofs.children.Goals as goal
 
 pub returns-then-is_left : goal.returns-then-is_left

@@ -1,14 +1,7 @@
 -- `climb_path` meets its contract. The loop's invariant: the way that is left from here leads to the same root.
-use Prim.Native.Nat.{◌≤◌, ◌-◌}
-use mathlib.Core.Path.{◌≡◌, sym}
-use lib.ListN.{length, drop}
-use Rattle.theory_laws.specs.Lists.{runs}
-use Rattle.theory_blake3.specs.Modes.{under}
-use Rattle.theory_merkle.specs.Tree.{climb}
-use Rattle.tree_place.specs.Place.{number}
-use Rattle.tree_digest.specs.helpers.Begun.{NodesBegun}
+use mathlib.Core.Path.{sym}
 use Rattle.tree_digest.proofs.Front.{nodes_kept, nodes_hashed}
-use Rattle.tree_walk.proofs.Climb.{climb_from, climb_begin, parent_is, climb-step, climb_end}
+use Rattle.tree_walk.proofs.Climb.{climb_begin, parent_is, climb-step, climb_end}
 use borrow.Author.Rules.{rules}
 use Rattle.tree_walk.proofs.climb_path.Goals as goal
 

@@ -1,11 +1,7 @@
 -- `put_path` meets its contract. The loop's invariant: storing the siblings that are left gives the final buffer.
-use Rattle.tree_walk.proofs.Paths.{Level, level-first, level-even, level-next, sibling_in, path_left, path_begin, path-step, path_put}
-use Prim.Native.Nat.{◌-◌, ◌≤◌, ◌<◌, ◌+◌, ◌*◌}
-use mathlib.Core.Path.{◌≡◌, refl, ◌∙◌}
-use lib.ListN.{length}
-use Rattle.theory_laws.specs.Lists.{flat, stored}
-use Rattle.tree_place.specs.Place.{number}
-use Rattle.tree_walk.specs.helpers.Paths.{path_from}
+use Rattle.tree_walk.proofs.Paths.{level-first, level-even, level-next, sibling_in, path_begin, path-step, path_put}
+use Prim.Native.Nat.{◌<◌}
+use mathlib.Core.Path.{refl, ◌∙◌}
 use native.Mathlib.Omega.{arith}
 use borrow.Author.Rules.{rules}
 use Rattle.tree_walk.proofs.put_path.Goals as goal

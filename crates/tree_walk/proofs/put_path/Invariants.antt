@@ -1,13 +1,11 @@
 -- `put_path` meets its contract. The loop's invariant: storing the siblings that are left gives the final buffer.
-use Rattle.tree_walk.proofs.Paths.{Level, level-first, level-even, level-next, sibling_in, path_left, path_begin, path-step, path_put}
-use Prim.Native.Nat.{◌-◌, ◌≤◌, ◌<◌, ◌+◌, ◌*◌}
-use mathlib.Core.Path.{◌≡◌, refl, ◌∙◌}
+use Rattle.tree_walk.proofs.Paths.{Level, path_left}
+use Prim.Native.Nat.{◌-◌, ◌≤◌, ◌+◌, ◌*◌}
+use mathlib.Core.Path.{◌≡◌}
 use lib.ListN.{length}
 use Rattle.theory_laws.specs.Lists.{flat, stored}
 use Rattle.tree_place.specs.Place.{number}
 use Rattle.tree_walk.specs.helpers.Paths.{path_from}
-use native.Mathlib.Omega.{arith}
-use borrow.Author.Rules.{rules}
 use Rattle.tree_walk.proofs.put_path.Given as goal
 
 abbrev pub invariant-loop-level : goal.invariant-loop-level

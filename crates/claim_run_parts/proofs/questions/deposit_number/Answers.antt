@@ -6,11 +6,6 @@ use Rattle.code_codeword.proofs.Lengths.{gammas_fit}
 use Rattle.theory_record.proofs.Ranges.{sizes-small}
 use Rattle.code_level.proofs.Totals.{levels_fit}
 use borrow.Author.Rules.{rules}
-use Rattle.claim_run_parts.proofs.questions.deposit_number.Reads as reads
-use Rattle.claim_run_parts.proofs.questions.deposit_number.Lts as lts
-use Rattle.code_level.proofs.level_length.Reads as level-length-reads
-use Rattle.code_level.proofs.levels_length.Reads as levels-length-reads
-use Rattle.code_level.proofs.trees_size.Reads as trees-size-reads
 use Rattle.claim_run_parts.proofs.questions.deposit_number.Goals as goal
 
 pub overflow_mul-k : goal.overflow_mul-k

@@ -1,9 +1,6 @@
 -- `claim_run_parts::questions::input_number` meets its contract.
 use Rattle.theory_laws.proofs.Questions.{asks}
 use borrow.Author.Rules.{rules}
-use Rattle.claim_run_parts.proofs.questions.input_number.Reads as reads
-use Rattle.claim_run_parts.proofs.questions.input_number.Lts as lts
-use Rattle.code_codeword.proofs.sizes.holds.Reads as holds-reads
 use Rattle.claim_run_parts.proofs.questions.input_number.Goals as goal
 
 pub returns-then-not-holds : goal.returns-then-not-holds

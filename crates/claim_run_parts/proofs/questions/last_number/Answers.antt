@@ -3,9 +3,6 @@ use Rattle.theory_laws.proofs.Questions.{asks}
 use Rattle.theory_record.proofs.Ranges.{sizes-small}
 use Rattle.claim_run_parts.proofs.Numbers.{too_high, in_reach}
 use borrow.Author.Rules.{rules}
-use Rattle.claim_run_parts.proofs.questions.last_number.Reads as reads
-use Rattle.claim_run_parts.proofs.questions.last_number.Lts as lts
-use Rattle.code_level.proofs.level_length.Reads as level-length-reads
 use Rattle.claim_run_parts.proofs.questions.last_number.Goals as goal
 
 pub returns-then-base-gt200 : goal.returns-then-base-gt200

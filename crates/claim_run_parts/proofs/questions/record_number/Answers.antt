@@ -1,9 +1,5 @@
 -- `claim_run_parts::questions::record_number` meets its contract.
 use Rattle.theory_laws.proofs.Questions.{asks, asks-given}
-use Rattle.claim_run_parts.proofs.questions.record_number.Reads as reads
-use Rattle.claim_run_parts.proofs.questions.record_number.Lts as lts
-use Rattle.record_query_build.proofs.query_size.Reads as query-size-reads
-use Rattle.record_tail_build.proofs.tail_size.Reads as tail-size-reads
 use Rattle.claim_run_parts.proofs.questions.record_number.Goals as goal
 
 pub query_size-requires : goal.query_size-requires

@@ -2,13 +2,6 @@
 use Rattle.code_level.proofs.Sizes.{sizes-said}
 use Rattle.claim_run_parts.proofs.Numbers.{no_size, no_input, no_deposit, no_record, the_last}
 use borrow.Author.Rules.{rules}
-use Rattle.claim_run_parts.proofs.questions.run_number.Reads as reads
-use Rattle.claim_run_parts.proofs.questions.run_number.Lts as lts
-use Rattle.code_level.proofs.size_number.Reads as size-number-reads
-use Rattle.claim_run_parts.proofs.questions.input_number.Reads as input-number-reads
-use Rattle.claim_run_parts.proofs.questions.deposit_number.Reads as deposit-number-reads
-use Rattle.claim_run_parts.proofs.questions.record_number.Reads as record-number-reads
-use Rattle.claim_run_parts.proofs.questions.last_number.Reads as last-number-reads
 use Rattle.claim_run_parts.proofs.questions.run_number.Goals as goal
 
 pub returns-then-a-ne0 : goal.returns-then-a-ne0

@@ -1,10 +1,7 @@
 -- `code_codeword::coordinates::all_coordinates` meets its contract: the first i entries are stored.
-use Prim.Native.Nat.{ℕ, ◌-◌, ◌≤◌, ◌<◌}
-use mathlib.Core.Path.{◌≡◌, refl}
+use mathlib.Core.Path.{refl}
 use native.Mathlib.Omega.{arith}
-use borrow.Author.Rules.{rules}
-use lib.ListN.{length, length-set}
-use Rattle.theory_laws.specs.Table.{at}
+use lib.ListN.{length-set}
 use Rattle.theory_laws.proofs.Table.{is-tab}
 use Rattle.theory_laws.proofs.Updates.{fill_step}
 use Rattle.code_codeword.proofs.coordinates.all_coordinates.Goals as goal

@@ -1,12 +1,8 @@
 -- `code_codeword::coordinates::all_coordinates` meets its contract: the first i entries are stored.
 use Prim.Native.Nat.{ℕ, ◌-◌, ◌≤◌, ◌<◌}
-use mathlib.Core.Path.{◌≡◌, refl}
-use native.Mathlib.Omega.{arith}
-use borrow.Author.Rules.{rules}
-use lib.ListN.{length, length-set}
+use mathlib.Core.Path.{◌≡◌}
+use lib.ListN.{length}
 use Rattle.theory_laws.specs.Table.{at}
-use Rattle.theory_laws.proofs.Table.{is-tab}
-use Rattle.theory_laws.proofs.Updates.{fill_step}
 use Rattle.code_codeword.proofs.coordinates.all_coordinates.Given as goal
 
 abbrev pub invariant-loop-i : goal.invariant-loop-i

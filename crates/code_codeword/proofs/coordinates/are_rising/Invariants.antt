@@ -1,11 +1,8 @@
 -- `code_codeword::coordinates::are_rising` meets its contract: what is left of the list gives the answer.
 use Prim.Native.Nat.{◌-◌, ◌≤◌}
-use mathlib.Core.Path.{◌≡◌, refl}
-use native.Mathlib.Omega.{arith}
-use borrow.Author.Rules.{rules}
+use mathlib.Core.Path.{◌≡◌}
 use lib.ListN.{length, drop}
 use Rattle.theory_code.specs.Questions.{rising}
-use Rattle.code_codeword.proofs.Lists.{rising-turn, rising-low, rising-high, rising_end}
 use Rattle.code_codeword.proofs.coordinates.are_rising.Given as goal
 
 abbrev pub invariant-loop-i : goal.invariant-loop-i

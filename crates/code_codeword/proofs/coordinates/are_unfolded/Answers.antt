@@ -1,5 +1,4 @@
 -- `code_codeword::coordinates::are_unfolded` meets its contract.
-use borrow.Author.Rules.{rules}
 use Rattle.code_codeword.proofs.Lists.{long_no, long_yes}
 use Rattle.code_codeword.proofs.coordinates.are_unfolded.Goals as goal
 

@@ -1,9 +1,8 @@
 -- `code_codeword::coordinates::drop_coordinate` meets its contract: the entries behind the dropped one have moved down, up to i.
-use Prim.Native.Nat.{◌-◌}
 use native.Mathlib.Omega.{arith}
 use borrow.Author.Rules.{rules}
 use lib.ListN.{length-set}
-use Rattle.code_codeword.proofs.Lists.{MovedDown, moved_none, moved_more, moved_all}
+use Rattle.code_codeword.proofs.Lists.{moved_none, moved_more, moved_all}
 use Rattle.code_codeword.proofs.coordinates.drop_coordinate.Goals as goal
 
 pub loop-i-init : goal.loop-i-init

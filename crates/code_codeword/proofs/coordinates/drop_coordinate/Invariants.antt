@@ -1,9 +1,6 @@
 -- `code_codeword::coordinates::drop_coordinate` meets its contract: the entries behind the dropped one have moved down, up to i.
 use Prim.Native.Nat.{◌-◌}
-use native.Mathlib.Omega.{arith}
-use borrow.Author.Rules.{rules}
-use lib.ListN.{length-set}
-use Rattle.code_codeword.proofs.Lists.{MovedDown, moved_none, moved_more, moved_all}
+use Rattle.code_codeword.proofs.Lists.{MovedDown}
 use Rattle.code_codeword.proofs.coordinates.drop_coordinate.Given as goal
 
 abbrev pub invariant-loop-i : goal.invariant-loop-i

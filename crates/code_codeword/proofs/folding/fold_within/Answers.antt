@@ -1,7 +1,6 @@
 -- `code_codeword::folding::fold_within` meets its contract.
 use Prim.Native.Nat.{suc}
 use native.Mathlib.Omega.{arith}
-use borrow.Author.Rules.{rules}
 use lib.Pow.{pow_pos}
 use Rattle.code_codeword.proofs.folding.fold_within.Goals as goal
 

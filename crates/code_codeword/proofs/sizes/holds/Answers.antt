@@ -4,7 +4,6 @@ use Prim.Native.Nat.{ℕ, ◌*◌}
 use native.Mathlib.Omega.{arith}
 use lib.Dec.{eqb}
 use Rattle.code_codeword.proofs.Lengths.{power_fits}
-use borrow.Author.Rules.{rules}
 use Rattle.code_codeword.proofs.sizes.holds.Goals as goal
 
 pub overflow_mul-result : goal.overflow_mul-result

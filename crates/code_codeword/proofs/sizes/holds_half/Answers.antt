@@ -2,7 +2,6 @@
 use mathlib.Core.Path.{ap}
 use Prim.Native.Nat.{ℕ, ◌*◌, ◌/◌}
 use lib.Dec.{eqb}
-use borrow.Author.Rules.{rules}
 use Rattle.code_codeword.proofs.sizes.holds_half.Goals as goal
 
 pub returns : goal.returns

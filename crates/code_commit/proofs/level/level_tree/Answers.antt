@@ -2,11 +2,6 @@
 use mathlib.Core.Path.{refl}
 use Rattle.theory_laws.proofs.Questions.{no_zero, zero-said}
 use Rattle.code_commit.proofs.Sizes.{level-allowed}
-use borrow.Author.Rules.{rules}
-use Rattle.code_commit.proofs.level.level_tree.Reads as reads
-use Rattle.code_commit.proofs.level.level_tree.Lts as lts
-use Rattle.code_commit.proofs.level.number.Reads as number-reads
-use Rattle.code_commit.proofs.trees.build_level.Reads as build-level-reads
 use Rattle.code_commit.proofs.level.level_tree.Goals as goal
 
 pub returns-then-refusal-ne0 : goal.returns-then-refusal-ne0

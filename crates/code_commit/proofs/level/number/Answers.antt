@@ -5,11 +5,6 @@ use Rattle.code_level.proofs.Sizes.{sizes-said, asks-sizes}
 use Rattle.code_level.proofs.Totals.{length-small}
 use Rattle.code_commit.specs.Level.{level_tree_number}
 use borrow.Author.Rules.{rules}
-use Rattle.code_commit.proofs.level.number.Reads as reads
-use Rattle.code_commit.proofs.level.number.Lts as lts
-use Rattle.code_commit.proofs.trees.tree_bytes.Reads as tree-bytes-reads
-use Rattle.code_level.proofs.level_length.Reads as level-length-reads
-use Rattle.code_level.proofs.size_number.Reads as size-number-reads
 use Rattle.code_commit.proofs.level.number.Goals as goal
 
 pub returns-then-x-ne0 : goal.returns-then-x-ne0

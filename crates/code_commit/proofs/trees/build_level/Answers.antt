@@ -2,12 +2,6 @@
 use native.Mathlib.Omega.{arith}
 use Rattle.code_commit.proofs.LevelTrees.{domain-ends, domain-long, domain-is, level-built}
 use borrow.Author.Rules.{rules}
-use Rattle.code_commit.proofs.trees.build_level.Reads as reads
-use Rattle.code_commit.proofs.trees.build_level.Lts as lts
-use Rattle.code_level.proofs.level_domain.Reads as level-domain-reads
-use Rattle.code_level.proofs.level_length.Reads as level-length-reads
-use Rattle.code_level.proofs.level_width.Reads as level-width-reads
-use Rattle.tree_build.proofs.build.Reads as build-reads
 use Rattle.code_commit.proofs.trees.build_level.Goals as goal
 
 pub slice_bounds-domain-end : goal.slice_bounds-domain-end

@@ -2,9 +2,6 @@
 use Rattle.theory_record.proofs.Widths.{powers}
 use Rattle.theory_record.proofs.LevelTree.{groups_some, tree-bytes}
 use borrow.Author.Rules.{rules}
-use Rattle.code_commit.proofs.trees.tree_bytes.Reads as reads
-use Rattle.code_commit.proofs.trees.tree_bytes.Lts as lts
-use Rattle.code_level.proofs.level_groups.Reads as level-groups-reads
 use Rattle.code_commit.proofs.trees.tree_bytes.Goals as goal
 
 pub overflow_mul-result : goal.overflow_mul-result

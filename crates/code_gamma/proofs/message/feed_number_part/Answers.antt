@@ -7,7 +7,6 @@ use Rattle.theory_laws.proofs.Lists.{length-le_bytes}
 use Rattle.hash_chunk.specs.State.{fed}
 use Rattle.hash_chunk.proofs.Feed.{fits_after, fed_then}
 use Rattle.theory_merkle.specs.Message.{prefixed}
-use borrow.Author.Rules.{rules}
 use Rattle.code_gamma.proofs.message.feed_number_part.Goals as goal
 
 pub feed_number-requires : goal.feed_number-requires

@@ -5,6 +5,7 @@ use Prim.Native.Nat.{ℕ}
 use native.Mathlib.Omega.{arith}
 use lib.Dec.{lit≤}
 use Rattle.theory_laws.specs.Lists.{le_bytes}
+use Rattle.theory_blake3.specs.Compression.{iv}
 use Rattle.theory_laws.proofs.Lists.{length-le_bytes}
 use Rattle.hash_chunk.specs.declared.state.ChunkState.{ChunkState}
 use Rattle.hash_chunk.specs.State.{started, fed}
@@ -12,34 +13,33 @@ use Rattle.hash_chunk.proofs.Feed.{fed_then}
 use Rattle.theory_merkle.specs.Message.{prefixed}
 use Rattle.theory_code.specs.Gammas.{gamma_label}
 use Rattle.code_gamma.proofs.Messages.{labelled, named, sized_by, prefix-is, length-labelled, length-named, length-sized_by, new, fits-new}
-use borrow.Author.Rules.{rules}
 use Rattle.code_gamma.proofs.message.prefix.Goals as goal
-use Rattle.code_gamma.proofs.message.prefix.Goals.{After-feed_number-counted, After-feed_number_part-sized, After-feed_part-labelled, After-feed_part-named}
+use Rattle.code_gamma.proofs.message.prefix.Goals.{After-feed_number_part-sized, After-feed_part-labelled, After-feed_part-named}
 
 -- the state after each piece
-counted_is : (c : After-feed_number-counted) → c.feed_number-counted.result ≡ fed new (le_bytes 8 6)
-counted_is c =
-    c.feed_number-counted.ensures
-    ∙ ap (λ (s : ChunkState). fed s (le_bytes 8 6)) (c.start-empty.ensures ∙ ap (λ (key : List ℕ). started key 0 0) c.iv-key.ensures)
+counted_is : {key : List ℕ} {empty counted : ChunkState} → key ≡ iv → empty ≡ started key 0 0 → counted ≡ fed empty (le_bytes 8 6)
+    → counted ≡ fed new (le_bytes 8 6)
+counted_is keyed started_so fed_so =
+    fed_so ∙ ap (λ (s : ChunkState). fed s (le_bytes 8 6)) (started_so ∙ ap (λ (key : List ℕ). started key 0 0) keyed)
 
 labelled-is : (c : After-feed_part-labelled) → c.feed_part-labelled.result ≡ fed new labelled
 unfolding prefixed gamma_label
-labelled-is c = fed_then _ _ _ (counted_is c.before.before.before) c.feed_part-labelled.ensures
+labelled-is c = fed_then _ _ _ (counted_is c.iv-key.ensures c.start-empty.ensures c.feed_number-counted.ensures) c.feed_part-labelled.ensures
 
 named-is : (c : After-feed_part-named) → c.feed_part-named.result ≡ fed new (named c.args.domain.now)
 unfolding prefixed
-named-is c = fed_then _ _ _ (labelled-is c.before) c.feed_part-named.ensures
+named-is c = fed_then _ _ _ (labelled-is (goal.at.feed_number_part-sized-requires c).After-feed_part-labelled) c.feed_part-named.ensures
 
 sized-is : (c : After-feed_number_part-sized)
     → c.feed_number_part-sized.result ≡ fed new (sized_by c.args.domain.now c.args.n)
-sized-is c = fed_then _ _ _ (named-is c.before) c.feed_number_part-sized.ensures
+sized-is c = fed_then _ _ _ (named-is (goal.at.feed_number_part-requires c).After-feed_part-named) c.feed_number_part-sized.ensures
 
 pub feed_number-counted-requires : goal.feed_number-counted-requires
 unfolding fed
 feed_number-counted-requires c = fits-new _ [] 0 8 (c.start-empty.ensures ∙ ap (λ (key : List ℕ). started key 0 0) c.iv-key.ensures) refl (lit≤ tt)
 
 pub feed_part-labelled-requires : goal.feed_part-labelled-requires
-feed_part-labelled-requires c = fits-new _ (le_bytes 8 6) 8 29 (counted_is (goal.at.feed_part-labelled-requires c).After-feed_number-counted) (length-le_bytes 8 6) (lit≤ tt)
+feed_part-labelled-requires c = fits-new _ (le_bytes 8 6) 8 29 (counted_is c.iv-key.ensures c.start-empty.ensures c.feed_number-counted.ensures) (length-le_bytes 8 6) (lit≤ tt)
 
 pub feed_part-named-requires : goal.feed_part-named-requires
 feed_part-named-requires c = fits-new _ labelled 37 _ (labelled-is c) length-labelled (omega arith)

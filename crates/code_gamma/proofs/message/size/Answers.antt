@@ -6,7 +6,6 @@ use lib.ListN.{length}
 use Rattle.theory_code.specs.Gammas.{gamma_message}
 use Rattle.code_gamma.proofs.Messages.{length-gamma_prefix, fits-new, message_counted}
 use Rattle.theory_code.proofs.Gammas.{length-gamma_message}
-use borrow.Author.Rules.{rules}
 use Rattle.code_gamma.proofs.message.size.Goals as goal
 use Rattle.code_gamma.proofs.message.size.Goals.{After-whole-message}
 

@@ -3,7 +3,6 @@ use mathlib.Core.Path.{refl}
 use Rattle.hash_chunk.proofs.Feed.{fits_after, fed_then}
 use Rattle.code_gamma.specs.helpers.Prefix.{gamma_rest}
 use Rattle.code_gamma.proofs.Messages.{length-number-part}
-use borrow.Author.Rules.{rules}
 use Rattle.code_gamma.proofs.message.whole.Goals as goal
 
 pub feed_number_part-requires : goal.feed_number_part-requires

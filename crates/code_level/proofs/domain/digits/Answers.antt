@@ -1,7 +1,5 @@
 -- `code_level::domain::digits` meets its contract.
 use Rattle.code_level.proofs.Domains.{one-digit-long, two-digits-long}
-use Rattle.code_level.proofs.domain.digits.Reads as reads
-use Rattle.code_level.proofs.domain.digits.Lts as lts
 use Rattle.code_level.proofs.domain.digits.Goals as goal
 
 pub returns-then-x-lt10 : goal.returns-then-x-lt10

@@ -2,10 +2,6 @@
 use native.Mathlib.Omega.{arith}
 use Rattle.theory_record.proofs.Domain.{length-decimal}
 use Rattle.code_level.proofs.Domains.{not_so_long, so_long}
-use borrow.Author.Rules.{rules}
-use Rattle.code_level.proofs.domain.holds_domain.Reads as reads
-use Rattle.code_level.proofs.domain.holds_domain.Lts as lts
-use Rattle.code_level.proofs.domain.digits.Reads as digits-reads
 use Rattle.code_level.proofs.domain.holds_domain.Goals as goal
 
 pub overflow_add-behind : goal.overflow_add-behind

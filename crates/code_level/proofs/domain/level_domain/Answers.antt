@@ -3,11 +3,6 @@ use mathlib.Core.Path.{refl}
 use native.Mathlib.Omega.{arith}
 use Rattle.theory_laws.proofs.Questions.{no_zero, zero-said}
 use Rattle.code_level.proofs.Domains.{domain-fits, domain-fills}
-use borrow.Author.Rules.{rules}
-use Rattle.code_level.proofs.domain.level_domain.Reads as reads
-use Rattle.code_level.proofs.domain.level_domain.Lts as lts
-use Rattle.code_level.proofs.domain.number.Reads as number-reads
-use Rattle.code_level.proofs.put_domain.Reads as put-domain-reads
 use Rattle.code_level.proofs.domain.level_domain.Goals as goal
 
 pub returns-then-refusal-ne0 : goal.returns-then-refusal-ne0

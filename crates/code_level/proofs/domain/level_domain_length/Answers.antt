@@ -2,10 +2,6 @@
 use native.Mathlib.Omega.{arith}
 use Rattle.theory_record.proofs.Domain.{length-decimal}
 use Rattle.code_level.proofs.Domains.{length-level, length_base, length-done}
-use borrow.Author.Rules.{rules}
-use Rattle.code_level.proofs.domain.level_domain_length.Reads as reads
-use Rattle.code_level.proofs.domain.level_domain_length.Lts as lts
-use Rattle.code_level.proofs.domain.digits.Reads as digits-reads
 use Rattle.code_level.proofs.domain.level_domain_length.Goals as goal
 
 pub returns-then-l-gt20 : goal.returns-then-l-gt20

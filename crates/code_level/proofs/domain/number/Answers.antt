@@ -1,10 +1,6 @@
 -- `code_level::domain::number` meets its contract.
 use Rattle.theory_laws.proofs.Questions.{asks}
 use Rattle.code_level.specs.Domain.{domain_number}
-use borrow.Author.Rules.{rules}
-use Rattle.code_level.proofs.domain.number.Reads as reads
-use Rattle.code_level.proofs.domain.number.Lts as lts
-use Rattle.code_level.proofs.domain.holds_domain.Reads as holds-domain-reads
 use Rattle.code_level.proofs.domain.number.Goals as goal
 
 pub returns-then-l-gt20 : goal.returns-then-l-gt20

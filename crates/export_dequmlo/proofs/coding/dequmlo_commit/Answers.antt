@@ -9,4 +9,4 @@ returns-then-widths-gt1 c = record { value = no_le _ _ _ _ _ c.if-widths-gt1.tru
 
 pub returns : goal.returns
 returns c =
-    let h = c.if-widths-gt1.false in let e = c.trees_of.ensures in let d = c.commit.ensures in record { value = yes_le _ _ _ _ _ h (rw e at d.0); gammas_after = d.1.0; codeword_after = d.1.1.0; coordinates_after = d.1.1.1.0; tree_after = rw e at d.1.1.1.1 }
+    let h = c.if-widths-gt1.false in let e = c.trees_of.ensures in let d = c.commit.ensures in record { value = yes_le _ _ _ _ _ h (rw e at d.value); gammas_after = d.gammas_after; codeword_after = d.codeword_after; coordinates_after = d.coordinates_after; tree_after = rw e at d.tree_after }

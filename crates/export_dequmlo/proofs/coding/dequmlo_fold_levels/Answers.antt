@@ -9,4 +9,4 @@ returns-then-widths-gt1 c = record { value = no_le _ _ _ _ _ c.if-widths-gt1.tru
 
 pub returns : goal.returns
 returns c =
-    let h = c.if-widths-gt1.false in let e = c.trees_of.ensures in let d = c.fold_levels.ensures in record { value = yes_le _ _ _ _ _ h (rw e at d.0); levels_after = d.1.0; half_after = d.1.1.0; trees_after = rw e at d.1.1.1.0; roots_after = rw e at d.1.1.1.1 }
+    let h = c.if-widths-gt1.false in let e = c.trees_of.ensures in let d = c.fold_levels.ensures in record { value = yes_le _ _ _ _ _ h (rw e at d.value); levels_after = d.levels_after; half_after = d.half_after; trees_after = rw e at d.trees_after; roots_after = rw e at d.roots_after }

@@ -1,10 +1,6 @@
 -- `export_dequmlo::parameters::dequmlo_default_parameters` meets its contract.
 use mathlib.Core.Path.{◌∙◌}
 use borrow.Author.Rules.{rules}
-use Rattle.export_dequmlo.proofs.parameters.dequmlo_default_parameters.Reads as reads
-use Rattle.export_dequmlo.proofs.parameters.dequmlo_default_parameters.Lts as lts
-use Rattle.export_dequmlo.proofs.parameters.exported.Reads as exported-reads
-use Rattle.code_profile.proofs.default_parameters.Reads as default-parameters-reads
 use Rattle.export_dequmlo.proofs.parameters.dequmlo_default_parameters.Goals as goal
 
 pub returns : goal.returns

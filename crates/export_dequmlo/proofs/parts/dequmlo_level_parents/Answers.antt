@@ -4,4 +4,4 @@ use Rattle.export_dequmlo.proofs.parts.dequmlo_level_parents.Goals as goal
 
 pub returns : goal.returns
 returns c =
-    let e = c.mode_of.ensures in let d = c.level_parents.ensures in record { value = d.0; out_after = rw e at d.1 }
+    let e = c.mode_of.ensures in let d = c.level_parents.ensures in record { value = d.value; out_after = rw e at d.out_after }

@@ -9,4 +9,4 @@ returns-then-widths-gt1 c = record { value = no_le _ _ _ _ _ c.if-widths-gt1.tru
 
 pub returns : goal.returns
 returns c =
-    let h = c.if-widths-gt1.false in let p = c.at-place.ensures in let e = c.set_of.ensures in let d = c.build_query.ensures in record { value = yes_le _ _ _ _ _ h (rw (p, e) at d.0); out_after = yes_le _ _ _ _ _ h (rw (p, e) at d.1) }
+    let h = c.if-widths-gt1.false in let p = c.at-place.ensures in let e = c.set_of.ensures in let d = c.build_query.ensures in record { value = yes_le _ _ _ _ _ h (rw (p, e) at d.value); out_after = yes_le _ _ _ _ _ h (rw (p, e) at d.out_after) }

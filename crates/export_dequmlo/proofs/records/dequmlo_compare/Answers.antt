@@ -9,4 +9,4 @@ returns-then-widths-gt1 c = record { result_value = no_le _ _ _ _ _ c.if-widths-
 
 pub returns : goal.returns
 returns c =
-    let h = c.if-widths-gt1.false in let p = c.at.ensures in let e = c.trees_of.ensures in let d = c.compare-a.ensures in record { result_value = yes_le _ _ _ _ _ h (rw (p, e) at d.0); one_after = yes_le _ _ _ _ _ h (rw (p, e) at d.1.0); two_after = yes_le _ _ _ _ _ h (rw (p, e) at d.1.1) }
+    let h = c.if-widths-gt1.false in let p = c.at.ensures in let e = c.trees_of.ensures in let d = c.compare-a.ensures in record { result_value = yes_le _ _ _ _ _ h (rw (p, e) at d.result_value); one_after = yes_le _ _ _ _ _ h (rw (p, e) at d.one_after); two_after = yes_le _ _ _ _ _ h (rw (p, e) at d.two_after) }

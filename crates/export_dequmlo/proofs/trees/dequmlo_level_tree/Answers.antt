@@ -9,4 +9,4 @@ returns-then-widths-gt1 c = record { value = no_le _ _ _ _ _ c.if-widths-gt1.tru
 
 pub returns : goal.returns
 returns c =
-    let h = c.if-widths-gt1.false in let e = c.trees_of.ensures in let d = c.level_tree.ensures in record { value = yes_le _ _ _ _ _ h (rw e at d.0); tree_after = rw e at d.1 }
+    let h = c.if-widths-gt1.false in let e = c.trees_of.ensures in let d = c.level_tree.ensures in record { value = yes_le _ _ _ _ _ h (rw e at d.value); tree_after = rw e at d.tree_after }

@@ -4,4 +4,4 @@ use Rattle.export_dequmlo.proofs.trees.dequmlo_tree.Goals as goal
 
 pub returns : goal.returns
 returns c =
-    let e = c.mode_of.ensures in let d = c.build.ensures in record { value = d.0; tree_after = rw e at d.1 }
+    let e = c.mode_of.ensures in let d = c.build.ensures in record { value = d.value; tree_after = rw e at d.tree_after }

@@ -1,6 +1,5 @@
 -- `nibble` meets its contract.
 use lib.Bits.{and_mask}
-use borrow.Author.Rules.{rules}
 use Rattle.field_pack.proofs.bits.nibble.Goals as goal
 
 pub returns : goal.returns

@@ -1,5 +1,4 @@
 -- `chunk::slice::chunk_of` meets its contract.
-use borrow.Author.Rules.{rules}
 use Rattle.theory_blake3.specs.Chunk as B
 use Rattle.hash_chunk.proofs.slice.chunk_of.Goals as goal
 

@@ -1,13 +1,9 @@
 -- `chunk::slice::chunk_rest` meets its contract.
-use mathlib.Core.Path.{◌≡◌, refl}
+use mathlib.Core.Path.{◌≡◌}
 use Prim.Native.Nat.{ℕ, ◌+◌, ◌≤◌, ◌-◌, ◌*◌}
-use native.Mathlib.Omega.{arith}
-use borrow.Author.Rules.{rules}
 use lib.ListN.{length, drop}
 use Rattle.theory_blake3.specs.Flags.{start_flag}
 use Rattle.theory_blake3.specs.Chunk as B
-use Rattle.hash_node.specs.helpers.Node.{out_of}
-use Rattle.hash_chunk.proofs.Chunk.{next_law, chunk-turn, chunk_end}
 use Rattle.hash_chunk.proofs.slice.chunk_rest.Given as goal
 
 abbrev pub invariant-loop-from : goal.invariant-loop-from

@@ -1,9 +1,6 @@
 -- `chunk::slice::first_blocks` meets its contract. The loop's invariant: the blocks that are left give the chaining value of all.
-use Prim.Native.Nat.{◌≤◌, ◌-◌, ◌*◌}
-use mathlib.Core.Path.{◌≡◌, refl}
-use lib.ListN.{drop}
+use mathlib.Core.Path.{refl}
 use borrow.Author.Rules.{rules}
-use Rattle.hash_chunk.specs.helpers.Blocks.{blocks_from, first_blocks}
 use Rattle.hash_chunk.proofs.Chunk.{next_law}
 use Rattle.hash_chunk.proofs.Blocks.{blocks_step, blocks_end, blocks_begin}
 use Rattle.hash_chunk.proofs.slice.first_blocks.Goals as goal

@@ -4,7 +4,6 @@ use native.Mathlib.Omega.{arith}
 use Rattle.hash_node.proofs.Laws.{block-whole}
 use Rattle.hash_chunk.proofs.Chunk.{next_law}
 use Rattle.hash_chunk.proofs.Feed.{block-length, compressed_law}
-use borrow.Author.Rules.{rules}
 use Rattle.hash_chunk.proofs.state.compressed.Goals as goal
 
 pub words_at-m-requires : goal.words_at-m-requires

@@ -1,12 +1,8 @@
 -- `chunk::state::feed` meets its contract.
-use mathlib.Core.Path.{◌≡◌, refl, ◌∙◌}
-use mathlib.Core.Logic.{⊎_elim}
-use Prim.Native.Nat.{◌≤◌, ◌<◌, ◌-◌, ◌+◌, ◌*◌}
-use native.Mathlib.Omega.{arith}
-use borrow.Author.Rules.{rules}
-use lib.ListN.{length, drop, drop_of_length-le}
+use mathlib.Core.Path.{◌≡◌}
+use Prim.Native.Nat.{◌≤◌, ◌-◌, ◌+◌, ◌*◌}
+use lib.ListN.{length, drop}
 use Rattle.hash_chunk.specs.State as S
-use Rattle.hash_chunk.proofs.Feed.{Roomed, roomed_full, roomed_not, feed_turn}
 use Rattle.hash_chunk.proofs.state.feed.Given as goal
 
 abbrev pub invariant-loop-i : goal.invariant-loop-i

@@ -1,7 +1,6 @@
 -- `chunk::state::feed_number` meets its contract.
 use mathlib.Core.Path.{ap, ◌∙◌}
 use Rattle.hash_chunk.specs.State as S
-use borrow.Author.Rules.{rules}
 use Rattle.hash_chunk.proofs.state.feed_number.Goals as goal
 
 pub returns : goal.returns

@@ -5,7 +5,6 @@ use lib.ListN.{length}
 use Rattle.theory_laws.specs.Lists.{le_bytes}
 use Rattle.theory_laws.proofs.Lists.{length-le_bytes}
 use Rattle.hash_chunk.proofs.Feed.{fits_after, fed_then}
-use borrow.Author.Rules.{rules}
 use Rattle.hash_chunk.proofs.state.feed_part.Goals as goal
 
 pub feed-requires : goal.feed-requires

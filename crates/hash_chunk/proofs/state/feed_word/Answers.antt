@@ -5,7 +5,6 @@ use Rattle.theory_laws.specs.Lists.{le_bytes}
 use Rattle.theory_laws.proofs.Lists.{length-le_bytes}
 use Rattle.hash_chunk.specs.State as S
 use Rattle.hash_chunk.proofs.Feed.{fits_after, fed_then}
-use borrow.Author.Rules.{rules}
 use Rattle.theory_laws.proofs.Bytes.{le_bytes-joined}
 use Rattle.hash_chunk.proofs.state.feed_word.Goals as goal
 

@@ -3,7 +3,6 @@ use mathlib.Core.Path.{ap, ◌∙◌}
 use Rattle.theory_blake3.specs.Compression.{cv}
 use Rattle.theory_blake3.specs.Digest.{bytes_of_words32}
 use Rattle.hash_chunk.specs.State as S
-use borrow.Author.Rules.{rules}
 use Rattle.hash_chunk.proofs.state.finish.Goals as goal
 
 pub returns : goal.returns

@@ -2,7 +2,6 @@
 use native.Mathlib.Omega.{arith}
 use Rattle.hash_node.specs.helpers.Node.{out_of}
 use Rattle.hash_chunk.proofs.Feed.{block-length, last_law}
-use borrow.Author.Rules.{rules}
 use Rattle.hash_chunk.proofs.state.last.Goals as goal
 
 pub last_words-m-requires : goal.last_words-m-requires

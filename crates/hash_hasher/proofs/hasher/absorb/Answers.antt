@@ -1,17 +1,14 @@
 -- `hash_hasher::hasher::absorb` meets its contract.
 use mathlib.Core.Path.{◌≡◌, refl, ◌∙◌}
-use mathlib.Core.Logic.{⊎_elim}
 use Prim.Native.Nat.{◌≤◌, ◌<◌, ◌-◌, ◌+◌, ◌*◌}
 use native.Mathlib.Omega.{arith}
-use borrow.Author.Rules.{rules}
-use lib.ListN.{length, drop, drop_of_length-le}
+use lib.ListN.{length, drop_of_length-le}
 use Rattle.theory_laws.specs.Lists.{part}
 use Rattle.theory_laws.proofs.Lists.{length_part}
 use Rattle.hash_hasher.specs.Hasher as S
-use Rattle.hash_hasher.specs.helpers.Counts.{Counts}
 use Rattle.hash_hasher.proofs.Absorb.{Roomed, roomed_full, roomed_not, lent_fits, lent-fed, counts_same, absorb_turn, absorb_counts}
 use Rattle.hash_hasher.proofs.hasher.absorb.Goals as goal
-use Rattle.hash_hasher.proofs.hasher.absorb.Goals.{In-loop-i}
+use Rattle.hash_hasher.proofs.hasher.absorb.Goals.{Joined-s-eq1024, then-s-eq1024, else-s-eq1024}
 
 pub loop-i-init : goal.loop-i-init
 loop-i-init c = (
@@ -31,39 +28,39 @@ next_chunk-t-requires c =
     let k = c.loop-i.invariant.1 in (record { small = omega (arith, k.small); low = k.low; within = k.within; sum = k.sum; deep = k.deep }, c.if-s-eq1024.true)
 
 -- and there is room for a byte
-joined : (c : In-loop-i) → Roomed c.loop-i.s c.if-s-eq1024.s (length c.args.input.now - c.loop-i.i)
+joined : (c : Joined-s-eq1024) → Roomed c.loop-i.s c.if-s-eq1024.s (length c.args.input.now - c.loop-i.i)
 joined c =
-    ⊎_elim
-    (λ w. roomed_full _ _ _ (omega arith) c.loop-i.invariant.1 w.0.taken (w.2 ∙ w.1.ensures))
-    (λ w. roomed_not _ _ _ c.loop-i.invariant.1 w.0.left w.1)
-    c.if-s-eq1024.branch
+    elim c.if-s-eq1024.branch [
+      | then-s-eq1024 w ↦ roomed_full _ _ _ (omega arith) c.loop-i.invariant.1 w.if-s-eq1024.true (w.s-is ∙ w.next_chunk-t.ensures)
+      | else-s-eq1024 w ↦ roomed_not _ _ _ c.loop-i.invariant.1 w.if-s-eq1024.false w.s-is
+    ]
 
 pub overflow_mul-s-in-loop-i : goal.overflow_mul-s-in-loop-i
-overflow_mul-s-in-loop-i c = omega (arith, (joined (goal.at.overflow_mul-s-in-loop-i c).In-loop-i).counts.low)
+overflow_mul-s-in-loop-i c = omega (arith, (joined (goal.at.overflow_mul-s-in-loop-i c).Joined-s-eq1024).counts.low)
 
 pub overflow_add-s-in-loop-i : goal.overflow_add-s-in-loop-i
-overflow_add-s-in-loop-i c = omega (arith, (joined (goal.at.overflow_add-s-in-loop-i c).In-loop-i).room)
+overflow_add-s-in-loop-i c = omega (arith, (joined (goal.at.overflow_add-s-in-loop-i c).Joined-s-eq1024).room)
 
 pub overflow_sub-s : goal.overflow_sub-s
-overflow_sub-s c = omega (arith, (joined (goal.at.overflow_sub-s c).In-loop-i).room)
+overflow_sub-s c = omega (arith, (joined (goal.at.overflow_sub-s c).Joined-s-eq1024).room)
 
 pub feed-fed-requires : goal.feed-fed-requires
 feed-fed-requires c =
-    let j = joined (goal.at.feed-fed-requires c).In-loop-i in
+    let j = joined (goal.at.feed-fed-requires c).Joined-s-eq1024 in
     lent_fits c.if-s-eq1024.s c.args.input.now c.loop-i.i c.least-n.result c.chunk_of-c.ensures
     (omega (arith, c.least-n.ensures)) j.counts.within (omega (arith, j.room, c.least-n.ensures))
 
 pub with_chunk-t-requires : goal.with_chunk-t-requires
 with_chunk-t-requires c =
-    omega (arith, (joined (goal.at.with_chunk-t-requires c).In-loop-i).counts.small)
+    omega (arith, (joined (goal.at.with_chunk-t-requires c).Joined-s-eq1024).counts.small)
 
 pub loop-i-smaller : goal.loop-i-smaller
 loop-i-smaller c =
-    omega (arith, (joined (goal.at.loop-i-smaller c).In-loop-i).room, c.least-n.ensures, c.loop-i-test.true)
+    omega (arith, (joined (goal.at.loop-i-smaller c).Joined-s-eq1024).room, c.least-n.ensures, c.loop-i-test.true)
 
 pub loop-i-preserved : goal.loop-i-preserved
 loop-i-preserved c =
-    let a = c.args in let j = joined (goal.at.loop-i-preserved c).In-loop-i in
+    let a = c.args in let j = joined (goal.at.loop-i-preserved c).Joined-s-eq1024 in
     let u = c.if-s-eq1024.s in let m = c.least-n.ensures in let n = c.least-n.result in let t : c.loop-i.i < length a.input.now = c.loop-i-test.true in
     let p : 0 < n = omega (arith, j.room) in
     let f : 64 * u.blocks + u.fill + n ≤ 1024 = omega (arith, j.room) in

@@ -1,15 +1,9 @@
 -- `hash_hasher::hasher::absorb` meets its contract.
-use mathlib.Core.Path.{◌≡◌, refl, ◌∙◌}
-use mathlib.Core.Logic.{⊎_elim}
-use Prim.Native.Nat.{◌≤◌, ◌<◌, ◌-◌, ◌+◌, ◌*◌}
-use native.Mathlib.Omega.{arith}
-use borrow.Author.Rules.{rules}
-use lib.ListN.{length, drop, drop_of_length-le}
-use Rattle.theory_laws.specs.Lists.{part}
-use Rattle.theory_laws.proofs.Lists.{length_part}
+use mathlib.Core.Path.{◌≡◌}
+use Prim.Native.Nat.{◌≤◌, ◌-◌}
+use lib.ListN.{length, drop}
 use Rattle.hash_hasher.specs.Hasher as S
 use Rattle.hash_hasher.specs.helpers.Counts.{Counts}
-use Rattle.hash_hasher.proofs.Absorb.{Roomed, roomed_full, roomed_not, lent_fits, lent-fed, counts_same, absorb_turn, absorb_counts}
 use Rattle.hash_hasher.proofs.hasher.absorb.Given as goal
 
 abbrev pub invariant-loop-i : goal.invariant-loop-i

@@ -2,7 +2,6 @@
 use mathlib.Core.Path.{sym, ◌∙◌}
 use Rattle.hash_hasher.specs.Hasher as S
 use Rattle.hash_hasher.proofs.Ready.{ready, answer-refused, answer-done}
-use borrow.Author.Rules.{rules}
 use Rattle.hash_hasher.proofs.hasher.finalize.Goals as goal
 
 pub returns-then-q-ne0 : goal.returns-then-q-ne0

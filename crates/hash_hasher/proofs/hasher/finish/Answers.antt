@@ -2,7 +2,6 @@
 use native.Mathlib.Omega.{arith}
 use lib.Count.{ones-le}
 use Rattle.hash_hasher.proofs.Absorb.{finish_law}
-use borrow.Author.Rules.{rules}
 use Rattle.hash_hasher.proofs.hasher.finish.Goals as goal
 
 pub last-n-requires : goal.last-n-requires

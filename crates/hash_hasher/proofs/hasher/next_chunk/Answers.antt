@@ -4,7 +4,6 @@ use native.Mathlib.Omega.{arith}
 use lib.Count.{ones-le, trailing_le}
 use Rattle.hash_stack.proofs.Tower.{tower_merges, tower_room}
 use Rattle.hash_hasher.proofs.Absorb.{next_law}
-use borrow.Author.Rules.{rules}
 use Rattle.hash_hasher.proofs.hasher.next_chunk.Goals as goal
 
 pub last-n-requires : goal.last-n-requires

@@ -3,7 +3,6 @@ use mathlib.Core.Path.{sym}
 use native.Mathlib.Omega.{arith}
 use lib.Count.{ones-le}
 use Rattle.hash_hasher.proofs.Ready.{refused, ready-number}
-use borrow.Author.Rules.{rules}
 use Rattle.hash_hasher.proofs.hasher.number.Goals as goal
 
 pub returns-then-s-gt16777216 : goal.returns-then-s-gt16777216

@@ -1,7 +1,6 @@
 -- `hash_hasher::hasher::update` meets its contract.
 use mathlib.Core.Path.{sym, ◌∙◌}
 use Rattle.hash_hasher.proofs.Ready.{ready, update_refused, update_done}
-use borrow.Author.Rules.{rules}
 use Rattle.hash_hasher.proofs.hasher.update.Goals as goal
 
 pub returns-then-q-ne0 : goal.returns-then-q-ne0

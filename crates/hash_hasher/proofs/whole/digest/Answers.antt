@@ -3,7 +3,6 @@ use mathlib.Core.Path.{ap, ◌∙◌}
 use mathlib.Core.List.{List}
 use Prim.Native.Nat.{ℕ}
 use Rattle.hash_hasher.specs.Whole as S
-use borrow.Author.Rules.{rules}
 use Rattle.hash_hasher.proofs.whole.digest.Goals as goal
 
 pub returns : goal.returns

@@ -1,16 +1,7 @@
 -- `hash_hasher::whole::digest_of`: four chunks at a time, then one at a time, the stack stands for the chunks so far; the last chunk is the rest.
-use mathlib.Core.Path.{refl, sym}
-use mathlib.Core.List.{[]}
-use Prim.Native.Nat.{◌-◌, ◌+◌}
-use native.Mathlib.Omega.{arith}
-use borrow.Author.Rules.{rules}
-use lib.Count.{ones, ones_in, ones-le, trailing_le}
-use lib.ListN.{length, length-take}
-use Rattle.theory_blake3.specs.Stack as B
-use Rattle.theory_blake3.proofs.Stack.{stack-nil}
-use Rattle.hash_stack.proofs.Tower.{tower_merges, tower_room}
+use Prim.Native.Nat.{◌-◌}
+use lib.ListN.{length}
 use Rattle.hash_hasher.specs.helpers.Walk.{Walked}
-use Rattle.hash_hasher.proofs.OneCall.{walk_turn, walk_end}
 use Rattle.hash_hasher.proofs.whole.digest_of.Given as goal
 
 abbrev pub invariant-loop-from : goal.invariant-loop-from

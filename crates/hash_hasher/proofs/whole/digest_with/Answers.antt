@@ -1,7 +1,6 @@
 -- `hash_hasher::whole::digest_with` meets its contract.
 use borrow.Author.Tests.{lt-leb, le-leb}
 use Rattle.hash_hasher.specs.Whole as S
-use borrow.Author.Rules.{rules}
 use Rattle.hash_hasher.proofs.whole.digest_with.Goals as goal
 
 pub returns-then-input-gt16777216 : goal.returns-then-input-gt16777216

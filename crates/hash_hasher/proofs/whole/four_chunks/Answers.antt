@@ -1,5 +1,4 @@
 -- `hash_hasher::whole::four_chunks`: four parts that stand one after the other.
-use borrow.Author.Rules.{rules}
 use Rattle.hash_hasher.proofs.OneCall.{four-values}
 use Rattle.hash_hasher.proofs.whole.four_chunks.Goals as goal
 

@@ -1,12 +1,11 @@
 -- `hash_hasher::whole::push_four`: the values go onto the stack in order, so that it stands for one chunk more after each.
 use mathlib.Core.Path.{◌≡◌, sym, ◌∙◌}
-use mathlib.Core.List.{List, []}
-use Prim.Native.Nat.{ℕ, ◌+◌, ◌*◌, ◌-◌, ◌≤◌}
+use mathlib.Core.List.{[]}
+use Prim.Native.Nat.{◌+◌}
 use native.Mathlib.Nat.{add-zero}
 use native.Mathlib.Omega.{arith}
-use lib.Count.{ones, ones-le, trailing_le}
+use lib.Count.{ones-le, trailing_le}
 use Rattle.hash_stack.proofs.Tower.{tower_merges, tower_room, tower_depth}
-use Rattle.hash_hasher.specs.helpers.Walk.{Walked, Four}
 use Rattle.hash_hasher.proofs.OneCall.{lane-turn}
 use Rattle.hash_hasher.proofs.whole.push_four.Goals as goal
 

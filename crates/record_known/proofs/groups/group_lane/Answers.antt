@@ -1,6 +1,5 @@
 -- `record_known::groups::group_lane` meets its contract.
 use Rattle.record_known.proofs.TailGroups.{first_fits, group_first, lane-placed}
-use borrow.Author.Rules.{rules}
 use Rattle.record_known.proofs.groups.group_lane.Goals as goal
 
 pub first_place-first-requires : goal.first_place-first-requires

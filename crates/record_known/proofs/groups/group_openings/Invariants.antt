@@ -1,12 +1,8 @@
 -- `record_known::groups::group_openings` meets its contract: none of those found so far is known.
-use borrow.Author.Rules.{rules}
 use Prim.Native.Nat.{◌-◌, ◌≤◌}
-use mathlib.Core.Path.{◌≡◌, refl}
-use native.Mathlib.Omega.{arith}
+use mathlib.Core.Path.{◌≡◌}
 use lib.ListN.{length}
-use Rattle.record_reader.proofs.Places.{group_places}
 use Rattle.record_known.specs.helpers.Known.{NoneKnown}
-use Rattle.record_known.proofs.Known.{none_of, none_put}
 use Rattle.record_known.proofs.groups.group_openings.Given as goal
 
 abbrev pub invariant-loop-g : goal.invariant-loop-g

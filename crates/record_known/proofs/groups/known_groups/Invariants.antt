@@ -1,10 +1,7 @@
 -- `record_known::groups::known_groups` meets its contract: what is known so far is so.
-use borrow.Author.Rules.{rules}
 use Prim.Native.Nat.{◌-◌, ◌≤◌}
-use native.Mathlib.Omega.{arith}
 use Rattle.theory_record.specs.Scheme.{scheme}
 use Rattle.record_known.specs.helpers.Known.{GroupsKnown}
-use Rattle.record_known.proofs.Known.{none-known}
 use Rattle.record_known.proofs.groups.known_groups.Given as goal
 
 abbrev pub invariant-loop-g : goal.invariant-loop-g

@@ -1,6 +1,5 @@
 -- `record_known::levels::four_known` meets its contract.
 use Rattle.record_known.proofs.Known.{not_first, first_and}
-use borrow.Author.Rules.{rules}
 use Rattle.record_known.proofs.levels.four_known.Goals as goal
 
 pub returns-then-not-known_in : goal.returns-then-not-known_in

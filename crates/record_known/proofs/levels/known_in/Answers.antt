@@ -2,7 +2,6 @@
 use Prim.Native.Nat.{ℕ}
 use mathlib.Core.Path.{ap}
 use Rattle.record_known.specs.helpers.Known.{opening_of}
-use borrow.Author.Rules.{rules}
 use Rattle.record_known.proofs.levels.known_in.Goals as goal
 
 pub returns : goal.returns

@@ -1,10 +1,6 @@
 -- `record_known::levels::known_levels` meets its contract: what is known so far is so.
 use borrow.Author.Rules.{rules}
-use Prim.Native.Nat.{◌+◌, ◌-◌, ◌≤◌}
 use native.Mathlib.Omega.{arith}
-use Rattle.theory_record.specs.Scheme.{scheme}
-use Rattle.tree_place.specs.Place.{index}
-use Rattle.record_known.specs.helpers.Known.{LevelsKnown}
 use Rattle.record_known.proofs.Known.{none-known}
 use Rattle.record_known.proofs.levels.known_levels.Goals as goal
 
@@ -14,7 +10,8 @@ loop-e-init c =
 
 pub four_levels-more-requires : goal.four_levels-more-requires
 four_levels-more-requires c =
-    let beside = c.last_beside-last.ensures in record {
+    let beside = c.last_beside-last.ensures in
+    record {
       lent = c.requires;
       rising = beside.0;
       last_most = beside.1;

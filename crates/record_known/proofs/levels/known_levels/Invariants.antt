@@ -1,11 +1,8 @@
 -- `record_known::levels::known_levels` meets its contract: what is known so far is so.
-use borrow.Author.Rules.{rules}
 use Prim.Native.Nat.{◌+◌, ◌-◌, ◌≤◌}
-use native.Mathlib.Omega.{arith}
 use Rattle.theory_record.specs.Scheme.{scheme}
 use Rattle.tree_place.specs.Place.{index}
 use Rattle.record_known.specs.helpers.Known.{LevelsKnown}
-use Rattle.record_known.proofs.Known.{none-known}
 use Rattle.record_known.proofs.levels.known_levels.Given as goal
 
 abbrev pub invariant-loop-e : goal.invariant-loop-e

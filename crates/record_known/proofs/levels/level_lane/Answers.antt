@@ -1,6 +1,5 @@
 -- `record_known::levels::level_lane` meets its contract.
 use mathlib.Core.Path.{sym}
-use borrow.Author.Rules.{rules}
 use Rattle.record_known.proofs.levels.level_lane.Goals as goal
 
 pub returns : goal.returns

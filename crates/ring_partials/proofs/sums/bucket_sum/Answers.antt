@@ -1,12 +1,10 @@
 -- `ring_partials::sums::bucket_sum` meets its contract: the sum so far is that of the buckets so far.
 use mathlib.Core.Path.{◌≡◌, refl, ap₂, ◌∙◌}
-use Prim.Native.Nat.{◌+◌, ◌-◌, ◌*◌, ◌/◌, ◌%◌, ◌≤◌}
+use Prim.Native.Nat.{◌%◌}
 use native.Mathlib.Omega.{arith}
 use borrow.Author.Rules.{rules}
-use Rattle.theory_laws.specs.Xor.{bit, sel}
+use Rattle.theory_laws.specs.Xor.{sel}
 use Rattle.theory_laws.specs.Sum.{sum}
-use Rattle.theory_laws.specs.Table.{at}
-use Rattle.theory_field.specs.Words.{words}
 use Rattle.field_gf128.specs.Word.{word}
 use Rattle.field_pack.proofs.Windows.{bit_of_number}
 use Rattle.ring_partials.specs.helpers.Buckets.{gathered}

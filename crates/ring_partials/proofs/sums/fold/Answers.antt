@@ -1,9 +1,8 @@
 -- `ring_partials::sums::fold` meets its contract: the sum so far is that of the words from `left` on, by Horner's rule.
 use mathlib.Core.Path.{◌≡◌, refl, sym, ap, ◌∙◌}
-use Prim.Native.Nat.{ℕ, suc, ◌+◌, ◌-◌, ◌^◌, ◌≤◌}
+use Prim.Native.Nat.{suc, ◌+◌, ◌-◌, ◌^◌}
 use native.Mathlib.Nat.{zero-add}
 use native.Mathlib.Omega.{arith}
-use borrow.Author.Rules.{rules}
 use Rattle.theory_laws.specs.Xor.{◌⊕◌}
 use Rattle.theory_laws.specs.Sum.{sum}
 use Rattle.theory_laws.specs.Table.{at}
@@ -14,7 +13,7 @@ use Rattle.field_gf128.specs.Word.{word}
 use Rattle.field_gf128.proofs.Halves.{word_lt}
 use Rattle.theory_multilinear.specs.Phi.{phi}
 use Rattle.theory_multilinear.proofs.Partials.{fold_partials-phi}
-use Rattle.field_pack.specs.Phi.{coefficients, phi_tab}
+use Rattle.field_pack.specs.Phi.{coefficients}
 use Rattle.ring_partials.proofs.Horner.{horner_more}
 use Rattle.ring_partials.proofs.sums.fold.Goals as goal
 

@@ -1,21 +1,13 @@
 -- `ring_partials::sums::fold` meets its contract: the sum so far is that of the words from `left` on, by Horner's rule.
-use mathlib.Core.Path.{◌≡◌, refl, sym, ap, ◌∙◌}
-use Prim.Native.Nat.{ℕ, suc, ◌+◌, ◌-◌, ◌^◌, ◌≤◌}
-use native.Mathlib.Nat.{zero-add}
-use native.Mathlib.Omega.{arith}
-use borrow.Author.Rules.{rules}
-use Rattle.theory_laws.specs.Xor.{◌⊕◌}
+use mathlib.Core.Path.{◌≡◌}
+use Prim.Native.Nat.{ℕ, ◌+◌, ◌-◌, ◌^◌, ◌≤◌}
 use Rattle.theory_laws.specs.Sum.{sum}
 use Rattle.theory_laws.specs.Table.{at}
-use Rattle.theory_laws.proofs.Sum.{sum-ext}
 use Rattle.theory_field.specs.Field.{◌⊗◌}
 use Rattle.theory_field.specs.Words.{words}
 use Rattle.field_gf128.specs.Word.{word}
-use Rattle.field_gf128.proofs.Halves.{word_lt}
 use Rattle.theory_multilinear.specs.Phi.{phi}
-use Rattle.theory_multilinear.proofs.Partials.{fold_partials-phi}
-use Rattle.field_pack.specs.Phi.{coefficients, phi_tab}
-use Rattle.ring_partials.proofs.Horner.{horner_more}
+use Rattle.field_pack.specs.Phi.{phi_tab}
 use Rattle.ring_partials.proofs.sums.fold.Given as goal
 
 abbrev pub invariant-loop-left : goal.invariant-loop-left

@@ -7,7 +7,6 @@ use Rattle.theory_field.specs.Words.{words}
 use Rattle.field_gf128.specs.Word.{word}
 use Rattle.ring_partials.specs.helpers.Buckets.{gathered}
 use Rattle.ring_partials.proofs.Buckets.{halves-more}
-use borrow.Author.Rules.{rules}
 use Rattle.ring_partials.proofs.sums.gather.Goals as goal
 
 pub returns : goal.returns

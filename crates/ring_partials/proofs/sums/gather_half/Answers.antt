@@ -1,9 +1,6 @@
 -- `ring_partials::sums::gather_half` meets its contract: the nibbles so far came in.
 use mathlib.Core.Path.{◌≡◌, refl, sym, ap, ◌∙◌}
-use Prim.Native.Nat.{ℕ, ◌-◌, ◌≤◌}
 use native.Mathlib.Omega.{arith}
-use borrow.Author.Rules.{rules}
-use lib.ListN.{length}
 use Rattle.theory_laws.specs.Xor.{◌⊕◌}
 use Rattle.theory_laws.specs.Sum.{sum}
 use Rattle.theory_laws.proofs.Xor.{⊕-zero}
@@ -11,7 +8,7 @@ use Rattle.theory_field.specs.Words.{words}
 use Rattle.theory_field.proofs.Words.{length-words}
 use Rattle.field_gf128.specs.Word.{word}
 use Rattle.ring_partials.specs.helpers.Buckets.{gathered}
-use Rattle.ring_partials.proofs.Buckets.{share, nibble_more, half_nibbles}
+use Rattle.ring_partials.proofs.Buckets.{nibble_more, half_nibbles}
 use Rattle.ring_partials.proofs.sums.gather_half.Goals as goal
 
 pub loop-i-init : goal.loop-i-init

@@ -1,17 +1,12 @@
 -- `ring_partials::sums::partials` meets its contract: the words so far came into the buckets, and the bits so far out of them.
-use mathlib.Core.Path.{◌≡◌, ap, ◌∙◌}
+use mathlib.Core.Path.{◌≡◌}
 use Prim.Native.Nat.{ℕ, ◌-◌, ◌≤◌}
-use native.Mathlib.Omega.{arith}
-use borrow.Author.Rules.{rules}
 use lib.ListN.{length}
-use Rattle.theory_laws.specs.Sum.{sum}
 use Rattle.theory_laws.specs.Table.{at}
-use Rattle.theory_laws.proofs.Table.{tab-ext}
 use Rattle.theory_field.specs.Words.{words}
 use Rattle.theory_multilinear.specs.Partials.{partial}
 use Rattle.ring_partials.specs.helpers.Buckets.{gathered}
-use Rattle.ring_partials.proofs.Buckets.{gathered_none, partial-more}
-use Rattle.theory_field.proofs.Words.{Filled, filled_more, filled_all}
+use Rattle.theory_field.proofs.Words.{Filled}
 use Rattle.ring_partials.proofs.sums.partials.Given as goal
 
 abbrev pub invariant-loop-v : goal.invariant-loop-v

@@ -1,7 +1,6 @@
 -- `Group::sibling` meets its contract.
 use mathlib.Core.Path.{sym}
 use Rattle.theory_merkle.proofs.Levels.{sibling-even, sibling-odd}
-use borrow.Author.Rules.{rules}
 use Rattle.tree_place.proofs.Group.sibling.Goals as goal
 
 pub returns-then-g-eq0 : goal.returns-then-g-eq0
