@@ -45,7 +45,7 @@ fn main() -> ExitCode {
         ),
         Err(reason) => {
             eprintln!("differential: refused to run: {reason}");
-            return ExitCode::from(2);
+            return ExitCode::from(5);
         }
     }
     if options.self_test {

@@ -18,5 +18,6 @@ pub mod Chain
 pub mod Committed
 pub mod Consequences
 pub mod Retired
+pub mod AsBefore
 pub mod LevelTree
 pub mod Exactly

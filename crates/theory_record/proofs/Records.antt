@@ -1,6 +1,6 @@
 -- The round trip, for any form of items: a record that was written reads whole and gives back its items, and a record that reads whole is
 -- what writing its items gives. Rests on nothing but the two directions for one item.
-use Prim.Native.Nat.{ℕ, zero, suc, ◌+◌, ◌≤◌}
+use Prim.Native.Nat.{ℕ, zero, suc, ◌≤◌}
 use mathlib.Core.Path.{◌≡◌, refl, sym, ◌∙◌, ap}
 use mathlib.Core.Bool.{true}
 use mathlib.Core.List.{List, [], ◌∷◌, ◌++◌}

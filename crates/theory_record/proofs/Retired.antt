@@ -1,29 +1,23 @@
 -- Question 20, which is retired (SPECIFICATION 8.6): are the places of a and b in one group? Here stand the check as it was while it put that question,
--- for readers of old reports, and the law that today's check gives the same answer to every record at every position, for all challenges and roots.
--- No code and no other definition uses the old check.
+-- for readers of old reports, and why the question always had its yes. That today's check gives the same answer is in AsBefore. No code and no other
+-- definition uses the old check.
 use Prim.Native.Nat.{ℕ, suc, ◌+◌, ◌-◌, ◌*◌, ◌%◌, ◌<◌, ◌≤◌}
-use mathlib.Core.Path.{◌≡◌, refl, ◌∙◌, ap}
-use mathlib.Core.Bool.{true, not}
+use mathlib.Core.Path.{◌≡◌, refl}
 use mathlib.Core.List.{List, [], ◌∷◌, ◌++◌, map}
 use native.Mathlib.Omega.{arith}
-use borrow.Author.Tests.{eq-eqb, eqb-false, not-true}
 use lib.Dec.{eqb}
-use lib.ListN.{length, take, drop}
+use lib.ListN.{take, drop}
 use lib.Pow.{pow_mono}
 use Rattle.theory_laws.specs.Table.{at}
 use Rattle.theory_laws.specs.Questions.{pick, Question, ◌asks◌, first_no}
-use Rattle.theory_laws.proofs.Questions.{left_out}
 use Rattle.theory_field.specs.Words.{words}
 use Rattle.theory_merkle.specs.Tree.{group_of}
 use Rattle.theory_record.specs.declared.WidthSet.{WidthSet}
-use Rattle.theory_record.specs.declared.Trees.{Trees}
 use Rattle.theory_record.specs.Widths.{Widths, widths_of, level_length, level_width}
 use Rattle.theory_record.specs.Format.{LevelRecord, level_form, record_items}
-use Rattle.theory_record.specs.Query.{Answer, accepted, refused, pair_of, root_at, pair_questions, level_questions, level_number, check_levels, query_number, check_query}
-use Rattle.theory_record.specs.Scheme.{Scheme, scheme}
+use Rattle.theory_record.specs.Query.{Answer, accepted, refused, pair_of, root_at, pair_questions, query_number}
+use Rattle.theory_record.specs.Scheme.{Scheme}
 use Rattle.theory_record.proofs.Widths.{PowersOfTwo, powers, level-shape, width-pos, width-even, pair_group}
-use Rattle.theory_record.proofs.Records.{length-record_items}
-use Rattle.theory_record.proofs.Consequences.{query_passes}
 
 -- ---- why: a and b, at places 2q and 2q + 1 of a level l that is queried, are in one group. Such a level is below n; below n + k is enough
 
@@ -36,7 +30,7 @@ pub record InOneGroup (s : Widths) (n k l q : ℕ) : Type 0 where
   pub even_place : 2 * q % 2 ≡ 0
   pub one_group : group_of (2 * q + 1) (level_width s n k l) ≡ group_of (2 * q) (level_width s n k l)
 
-in_one_group : (s : Widths) → PowersOfTwo s → (n k l q : ℕ) → l < n + k → InOneGroup s n k l q
+pub in_one_group : (s : Widths) → PowersOfTwo s → (n k l q : ℕ) → l < n + k → InOneGroup s n k l q
 unfolding level_length
 in_one_group s p n k l q h =
     let z = level-shape s n k l p in
@@ -95,38 +89,3 @@ module _ (S : Scheme) where
     old_check_query bytes =
         let number = query_number S position challenges roots bytes in
         pick (eqb number 0) (old_check_levels 0 (record_items level_form n bytes)) (refused number)
-
--- ---- it answered what the check answers now
-
-module _ (S : Scheme) (p : PowersOfTwo S.widths) (position : ℕ) (challenges roots : List ℕ) where
-  open S use {widths as s, n, k}
-
-  level_as_before : (l : ℕ) (x : LevelRecord) → l < n + k → level_number S position challenges roots l x ≡ old_level_number S position challenges roots l x
-  unfolding level_number old_level_number
-  level_as_before l x h =
-      let today : List Question = level_questions S position challenges roots l x in
-      let yes = eq-eqb _ _ (in_one_group s p n k l (pair_of position l) h).one_group in
-      left_out (take 4 today) (drop 4 today) (question20 S l (pair_of position l)) yes
-
-  levels_as_before : (l : ℕ) (xs : List LevelRecord) → l + length xs ≤ n
-      → check_levels S position challenges roots l xs ≡ old_check_levels S position challenges roots l xs
-  unfolding check_levels old_check_levels
-  levels_as_before l [] h = refl
-  levels_as_before l (x ∷ xs) h = rw (level_as_before l x (omega arith), levels_as_before (suc l) xs (omega arith))
-
-  check_as_before : (bytes : List ℕ) → check_query S position challenges roots bytes ≡ old_check_query S position challenges roots bytes
-  unfolding check_query old_check_query
-  check_as_before bytes = rw (levels_as_before 0 (record_items level_form n bytes) (omega (arith, length-record_items level_form n bytes)))
-
--- for either set of widths and every mode, every record, position, challenges and roots
-module _ (how : Trees) (base : List ℕ) (n k position : ℕ) (challenges roots bytes : List ℕ) where
-  pub as_before : check_query (scheme how base n k) position challenges roots bytes ≡ old_check_query (scheme how base n k) position challenges roots bytes
-  as_before = check_as_before (scheme how base n k) (powers how.set) position challenges roots bytes
-
-  -- the old check never gave 20
-  pub old-never_20 : (old_check_query (scheme how base n k) position challenges roots bytes).number ≡ 20 → ⊥
-  old-never_20 e =
-      let answer : Answer = check_query (scheme how base n k) position challenges roots bytes in
-      let other : not (eqb answer.number 20) ≡ true =
-      query_passes (scheme how base n k) position challenges roots (λ x. not (eqb x 20)) refl (λ l x. refl) bytes refl in
-      eqb-false answer.number 20 (not-true _ other) (ap (λ (r : Answer). r.number) as_before ∙ e)
