@@ -1,8 +1,7 @@
--- `field_gf128::table::spread32` meets its contract: bytes are put above bytes.
-use borrow.Author.Rules.{rules}
+-- `field_gf128::table::TableSpread::spread32` meets its contract: bytes are put above bytes.
 use Rattle.theory_laws.specs.Xor.{◌⊕◌}
-use Rattle.field_gf128.proofs.Spread.{four_bytes}
-use Rattle.field_gf128.proofs.table.spread32.Goals as goal
+use Rattle.field_gf128.proofs.Spreading.{four_bytes}
+use Rattle.field_gf128.proofs.table.TableSpread.spread32.Goals as goal
 
 pub returns : goal.returns
 unfolding ◌⊕◌
