@@ -1,6 +1,6 @@
--- `compare_records::records_number` meets its contract.
+-- `compare_records::records_questions` meets its contract.
 use Rattle.compare_records.proofs.Records.{first-refused, second-refused, are_equal, are_not}
-use Rattle.compare_records.proofs.records_number.Goals as goal
+use Rattle.compare_records.proofs.records_questions.Goals as goal
 
 pub returns-then-not-accepted : goal.returns-then-not-accepted
 returns-then-not-accepted c = search first-refused
