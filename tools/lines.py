@@ -83,8 +83,7 @@ def tables():
     found = {}
     for program in ("test_field", "test_record"):
         source = (CRATES / program / "src" / "main.rt").read_text()
-        table = re.search(r'let table = b"\\\n(.*?)"', source, re.S).group(1)
-        found[program] = dict(line.split(" ") for line in table.splitlines())
+        found[program] = dict(re.findall(r'name: "(\w+)",\s+letters: "(\w+)"', source))
     return found
 
 

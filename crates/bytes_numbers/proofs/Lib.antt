@@ -1,3 +1,3 @@
 pub mod Stores
 pub mod Numbers
-pub mod Bytes
+pub mod Same

@@ -1,11 +1,13 @@
 -- Stores one after the other, in the form in which the functions ask for them.
-use Prim.Native.Nat.{ℕ, ◌+◌, ◌≤◌}
+use Prim.Native.Nat.{ℕ, ◌+◌, ◌-◌, ◌<◌, ◌≤◌}
 use mathlib.Core.Path.{◌≡◌, refl, sym, ◌∙◌, ap}
-use mathlib.Core.List.{List, ◌++◌}
+use mathlib.Core.List.{List, ◌++◌, append_assoc}
 use native.Mathlib.Omega.{arith}
-use lib.ListN.{length, drop, length-append}
+use borrow.Rule.Slice.PartMut.{put_mid}
+use lib.ListN.{length, take, drop, replicate, length-append, length-take, length-drop, length-replicate}
+use lib.Seq.{drop-drop, sets-eq}
 use Rattle.theory_laws.specs.Lists.{stored}
-use Rattle.theory_laws.proofs.Lists.{stored-append, put_end}
+use Rattle.theory_laws.proofs.Lists.{stored-append}
 use Rattle.bytes_numbers.specs.helpers.Put.{Put}
 
 -- a put ends as far from its place as its bytes are many
@@ -32,7 +34,22 @@ same_put o from n m a b o1 k e f p = record {
   end = p.end ∙ ap (λ i. from + i) e;
 }
 
--- all of src is copied
-pub put_all : (o : List ℕ) (from : ℕ) (src out : List ℕ) (i : ℕ) → length src ≤ i → stored out (from + i) (drop i src) ≡ stored o from src
-    → Put o from (length src) src out (from + length src)
-put_all o from src out i h e = record { bytes = put_end out from src i (stored o from src) h e; size = refl; end = refl }
+-- a part overwritten is a store
+pub put_mid-stored : (o : List ℕ) (from k : ℕ) (ys : List ℕ) → from + k ≤ length o → length ys ≡ k → put_mid from k o ys ≡ stored o from ys
+unfolding stored
+put_mid-stored o from k ys h e =
+    ap (λ (r : List ℕ). take from o ++ (ys ++ r)) (drop-drop k from o ∙ ap (λ (n : ℕ). drop (from + n) o) (sym e))
+    ∙ sym (append_assoc (take from o) ys (drop (from + length ys) o)) ∙ sym (sets-eq ys o from (omega arith))
+
+pub put_part : (o : List ℕ) (from n : ℕ) (src ys : List ℕ) → from + n ≤ length o → length src ≡ n → ys ≡ src
+    → Put o from n src (put_mid from (from + n - from) o ys) (from + n)
+put_part o from n src ys h e f =
+    let z : from + n - from ≡ n = omega arith in
+    record { bytes = rw (z, f) (put_mid-stored o from n src h e); size = e; end = refl }
+
+-- zeros to the end
+pub fill_end : (o : List ℕ) (from : ℕ) (ys : List ℕ) → from < length o → ys ≡ replicate (length (take (length o - from) (drop from o))) 0
+    → put_mid from (length o - from) o ys ≡ stored o from (replicate (length o - from) 0)
+fill_end o from ys h e =
+    let z : length (take (length o - from) (drop from o)) ≡ length o - from = simp (length-take, length-drop) (omega arith) in
+    rw (e, z) (put_mid-stored o from (length o - from) (replicate (length o - from) 0) (omega arith) (length-replicate {A = ℕ} (length o - from) 0))

@@ -1,17 +1,22 @@
 -- What a window holds: the bytes of a place, the numbers in them, and a digest.
-use Prim.Native.Nat.{ℕ, zero, suc, ◌+◌, ◌-◌, ◌*◌, ◌<◌, ◌≤◌}
+use Prim.Native.Nat.{ℕ, zero, suc, min, ◌+◌, ◌-◌, ◌*◌, ◌<◌, ◌≤◌}
 use mathlib.Core.Path.{◌≡◌, refl, sym, ◌∙◌, ap, ap₂}
-use mathlib.Core.Logic.{⊎_elim}
-use mathlib.Core.List.{List, [], ◌∷◌}
+use mathlib.Core.Logic.{◌⊎◌, inl, inr, ⊎_elim}
+use mathlib.Core.List.{List, [], ◌∷◌, ◌++◌}
 use native.Mathlib.Omega.{arith}
-use lib.ListN.{length, get_or, take, drop, set, replicate, length-replicate, length-set, get_or-eq_default}
-use lib.Seq.{get_or-drop, take-nil, get_or-set_other}
+use lib.ListN.{length, take, drop, replicate, length-append, length-drop, get_or-append, get_or-eq_default, drop_of_length-le}
+use lib.Seq.{get_or-drop, get_or-take, length-take-le, take-nil}
+use Rattle.std.proofs.lemmas.List.{get_or-append_right}
+use Rattle.std.proofs.lemmas.Slice.{between_to_end}
+use Rattle.std.proofs.Common.{Bor}
+use Rattle.std.specs.Prelude.{Option, Some, None}
+use Rattle.std.specs.Option.{unwrap_or}
+use Rattle.std.specs.Slice.{IsGetRangeResult}
 use Rattle.theory_laws.specs.Table.{tab, at}
 use Rattle.theory_laws.specs.Lists.{part, le_value}
-use Rattle.theory_laws.proofs.Table.{tab-ext, at-tab, is-tab}
+use Rattle.theory_laws.proofs.Table.{tab-ext, at-tab, is-tab, zeros-at}
 use Rattle.theory_laws.proofs.Lists.{length_part, get_d_part}
 use Rattle.theory_laws.proofs.Numbers.{lt_or_le}
-use Rattle.theory_laws.proofs.Updates.{fill_step}
 use Rattle.bytes_reader.specs.Windows.{byte_at, window, window_at}
 use Rattle.bytes_reader.specs.declared.Window.{Window}
 
@@ -44,42 +49,39 @@ pub digest-read : (s : List ℕ) (i : ℕ) (w : Window) → i + 32 ≤ length s 
 unfolding window_at
 digest-read s i w h e = ap (λ (x : Window). x.bytes) e ∙ sym (part-window s i h)
 
-pub past_end : (s : List ℕ) (i j left : ℕ) → left ≡ length s - i → left ≤ j → 0 ≡ byte_at s i j
-unfolding byte_at
-past_end s i j left e h = sym (get_or-eq_default s 0 {n = i + j} (omega arith))
+-- what is left from a place on, as the library finds it
+pub rest_is : (s : List ℕ) (i : ℕ) (r : Option (Bor (List ℕ))) (w e : Bor (List ℕ)) → IsGetRangeResult s i (length s) r → w ≡ unwrap_or r e
+    → e.now ≡ [] → w.now ≡ drop i s
+rest_is s i None w e m f z =
+    ap (λ (x : Bor (List ℕ)). x.now) f ∙ z
+    ∙ sym (drop_of_length-le s {i = i} (⊎_elim (λ (a : length s < i). omega arith) (λ (a : length s < length s). omega arith) m.0))
+rest_is s i (Some x) w e m f z = ap (λ (y : Bor (List ℕ)). y.now) f ∙ m.0.2 ∙ between_to_end s i (length s) (omega arith)
 
--- bytes filled from the front, zeros after them
-pub record Filled (s : List ℕ) (i : ℕ) (b : List ℕ) (j : ℕ) : Type 0 where
-  pub long : length b ≡ 32
-  pub front : (k : ℕ) → k < j → get_or b k 0 ≡ byte_at s i k
-  pub zeros : (k : ℕ) → j ≤ k → get_or b k 0 ≡ 0
+-- what is left at the front, as much as there is room for, and zeros after it
+pub window_filled : (s rest d : List ℕ) (i n : ℕ) → rest ≡ drop i s → n ≡ min (length rest) 32 → d ≡ take n rest
+    → ◌≡◌ {A = Window} (record { bytes = d ++ drop n (replicate {A = ℕ} 32 0); left = length rest }) (window_at s i)
+unfolding window_at window byte_at
+window_filled s rest d i n e f g =
+    ap₂ (λ (b : List ℕ) (l : ℕ). record { bytes = b; left = l })
+    (is-tab (d ++ zeros) 32 (byte_at s i) long (λ k h. pick k h (lt_or_le k n)))
+    left
+  where
+    zeros : List ℕ
+    zeros = drop n (replicate {A = ℕ} 32 0)
 
-zero-at : (n k : ℕ) → ◌≡◌ {A = ℕ} (get_or {A = ℕ} (replicate n 0) k 0) 0
-zero-at zero k = refl
-zero-at (suc n) zero = refl
-zero-at (suc n) (suc k) = zero-at n k
+    left : length rest ≡ length s - i
+    left = ap length e ∙ length-drop i s
 
-pub filled_begin : (s : List ℕ) (i : ℕ) → Filled s i (replicate 32 0) 0
-filled_begin s i = record { long = length-replicate {A = ℕ} 32 0; front = λ k h. absurd (omega arith); zeros = λ k h. zero-at 32 k }
+    size : length d ≡ n
+    size = ap length g ∙ length-take-le n rest (omega arith)
 
-pub byte_step : (s b : List ℕ) (i j v : ℕ) → v ≡ get_or s (i + j) 0 → j < 32 → Filled s i b j → Filled s i (set b j v) (j + 1)
-unfolding byte_at
-byte_step s b i j v e h f = record {
-  long = length-set b j v ∙ f.long;
-  front = fill_step (byte_at s i) j b v (omega (arith, f.long)) e f.front;
-  zeros = λ k g. get_or-set_other b j k v 0 (omega arith) ∙ f.zeros k (omega arith);
-}
+    long : length (d ++ zeros) ≡ 32
+    long = length-append d zeros ∙ omega (arith, size, length-drop n (replicate {A = ℕ} 32 0))
 
-pub window-whole : (s d : List ℕ) (i left : ℕ) → left ≡ length s - i → 32 ≤ left → d ≡ part 32 i s
-    → ◌≡◌ {A = Window} (record { bytes = d; left = left }) (window_at s i)
-unfolding window_at
-window-whole s d i left e h f = ap₂ (λ (b : List ℕ) (l : ℕ). record { bytes = b; left = l }) (f ∙ part-window s i (omega arith)) e
-
-pub window_filled : (s b : List ℕ) (i left j : ℕ) → left ≡ length s - i → left ≤ j → Filled s i b j
-    → ◌≡◌ {A = Window} (record { bytes = b; left = left }) (window_at s i)
-unfolding window_at window
-window_filled s b i left j e h f =
-    ap₂ (λ (x : List ℕ) (l : ℕ). record { bytes = x; left = l })
-    (is-tab b 32 (byte_at s i) f.long (λ k g.
-    ⊎_elim (λ (a : k < j). f.front k a) (λ (a : j ≤ k). f.zeros k a ∙ past_end s i k left e (omega arith)) (lt_or_le k j)))
-    e
+    pick : (k : ℕ) → k < 32 → (k < n) ⊎ (n ≤ k) → at (d ++ zeros) k ≡ byte_at s i k
+    pick k h (inl l) =
+        get_or-append d zeros 0 k (omega (arith, size)) ∙ ap (λ (x : List ℕ). at x k) g ∙ get_or-take n rest k 0 l ∙ ap (λ (x : List ℕ). at x k) e
+        ∙ get_or-drop i s k 0
+    pick k h (inr l) =
+        get_or-append_right d zeros n k 0 size l ∙ get_or-drop n (replicate {A = ℕ} 32 0) (k - n) 0 ∙ zeros-at 32 (n + (k - n))
+        ∙ sym (get_or-eq_default s 0 {n = i + k} (omega (arith, left)))

@@ -6,53 +6,31 @@ ghost use Rattle.std.specs.Prelude.{◌≡◌, ◌+◌, ◌-◌, ◌≤◌, leng
 ghost use Rattle.theory_laws.specs.Lists.{part};
 ghost use Rattle.bytes_reader.specs.Windows.{window_at};
 
-use bytes_numbers::load;
-
 // A reader over lent bytes, and how far it has read.
-#[derive(Clone, Copy)]
+#[derive(Clone, Copy, Debug, PartialEq, Eq)]
 pub struct RecordReader<'a> {
     pub src: &'a [u8],
     pub at: usize,
 }
 
 // The 32 bytes from a place on, zeros past the end, and how many are left from there.
-#[derive(Clone, Copy)]
+#[derive(Clone, Copy, Debug, PartialEq, Eq)]
 pub struct Window {
     pub bytes: [u8; 32],
     pub left: usize,
-}
-
-// How many bytes are left from a place on.
-fn left_from(len: usize, at: usize) -> usize
-    ensures { result ≡ len - at }
-{
-    if len < at {
-        return 0;
-    }
-    len - at
 }
 
 // What is read at a place.
 pub fn window_at(s: &[u8], at: usize) -> Window
     ensures { result ≡ window_at s.now at }
 {
-    let left = left_from(s.len(), at);
-    if left >= 32 {
-        let whole = load(s, at);
-        return Window {
-            bytes: whole,
-            left: left,
-        };
-    }
+    let rest = s.get(at..).unwrap_or(&[]);
+    let n = rest.len().min(32);
     let mut bytes = [0u8; 32];
-    let mut j: usize = 0;
-    while j < left {
-        bytes[j] = s[at + j];
-        j += 1;
-    }
+    bytes[..n].copy_from_slice(&rest[..n]);
     Window {
-        bytes: bytes,
-        left: left,
+        bytes,
+        left: rest.len(),
     }
 }
 
@@ -63,18 +41,20 @@ pub fn reader_at<'a>(src: &'a [u8], at: usize) -> RecordReader<'a>
     RecordReader { src, at }
 }
 
-// What a reader reads.
-pub fn peek<'a>(r: RecordReader<'a>) -> Window
-    ensures { result ≡ window_at r.entry.src.now r.entry.at }
-{
-    window_at(r.src, r.at)
+impl<'a> RecordReader<'a> {
+    // What the reader reads.
+    pub fn peek(self) -> Window
+        ensures { result ≡ window_at self.entry.src.now self.entry.at }
+    {
+        window_at(self.src, self.at)
+    }
 }
 
 // What is read at a place of plain bytes, through a reader. Every other function reads by this one.
 pub fn read(s: &[u8], at: usize) -> Window
     ensures { result ≡ window_at s.now at }
 {
-    peek(reader_at(s, at))
+    reader_at(s, at).peek()
 }
 
 // The digest at a place.

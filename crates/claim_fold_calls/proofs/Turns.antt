@@ -3,6 +3,8 @@ use Prim.Native.Nat.{ℕ, zero, suc, ◌+◌, ◌-◌, ◌*◌, ◌/◌, ◌<◌
 use mathlib.Core.Path.{◌≡◌, refl, sym, ◌∙◌, ap, ap₂, subst}
 use mathlib.Core.Logic.{◌⊎◌, inl, inr, ⊎_elim}
 use mathlib.Core.Bool.{Bool, true, false}
+use Rattle.std.specs.Prelude.{Result, Ok, Err}
+use Rattle.std.specs.Result.{is_err}
 use mathlib.Core.List.{List, [], ◌∷◌, ◌++◌, append_assoc, append-nil}
 use native.Mathlib.Nat.{eq-or-lt_of_le}
 use native.Mathlib.Numerals.{add-one}
@@ -13,7 +15,10 @@ use lib.ListN.{length, take, drop, set, length-map, length-append, length-drop, 
 use lib.Seq.{length-take-le, take_at, drop_at, take_all, drop-set-lt, take-suc-set}
 use Rattle.theory_laws.specs.Questions.{on_done}
 use Rattle.theory_laws.specs.Table.{tab}
+use Rattle.theory_laws.specs.Refusals.{answered}
+use Rattle.theory_laws.specs.declared.Refusal.{Refusal}
 use Rattle.theory_laws.proofs.Questions.{on_refused}
+use Rattle.theory_laws.proofs.Refusals.{never}
 use Rattle.theory_field.specs.Words.{words}
 use Rattle.theory_field.proofs.Words.{length-words-even}
 use Rattle.theory_multilinear.specs.Fold.{fold_list}
@@ -279,6 +284,15 @@ module _ {n k l from levels half : ℕ} (z : LevelLent n k l from levels half) (
   -- so one with more room than there is is refused
   pub too_long : (ws : List ℕ) → length ws ≡ levels → half < x.room → number_on n k l ws cs x ≡ 0 → ⊥
   too_long ws e h f = absurd (omega (arith, h, room-is ws e f, level-le n k l, z.room.half_long))
+
+-- a call that is answered with an error has a number
+pub err-refused : (r : Result ℕ Refusal) → is_err r ≡ true → answered r ≡ 0 → ⊥
+err-refused (Ok m) e z = cc
+err-refused (Err x) e z = never x z
+
+pub ok-done : (r : Result ℕ Refusal) → is_err r ≡ false → answered r ≡ 0
+ok-done (Ok m) e = refl
+ok-done (Err x) e = cc
 
 pub called_refused : {n k l from : ℕ} {x : Call} {levels coordinates kept coordinates' : List ℕ} → (number_on n k l levels coordinates x ≡ 0 → ⊥)
     → coordinates' ≡ coordinates → Called n k l from x levels coordinates kept levels coordinates' kept l from

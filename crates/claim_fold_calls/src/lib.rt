@@ -14,7 +14,7 @@ use field_gf128::Word;
 use field_words::clear;
 
 // A fold call as it is lent: its n, k, original n and variable, the length of the room for its answer, in halves, and its challenge.
-#[derive(Clone, Copy)]
+#[derive(Clone, Copy, Debug, PartialEq, Eq)]
 pub struct FoldCall {
     pub n: usize,
     pub k: usize,
@@ -42,7 +42,7 @@ fn call_at(calls: &[usize], challenges: &[u64], i: usize) -> FoldCall
 }
 
 // Where a list of calls stands: how many are done, and where the codeword starts in the levels, in halves.
-#[derive(Clone, Copy)]
+#[derive(Clone, Copy, Debug, PartialEq, Eq)]
 pub struct Progress {
     pub done: usize,
     pub from: usize,
@@ -71,7 +71,7 @@ fn call(
         return at;
     }
     let left = n - done;
-    let number = fold_level(
+    let folded = fold_level(
         n,
         k,
         done,
@@ -86,7 +86,7 @@ fn call(
         levels,
         half,
     );
-    if number != 0 {
+    if folded.is_err() {
         return at;
     }
     let to = from + 2 * level_length(n, k, done);
@@ -114,13 +114,13 @@ pub fn fold_calls(
     ensures calls_left { CallsLeft n k (lent_calls calls.now (words challenges.now)) levels coordinates kept result }
     ensures half_after { half.new ≡ tab (length half.old) (λ v. 0) }
 {
-    let count = calls.len() / 5;
     let mut at = Progress { done: 0, from: 0 };
-    let mut i: usize = 0;
-    while i < count && at.done < n {
+    for i in 0..calls.len() / 5 {
+        if at.done == n {
+            break;
+        }
         let x = call_at(calls, challenges, i);
         at = call(n, k, at, x, levels, coordinates, half, kept);
-        i += 1;
     }
     clear(half);
     at.done

@@ -1,10 +1,13 @@
 -- The questions of a run: the number that they give, and what they settle where none says no.
 use Prim.Native.Nat.{ℕ, suc, ◌+◌, ◌*◌, ◌^◌, ◌<◌, ◌≤◌}
-use mathlib.Core.Path.{◌≡◌, sym, ◌∙◌, ap}
+use mathlib.Core.Path.{◌≡◌, refl, sym, ◌∙◌, ap}
 use mathlib.Core.List.{List, ◌++◌}
 use borrow.Author.Tests.{eqb-true, leb-true, ltb-true, le-ltb, lt-ltb, le-leb}
 use lib.Dec.{eqb}
 use Rattle.theory_laws.specs.Questions.{pick, Question, first_no}
+use Rattle.theory_laws.specs.Refusals.{number_of}
+use Rattle.theory_laws.specs.declared.Refusal.{Refusal}
+use Rattle.theory_laws.proofs.Refusals.{never}
 use Rattle.theory_laws.proofs.Questions.{yes_eq, no_eq, yes_eq-given, all_yes, first_stops, first_passes}
 use Rattle.theory_record.specs.Widths.{Widths, level_length}
 use Rattle.theory_record.specs.Build.{levels_length, tree_start}
@@ -62,35 +65,37 @@ module _ (s : Widths) (n k position base table calls challenges gammas levels co
   second = input_questions n table calls challenges ++ third
 
   -- the first part that says no
-  module _ (a : ℕ) (ea : a ≡ size_number n k) where
-    pub no_size : (a ≡ 0 → ⊥) → a ≡ N
+  pub no_size : (x : Refusal) → number_of x ≡ size_number n k → number_of x ≡ N
+  unfolding run_number size_number
+  no_size x e = first_stops (size_questions n k) second (number_of x) tt e (never x)
+
+  module _ (ea : 0 ≡ size_number n k) where
+    past-size : (r : ℕ) → r ≡ first_no second → r ≡ N
     unfolding run_number size_number
-    no_size z = first_stops (size_questions n k) second a tt ea z
+    past-size r f = first_passes (size_questions n k) second 0 tt ea r refl f
 
-    module _ (za : a ≡ 0) (b : ℕ) (eb : b ≡ first_no (input_questions n table calls challenges)) where
-      past-size : (r : ℕ) → r ≡ first_no second → r ≡ N
-      unfolding run_number size_number
-      past-size r f = first_passes (size_questions n k) second a tt ea r za f
+    pub no_input : (x : Refusal) → number_of x ≡ first_no (input_questions n table calls challenges) → number_of x ≡ N
+    no_input x e = past-size (number_of x) (first_stops (input_questions n table calls challenges) third (number_of x) tt e (never x))
 
-      pub no_input : (b ≡ 0 → ⊥) → b ≡ N
-      no_input z = past-size b (first_stops (input_questions n table calls challenges) third b tt eb z)
+    module _ (eb : 0 ≡ first_no (input_questions n table calls challenges)) where
+      past_input : (r : ℕ) → r ≡ first_no third → r ≡ N
+      past_input r f = past-size r (first_passes (input_questions n table calls challenges) third 0 tt eb r refl f)
 
-      module _ (zb : b ≡ 0) (c : ℕ) (ec : c ≡ first_no (deposit_questions s n k gammas levels coordinates half kept trees roots)) where
-        past_input : (r : ℕ) → r ≡ first_no third → r ≡ N
-        past_input r f = past-size r (first_passes (input_questions n table calls challenges) third b tt eb r zb f)
+      pub no_deposit : (x : Refusal) → number_of x ≡ first_no (deposit_questions s n k gammas levels coordinates half kept trees roots) → number_of x ≡ N
+      no_deposit x e =
+          past_input (number_of x)
+          (first_stops (deposit_questions s n k gammas levels coordinates half kept trees roots) fourth (number_of x) tt e (never x))
 
-        pub no_deposit : (c ≡ 0 → ⊥) → c ≡ N
-        no_deposit z = past_input c (first_stops (deposit_questions s n k gammas levels coordinates half kept trees roots) fourth c tt ec z)
+      module _ (ec : 0 ≡ first_no (deposit_questions s n k gammas levels coordinates half kept trees roots)) where
+        past_deposit : (r : ℕ) → r ≡ first_no fourth → r ≡ N
+        past_deposit r f = past_input r (first_passes (deposit_questions s n k gammas levels coordinates half kept trees roots) fourth 0 tt ec r refl f)
 
-        module _ (zc : c ≡ 0) (d : ℕ) (ed : d ≡ first_no (record_questions s n k query tail one two)) where
-          past_deposit : (r : ℕ) → r ≡ first_no fourth → r ≡ N
-          past_deposit r f = past_input r (first_passes (deposit_questions s n k gammas levels coordinates half kept trees roots) fourth c tt ec r zc f)
+        pub no_record : (x : Refusal) → number_of x ≡ first_no (record_questions s n k query tail one two) → number_of x ≡ N
+        no_record x e =
+            past_deposit (number_of x) (first_stops (record_questions s n k query tail one two) (last_questions n k base position) (number_of x) tt e (never x))
 
-          pub no_record : (d ≡ 0 → ⊥) → d ≡ N
-          no_record z = past_deposit d (first_stops (record_questions s n k query tail one two) (last_questions n k base position) d tt ed z)
-
-          pub the_last : d ≡ 0 → (r : ℕ) → r ≡ first_no (last_questions n k base position) → r ≡ N
-          the_last zd r f = past_deposit r (first_passes (record_questions s n k query tail one two) (last_questions n k base position) d tt ed r zd f)
+        pub the_last : 0 ≡ first_no (record_questions s n k query tail one two) → (r : ℕ) → r ≡ first_no (last_questions n k base position) → r ≡ N
+        the_last ed r f = past_deposit r (first_passes (record_questions s n k query tail one two) (last_questions n k base position) 0 tt ed r refl f)
 
   -- where none says no
   module _ {q : ℕ} (e : q ≡ N) (z : q ≡ 0) where

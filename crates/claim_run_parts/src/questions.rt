@@ -1,167 +1,137 @@
-// The questions that a whole run puts. These are helpers for its entry: those that put 5 require that 4 was answered.
+// The questions that a whole run puts. Those that put 5 require that 4 was answered.
 ghost use Rattle.std.specs.Prelude.{◌≡◌, ◌≤◌};
 ghost use Rattle.theory_laws.specs.Questions.{first_no};
+ghost use Rattle.theory_laws.specs.Refusals.{answered};
 ghost use Rattle.theory_record.specs.Widths.{widths_of};
 ghost use Rattle.theory_record.specs.Accepted.{SizesFit};
 ghost use Rattle.claim_run_parts.specs.Questions.{input_questions, deposit_questions, record_questions, last_questions, run_number};
 
 use code_codeword::sizes::holds;
-use code_level::{level_length, levels_length, size_number, trees_size};
+use code_level::{level_length, levels_length, size_questions, trees_size};
 use compare_records::MESSAGE_BUFFER;
 use record_query_build::query_size;
 use record_tail_build::tail_size;
+use theory_laws::Refusal;
 use theory_record::WidthSet;
 
-// 5, of the table, the calls and their challenges.
-fn input_number(n: usize, table: usize, calls: usize, challenges: usize) -> u32
-    requires { n ≤ 20 }
-    ensures { result ≡ first_no (input_questions n table calls challenges) }
-{
-    if !holds(table, n) {
-        return 5;
-    }
-    if calls != 5 * (calls / 5) {
-        return 5;
-    }
-    if challenges != 2 * (calls / 5) {
-        return 5;
-    }
-    0
+// How long each thing is that a run is lent: the base domain, what is read, and the room for what is left. Words count as two halves each.
+#[derive(Clone, Copy, Debug, PartialEq, Eq)]
+pub struct Lengths {
+    pub base: usize,
+    pub table: usize,
+    pub calls: usize,
+    pub challenges: usize,
+    pub gammas: usize,
+    pub levels: usize,
+    pub coordinates: usize,
+    pub half: usize,
+    pub kept: usize,
+    pub trees: usize,
+    pub roots: usize,
+    pub query: usize,
+    pub tail: usize,
+    pub one: usize,
+    pub two: usize,
 }
 
-// 5, of the room for the gammas, the levels, the list of coordinates, a fold, the challenges, the trees and the roots.
-fn deposit_number(
-    set: WidthSet,
-    n: usize,
-    k: usize,
-    gammas: usize,
-    levels: usize,
-    coordinates: usize,
-    half: usize,
-    kept: usize,
-    trees: usize,
-    roots: usize,
-) -> u32
-    requires { SizesFit n k }
-    ensures { result ≡ first_no (deposit_questions (widths_of set) n k gammas levels coordinates half kept trees roots) }
-{
-    if gammas != 2 * (k * n) {
-        return 5;
+impl Lengths {
+    // 5, of the table, the calls and their challenges.
+    fn input_questions(self, n: usize) -> Result<(), Refusal>
+        requires { n ≤ 20 }
+        ensures { answered result ≡ first_no (input_questions n self.table self.calls self.challenges) }
+    {
+        if !holds(self.table, n) {
+            return Err(Refusal::Length);
+        }
+        if self.calls != 5 * (self.calls / 5) {
+            return Err(Refusal::Length);
+        }
+        if self.challenges != 2 * (self.calls / 5) {
+            return Err(Refusal::Length);
+        }
+        Ok(())
     }
-    if levels != 2 * levels_length(n, k) {
-        return 5;
-    }
-    if coordinates != n {
-        return 5;
-    }
-    if half != level_length(n, k, 0) {
-        return 5;
-    }
-    if kept != 2 * n {
-        return 5;
-    }
-    if trees != trees_size(set, n, k) {
-        return 5;
-    }
-    if roots != 32 * (n + 1) {
-        return 5;
-    }
-    0
-}
 
-// 5, of the room for the records and the messages.
-fn record_number(
-    set: WidthSet,
-    n: usize,
-    k: usize,
-    query: usize,
-    tail: usize,
-    one: usize,
-    two: usize,
-) -> u32
-    requires { SizesFit n k }
-    ensures { result ≡ first_no (record_questions (widths_of set) n k query tail one two) }
-{
-    if query != query_size(set, n, k) {
-        return 5;
+    // 5, of the room for the gammas, the levels, the list of coordinates, a fold, the challenges, the trees and the roots.
+    fn deposit_questions(self, set: WidthSet, n: usize, k: usize) -> Result<(), Refusal>
+        requires { SizesFit n k }
+        ensures { answered result
+            ≡ first_no (deposit_questions (widths_of set) n k self.gammas self.levels self.coordinates self.half self.kept self.trees self.roots) }
+    {
+        if self.gammas != 2 * (k * n) {
+            return Err(Refusal::Length);
+        }
+        if self.levels != 2 * levels_length(n, k) {
+            return Err(Refusal::Length);
+        }
+        if self.coordinates != n {
+            return Err(Refusal::Length);
+        }
+        if self.half != level_length(n, k, 0) {
+            return Err(Refusal::Length);
+        }
+        if self.kept != 2 * n {
+            return Err(Refusal::Length);
+        }
+        if self.trees != trees_size(set, n, k) {
+            return Err(Refusal::Length);
+        }
+        if self.roots != 32 * (n + 1) {
+            return Err(Refusal::Length);
+        }
+        Ok(())
     }
-    if tail != tail_size(set, n, k) {
-        return 5;
-    }
-    if one != MESSAGE_BUFFER {
-        return 5;
-    }
-    if two != MESSAGE_BUFFER {
-        return 5;
-    }
-    0
-}
 
-// 7 and 11.
-fn last_number(n: usize, k: usize, base: usize, position: usize) -> u32
-    requires { SizesFit n k }
-    ensures { result ≡ first_no (last_questions n k base position) }
-{
-    if base > 200 {
-        return 7;
+    // 5, of the room for the records and the messages.
+    fn record_questions(self, set: WidthSet, n: usize, k: usize) -> Result<(), Refusal>
+        requires { SizesFit n k }
+        ensures { answered result ≡ first_no (record_questions (widths_of set) n k self.query self.tail self.one self.two) }
+    {
+        if self.query != query_size(set, n, k) {
+            return Err(Refusal::Length);
+        }
+        if self.tail != tail_size(set, n, k) {
+            return Err(Refusal::Length);
+        }
+        if self.one != MESSAGE_BUFFER {
+            return Err(Refusal::Length);
+        }
+        if self.two != MESSAGE_BUFFER {
+            return Err(Refusal::Length);
+        }
+        Ok(())
     }
-    if position >= level_length(n, k, 0) {
-        return 11;
-    }
-    0
-}
 
-// The number that a run answers.
-pub fn run_number(
-    set: WidthSet,
-    n: usize,
-    k: usize,
-    position: usize,
-    base: usize,
-    table: usize,
-    calls: usize,
-    challenges: usize,
-    gammas: usize,
-    levels: usize,
-    coordinates: usize,
-    half: usize,
-    kept: usize,
-    trees: usize,
-    roots: usize,
-    query: usize,
-    tail: usize,
-    one: usize,
-    two: usize,
-) -> u32
-    ensures { result ≡ run_number (widths_of set) n k position base table calls challenges gammas levels coordinates half kept trees roots
-        query tail one two }
-{
-    let a = size_number(n, k);
-    if a != 0 {
-        return a;
+    // 7 and 11.
+    fn last_questions(self, n: usize, k: usize, position: usize) -> Result<(), Refusal>
+        requires { SizesFit n k }
+        ensures { answered result ≡ first_no (last_questions n k self.base position) }
+    {
+        if self.base > 200 {
+            return Err(Refusal::Domain);
+        }
+        if position >= level_length(n, k, 0) {
+            return Err(Refusal::Place);
+        }
+        Ok(())
     }
-    let b = input_number(n, table, calls, challenges);
-    if b != 0 {
-        return b;
+
+    // All questions of a run.
+    pub fn questions(
+        self,
+        set: WidthSet,
+        n: usize,
+        k: usize,
+        position: usize,
+    ) -> Result<(), Refusal>
+        ensures { answered result
+            ≡ run_number (widths_of set) n k position self.base self.table self.calls self.challenges self.gammas self.levels self.coordinates
+            self.half self.kept self.trees self.roots self.query self.tail self.one self.two }
+    {
+        size_questions(n, k)?;
+        self.input_questions(n)?;
+        self.deposit_questions(set, n, k)?;
+        self.record_questions(set, n, k)?;
+        self.last_questions(n, k, position)
     }
-    let c = deposit_number(
-        set,
-        n,
-        k,
-        gammas,
-        levels,
-        coordinates,
-        half,
-        kept,
-        trees,
-        roots,
-    );
-    if c != 0 {
-        return c;
-    }
-    let d = record_number(set, n, k, query, tail, one, two);
-    if d != 0 {
-        return d;
-    }
-    last_number(n, k, base, position)
 }

@@ -1,6 +1,6 @@
 -- The whole run under one set of widths: a table committed, a list of fold calls on its codeword with its list, the levels' trees and roots, both records and their
 -- checks, and two lent records compared. What is lent to it, what it leaves, and what the claim (SPECIFICATION 10.2) says of that, clause by clause.
-use Rattle.std.specs.Prelude.{ℕ, suc, ◌+◌, ◌-◌, ◌*◌, ◌/◌, ◌^◌, ◌<◌, ◌≤◌, ◌≡◌, ◌↔◌, ◌⊎◌, List, [], ◌∷◌, ◌++◌, length, take, drop, get_or}
+use Rattle.std.specs.Prelude.{ℕ, suc, ◌+◌, ◌-◌, ◌*◌, ◌/◌, ◌^◌, ◌<◌, ◌≤◌, ◌≡◌, ◌↔◌, ◌⊎◌, Result, Ok, Err, List, [], ◌∷◌, ◌++◌, length, take, drop, get_or}
 use denote.Triple.Both.{Both}
 use Rattle.theory_laws.specs.Table.{tab, at}
 use Rattle.theory_field.specs.Words.{words}
@@ -13,6 +13,9 @@ use Rattle.theory_code.specs.Gammas.{gammas}
 use Rattle.theory_code.specs.Questions.{shift_number, fold_number}
 use Rattle.theory_merkle.specs.Numbers.{build_number}
 use Rattle.theory_record.specs.declared.Trees.{Trees}
+use Rattle.theory_record.specs.declared.Deposit.{Deposit}
+use Rattle.theory_laws.specs.Refusals.{number_of, answered}
+use Rattle.theory_laws.specs.declared.Refusal.{Refusal}
 use Rattle.theory_record.specs.Widths.{widths_of, level_length, level_width, tree_length}
 use Rattle.theory_record.specs.Domain.{level_domain}
 use Rattle.theory_record.specs.Trees.{tree_for}
@@ -63,16 +66,16 @@ pub record Buffers : Type 0 where
   pub one : List ℕ
   pub two : List ℕ
 
--- these, of the slices that a contract names
-abbrev pub given : Trees → ℕ → ℕ → ℕ → ℕ → Slice → Slice → Slice → Slice → Slice → Slice → Given
-given how n k position claim base table calls challenges first second =
+-- these, of the deposit and the slices that a contract names
+abbrev pub given : Deposit → ℕ → ℕ → Slice → Slice → Slice → Slice → Slice → Given
+given fixed position claim table calls challenges first second =
     record {
-      how = how;
-      n = n;
-      k = k;
+      how = fixed.how;
+      n = fixed.n;
+      k = fixed.k;
       position = position;
       claim = claim;
-      base = base.entry.now;
+      base = fixed.base.now;
       table = table.entry.now;
       calls = calls.entry.now;
       challenges = challenges.entry.now;
@@ -118,6 +121,15 @@ number_for G B =
     run_number (widths_of G.how.set) G.n G.k G.position (length G.base) (length G.table) (length G.calls) (length G.challenges)
     (length B.gammas) (length B.levels) (length B.coordinates) (length B.half) (length B.kept) (length B.trees) (length B.roots)
     (length B.query) (length B.tail) (length B.one) (length B.two)
+
+-- what a run answers, in numbers: its own; how many calls are done; what the check of the query record answered, and the number of the tail record's;
+-- and what comparing the two lent records answered
+pub record RunAnswer : Type 0 where
+  pub number : ℕ
+  pub done : ℕ
+  pub query : Answer
+  pub tail : ℕ
+  pub compared : Comparison
 
 -- ---- what a run leaves
 
@@ -232,20 +244,20 @@ module _ (G : Given) where
       pub two_records : check_query S position kept roots first ≡ accepted → check_query S position kept roots second ≡ accepted → Settled found
 
     -- the run: what is left, what the records are and what their checks answer, what comparing answers and leaves, and the claim of all that
-    pub record Ran (r : Answers) : Type 0 where
+    pub record Ran (r : RunAnswer) : Type 0 where
       pub deposited : Deposited how n k base table calls challenges old.levels old.kept new.gammas levels coordinates kept trees roots r.done
       pub half_cleared : new.half ≡ tab (length old.half) (λ v. 0)
       pub query_is : new.query ≡ build_query S.widths n k levels trees position old.query
       pub tail_is : new.tail ≡ build_tail S.widths n k (last_level n k levels) (last_tree S.widths n k trees) old.tail
-      pub answer_is : answer r.query ≡ check_query S position kept roots new.query
+      pub answer_is : r.query ≡ check_query S position kept roots new.query
       pub number_is : r.tail ≡ check_tail S (last_root roots) claim new.tail
-      pub compared_is : comparison r.compared ≡ compared S position kept roots first second old.one old.two
+      pub compared_is : r.compared ≡ compared S position kept roots first second old.one old.two
       pub one_is : new.one ≡ first_message S position kept roots first second old.one old.two
       pub two_is : new.two ≡ second_message S position kept roots first second old.one old.two
-      pub claimed : Claimed r.done (answer r.query) r.tail (comparison r.compared)
+      pub claimed : Claimed r.done r.query r.tail r.compared
 
 -- the answer of a refused run: every field but the number is 0
-abbrev pub refusal : ℕ → Answers
+abbrev pub refusal : ℕ → RunAnswer
 refusal number =
     record {
       number = number;
@@ -255,8 +267,16 @@ refusal number =
       compared = record { number = 0; first = 0; second = 0 };
     }
 
+-- the answer of the code, in numbers
+abbrev pub of_done : Answers → RunAnswer
+of_done a = record { number = 0; done = a.done; query = answer a.query; tail = answered a.tail; compared = comparison a.compared }
+
+abbrev pub in_numbers : Result Answers Refusal → RunAnswer
+in_numbers (Ok a) = of_done a
+in_numbers (Err e) = refusal (number_of e)
+
 -- what the entry ensures: its number; refused, every other field 0 and every buffer as it was; done, what a run leaves
-pub record RunLeft (G : Given) (B : Both Buffers Buffers) (r : Answers) : Type 0 where
+pub record RunLeft (G : Given) (B : Both Buffers Buffers) (r : RunAnswer) : Type 0 where
   pub number_is : r.number ≡ number_for G B.entry
   pub refused : (r.number ≡ 0 → ⊥) → (r ≡ refusal r.number) × (B.exit ≡ B.entry)
   pub done : r.number ≡ 0 → Ran G B.entry B.exit r

@@ -4,35 +4,32 @@
 
 ghost use Rattle.field_gf128.specs.Word.{word};
 ghost use Rattle.claim_run_parts.specs.helpers.Room.{DepositLent, RecordLent};
-ghost use Rattle.claim_whole_run.specs.Whole.{given, buffers, RunLeft};
+ghost use Rattle.claim_whole_run.specs.Whole.{given, buffers, in_numbers, RunLeft};
 ghost use Rattle.claim_whole_run.specs.helpers.Done.{RunDone};
 
-use claim_run_parts::questions::run_number;
+use claim_run_parts::questions::Lengths;
 use claim_run_parts::{deposit, query_record, tail_record, two_records};
-use compare_records::Compared;
+use compare_records::Messages;
 use field_gf128::Word;
-use record_query_check::Checked;
-use theory_record::Trees;
+use record_query_check::Rejection;
+use theory_laws::Refusal;
+use theory_record::Deposit;
 
-// What a run answers: its number; how many calls are done; what the check of the query record answered, and the number of the tail record's; and what
-// comparing the two lent records answered.
-#[derive(Clone, Copy)]
+// What a run answers: how many calls are done; what the check of the query record answered, and that of the tail record; and what comparing the
+// two lent records answered.
+#[derive(Clone, Copy, Debug, PartialEq, Eq)]
 pub struct Answers {
-    pub number: u32,
     pub done: usize,
-    pub query: Checked,
-    pub tail: u32,
-    pub compared: Compared,
+    pub query: Result<(), Rejection>,
+    pub tail: Result<(), Refusal>,
+    pub compared: Result<Messages, Refusal>,
 }
 
 // The run, once its questions are answered.
-fn made(
-    how: Trees,
-    n: usize,
-    k: usize,
+fn made<'a>(
+    fixed: Deposit<'a>,
     position: usize,
     claim: Word,
-    base: &[u8],
     table: &[u64],
     calls: &[usize],
     challenges: &[u64],
@@ -50,16 +47,12 @@ fn made(
     one: &mut [u8],
     two: &mut [u8],
 ) -> Answers
-    requires { DepositLent how n k base table calls challenges gammas levels coordinates half kept trees roots
-        × RecordLent how n k position query tail one two }
-    ensures { RunDone (given how n k position (word claim) base table calls challenges first second)
+    requires { DepositLent fixed table calls challenges gammas levels coordinates half kept trees roots × RecordLent fixed position query tail one two }
+    ensures { RunDone (given fixed.entry position (word claim) table calls challenges first second)
         (buffers gammas levels coordinates half kept trees roots query tail one two) result }
 {
     let done = deposit(
-        how,
-        n,
-        k,
-        base,
+        fixed,
         table,
         calls,
         challenges,
@@ -71,16 +64,13 @@ fn made(
         trees,
         roots,
     );
-    let checked = query_record(how, n, k, base, position, levels, trees, kept, roots, query);
-    let number = tail_record(how, n, k, base, claim, levels, trees, roots, tail);
-    let compared = two_records(
-        how, n, k, base, position, kept, roots, first, second, one, two,
-    );
+    let checked = query_record(fixed, position, levels, trees, kept, roots, query);
+    let claimed = tail_record(fixed, claim, levels, trees, roots, tail);
+    let compared = two_records(fixed, position, kept, roots, first, second, one, two);
     Answers {
-        number: 0,
         done,
         query: checked,
-        tail: number,
+        tail: claimed,
         compared,
     }
 }
@@ -90,13 +80,10 @@ fn made(
 // position compared under the kept challenges and the roots. What any calls leave is settled, the codeword block by block. Where the done calls are
 // n folds at variable 0 by r, the query record is accepted, and the tail record exactly for the claim P(r). It refuses with 4, 5, 7 and 11, and then
 // changes no lent byte.
-pub fn run(
-    how: Trees,
-    n: usize,
-    k: usize,
+pub fn run<'a>(
+    fixed: Deposit<'a>,
     position: usize,
     claim: Word,
-    base: &[u8],
     table: &[u64],
     calls: &[usize],
     challenges: &[u64],
@@ -113,55 +100,32 @@ pub fn run(
     tail: &mut [u8],
     one: &mut [u8],
     two: &mut [u8],
-) -> Answers
-    ensures { RunLeft (given how n k position (word claim) base table calls challenges first second)
-        (buffers gammas levels coordinates half kept trees roots query tail one two) result }
+) -> Result<Answers, Refusal>
+    ensures { RunLeft (given fixed.entry position (word claim) table calls challenges first second)
+        (buffers gammas levels coordinates half kept trees roots query tail one two) (in_numbers result) }
 {
-    let set = how.set;
-    let number = run_number(
-        set,
-        n,
-        k,
-        position,
-        base.len(),
-        table.len(),
-        calls.len(),
-        challenges.len(),
-        gammas.len(),
-        levels.len(),
-        coordinates.len(),
-        half.len(),
-        kept.len(),
-        trees.len(),
-        roots.len(),
-        query.len(),
-        tail.len(),
-        one.len(),
-        two.len(),
-    );
-    if number != 0 {
-        return Answers {
-            number,
-            done: 0,
-            query: Checked {
-                number: 0,
-                level: 0,
-            },
-            tail: 0,
-            compared: Compared {
-                number: 0,
-                first: 0,
-                second: 0,
-            },
-        };
-    }
-    made(
-        how,
-        n,
-        k,
+    let lengths = Lengths {
+        base: fixed.base.len(),
+        table: table.len(),
+        calls: calls.len(),
+        challenges: challenges.len(),
+        gammas: gammas.len(),
+        levels: levels.len(),
+        coordinates: coordinates.len(),
+        half: half.len(),
+        kept: kept.len(),
+        trees: trees.len(),
+        roots: roots.len(),
+        query: query.len(),
+        tail: tail.len(),
+        one: one.len(),
+        two: two.len(),
+    };
+    lengths.questions(fixed.how.set, fixed.n, fixed.k, position)?;
+    let answers = made(
+        fixed,
         position,
         claim,
-        base,
         table,
         calls,
         challenges,
@@ -178,5 +142,6 @@ pub fn run(
         tail,
         one,
         two,
-    )
+    );
+    Ok(answers)
 }

@@ -14,7 +14,7 @@ use Rattle.theory_laws.proofs.Questions.{all_yes}
 use Rattle.theory_laws.specs.Questions.{both, on_done}
 use Rattle.theory_laws.proofs.Lists.{both_true}
 use Rattle.field_runs.specs.Runs.{Paired}
-use Rattle.code_codeword.specs.declared.Folded.{Folded}
+use Rattle.code_codeword.specs.Answers.{Folded}
 use Rattle.theory_code.specs.Questions.{
   sized,
   lent,

@@ -1,14 +1,16 @@
 -- The list of coordinates: the turns of the loops that test it and drop an entry.
-use Prim.Native.Nat.{ℕ, zero, suc, ◌+◌, ◌≤◌, ◌<◌}
+use Prim.Native.Nat.{ℕ, zero, suc, ◌+◌, ◌-◌, ◌≤◌, ◌<◌}
 use mathlib.Core.Path.{◌≡◌, refl, sym, ◌∙◌, ap, ap₂}
 use mathlib.Core.Bool.{Bool, true, false}
-use mathlib.Core.List.{List, [], ◌∷◌, ◌++◌}
+use mathlib.Core.List.{List, [], ◌∷◌, ◌++◌, append_assoc}
 use native.Mathlib.Numerals.{add-one}
 use native.Mathlib.Omega.{arith}
 use borrow.Author.Tests.{le-leb, lt-leb, lt-ltb, le-ltb, eq-eqb, ne_eqb}
 use lib.Dec.{eqb}
-use lib.ListN.{length, take, drop, get_or, set, length-set, drop_of_length-le}
-use lib.Seq.{take-suc, drop-cons, take_all, take-suc-set, drop-set-lt, get_or-drop, drop-drop}
+use lib.ListN.{length, take, drop, get_or, set, length-drop, drop_of_length-le}
+use lib.Seq.{drop-cons}
+use Rattle.std.specs.List.{copy_within}
+use Rattle.std.proofs.lemmas.List.Edits.{paste_all}
 use Rattle.theory_laws.specs.Questions.{both}
 use Rattle.theory_laws.specs.Table.{tab, at}
 use Rattle.theory_laws.proofs.Table.{map_at}
@@ -51,65 +53,30 @@ pub over_entries : (n k : ℕ) (gammas list : List ℕ) (eps : ℕ) {ws : List �
 unfolding shift_over
 over_entries n k gammas list eps e = e ∙ sym (map_at (shift_at n k gammas eps) list)
 
--- ---- an entry dropped: up to i the entries behind it have moved down
+-- ---- an entry dropped: the entries behind it copied down, and the last one set to 0
 
-pub record MovedDown (var : ℕ) (old : List ℕ) (i : ℕ) (list : List ℕ) : Type 0 where
-  pub from : var ≤ i
-  pub to : i < length old
-  pub long : length list ≡ length old
-  pub front : take i list ≡ take i (dropped_at var old)
-  pub behind : drop i list ≡ drop i old
-
-before-entry : (var : ℕ) (old : List ℕ) → take var old ≡ take var (dropped_at var old)
+without-entry : (var : ℕ) (old : List ℕ) → var < length old → dropped_at var old ≡ take var old ++ drop (suc var) old
 unfolding dropped_at
-before-entry zero old = refl
-before-entry (suc var) [] = refl
-before-entry (suc var) (x ∷ old) = ap (λ (l : List ℕ). x ∷ l) (before-entry var old)
+without-entry var [] h = absurd (omega arith)
+without-entry zero (x ∷ old) h = refl
+without-entry (suc var) (x ∷ old) h = ap (λ (l : List ℕ). x ∷ l) (without-entry var old (omega arith))
 
-behind-entry : (var i : ℕ) (old : List ℕ) → var ≤ i → at (dropped_at var old) i ≡ at old (suc i)
-unfolding dropped_at
-behind-entry var i [] h = refl
-behind-entry zero i (x ∷ old) h = refl
-behind-entry (suc var) zero (x ∷ old) h = absurd (omega arith)
-behind-entry (suc var) (suc i) (x ∷ old) h = behind-entry var i old (omega arith)
+set-last : (xs ys : List ℕ) (v : ℕ) → length ys ≡ 1 → set (xs ++ ys) (length xs) v ≡ xs ++ v ∷ []
+set-last [] [] v h = absurd (omega arith)
+set-last [] (y ∷ []) v h = refl
+set-last [] (y ∷ (z ∷ ys)) v h = absurd (omega arith)
+set-last (x ∷ xs) ys v h = ap (λ (l : List ℕ). x ∷ l) (set-last xs ys v h)
 
-pub moved_none : (var : ℕ) (old : List ℕ) → var < length old → MovedDown var old var old
-moved_none var old h = record { from = omega arith; to = h; long = refl; front = before-entry var old; behind = refl }
-
--- what stands behind is as it was
-read_ahead : (i : ℕ) (list old : List ℕ) → drop i list ≡ drop i old → at list (i + 1) ≡ at old (i + 1)
-read_ahead i list old e = sym (get_or-drop i list 1 0) ∙ ap (λ (l : List ℕ). at l 1) e ∙ get_or-drop i old 1 0
-
-still_behind : (i : ℕ) (list old : List ℕ) → drop i list ≡ drop i old → drop (i + 1) list ≡ drop (i + 1) old
-still_behind i list old e = sym (drop-drop 1 i list) ∙ ap (drop 1) e ∙ drop-drop 1 i old
-
--- one entry more
-pub moved_more : (var : ℕ) (old : List ℕ) (i : ℕ) (list : List ℕ) → MovedDown var old i list → i + 1 < length old
-    → MovedDown var old (i + 1) (set list i (at list (i + 1)))
-moved_more var old i list m h =
-    let f = m.from in
-    let x : ℕ = at list (i + 1) in
-    let dropped = length-dropped_at var old (omega arith) in
-    let v : at list (i + 1) ≡ at (dropped_at var old) i =
-    read_ahead i list old m.behind ∙ ap (at old) (add-one i) ∙ sym (behind-entry var i old f) in
-    record {
-      from = omega arith;
-      to = h;
-      long = length-set list i x ∙ m.long;
-      front =
-          ap (λ (j : ℕ). take j (set list i x)) (add-one i) ∙ take-suc-set list i x (omega (arith, m.long))
-          ∙ ap₂ (λ (l : List ℕ) (y : ℕ). l ++ y ∷ []) m.front v ∙ sym (take-suc (dropped_at var old) i 0 (omega arith))
-          ∙ ap (λ (j : ℕ). take j (dropped_at var old)) (sym (add-one i));
-      behind = drop-set-lt (i + 1) list i x (omega arith) ∙ still_behind i list old m.behind;
-    }
-
--- the last entry becomes 0
-pub moved_all : (var : ℕ) (old : List ℕ) (i : ℕ) (list : List ℕ) → MovedDown var old i list → (last : ℕ) → suc last ≡ length old → last ≡ i
-    → set list last 0 ≡ dropped_of var old
+pub copied-down : (var : ℕ) (old list : List ℕ) → var < length old → list ≡ copy_within old (var + 1) (length old) var
+    → set list (length old - 1) 0 ≡ dropped_of var old
 unfolding dropped_of
-moved_all var old i list m last e same =
-    let f = m.from in
-    let front : take last list ≡ dropped_at var old =
-    ap (λ (j : ℕ). take j list) same ∙ m.front ∙ take_all i (dropped_at var old) (omega (arith, length-dropped_at var old (omega arith))) in
-    sym (take_all (suc last) (set list last 0) (omega (arith, length-set list last 0, m.long))) ∙ take-suc-set list last 0 (omega (arith, m.long))
-    ∙ ap (λ (l : List ℕ). l ++ 0 ∷ []) front
+copied-down var old list h e =
+    let n : ℕ = length old - (var + 1) in
+    let long : length (dropped_at var old) ≡ length old - 1 = omega (arith, length-dropped_at var old h) in
+    let moved : list ≡ dropped_at var old ++ drop (var + n) old =
+    e ∙ paste_all old var (drop (var + 1) old) n (sym (length-drop (var + 1) old))
+    ∙ sym (append_assoc (take var old) (drop (var + 1) old) (drop (var + n) old))
+    ∙ ap (λ (l : List ℕ). l ++ drop (var + n) old)
+    (ap (λ (i : ℕ). take var old ++ drop i old) (add-one var) ∙ sym (without-entry var old h)) in
+    let one : length (drop (var + n) old) ≡ 1 = omega (arith, length-drop (var + n) old) in
+    ap₂ (λ (l : List ℕ) (i : ℕ). set l i 0) moved (sym long) ∙ set-last (dropped_at var old) (drop (var + n) old) 0 one

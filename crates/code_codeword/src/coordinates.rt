@@ -11,17 +11,11 @@ fn are_rising(bound: usize, list: &[usize]) -> bool
     ensures { result ≡ rising 0 bound list.now }
 {
     let mut least = 0;
-    let mut i = 0;
-    while i < list.len() {
-        let x = list[i];
-        if x < least {
+    for x in list {
+        if *x < least || *x >= bound {
             return false;
         }
-        if x >= bound {
-            return false;
-        }
-        least = x + 1;
-        i += 1;
+        least = *x + 1;
     }
     true
 }
@@ -30,20 +24,15 @@ fn are_rising(bound: usize, list: &[usize]) -> bool
 pub fn are_unfolded(n: usize, original: usize, list: &[usize]) -> bool
     ensures { result ≡ both (eqb (length list.now) n) (rising 0 original list.now) }
 {
-    if list.len() != n {
-        return false;
-    }
-    are_rising(original, list)
+    list.len() == n && are_rising(original, list)
 }
 
 // The list of a committed codeword: 0, 1, 2 and so on to its end.
 pub fn all_coordinates(list: &mut [usize])
     ensures { list.new ≡ all_coordinates (length list.old) }
 {
-    let mut i = 0;
-    while i < list.len() {
-        list[i] = i;
-        i += 1;
+    for (i, c) in list.iter_mut().enumerate() {
+        *c = i;
     }
 }
 
@@ -53,10 +42,6 @@ pub fn drop_coordinate(var: usize, list: &mut [usize])
     ensures { list.new ≡ dropped_of var list.old }
 {
     let last = list.len() - 1;
-    let mut i = var;
-    while i < last {
-        list[i] = list[i + 1];
-        i += 1;
-    }
+    list.copy_within(var + 1.., var);
     list[last] = 0;
 }

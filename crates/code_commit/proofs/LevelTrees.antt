@@ -1,6 +1,6 @@
 -- A level's domain in its buffer, and that what is built under it is the tree of the definition.
 use Prim.Native.Nat.{ℕ, ◌≤◌, ◌<◌}
-use mathlib.Core.Path.{◌≡◌}
+use mathlib.Core.Path.{◌≡◌, ◌∙◌}
 use mathlib.Core.List.{List}
 use native.Mathlib.Omega.{arith}
 use lib.ListN.{length, take}
@@ -33,6 +33,17 @@ module _ (base : List ℕ) (l : ℕ) (short : length base ≤ 200) (low : l < 10
 
   pub domain-is : take size o1 ≡ level_domain base l
   domain-is = prefix-is o (length (level_domain base l)) (level_domain base l) o1 size p (omega (arith, level_domain-fits base l short low))
+
+-- and nothing is refused
+pub level-unrefused : (how : Trees) {n k l : ℕ} (base : List ℕ) {domain : List ℕ} {halves room count width q : ℕ}
+    → LevelTree (widths_of how.set) n k l (length base) halves room
+    → domain ≡ level_domain base l → count ≡ level_length n k l → width ≡ level_width (widths_of how.set) n k l
+    → q ≡ build_number (length domain) count width halves room → q ≡ 0
+level-unrefused how {n} {k} {l} base {halves = halves} {room = room} y ed ec ew e =
+    let d : length (level_domain base l) ≤ 255 = omega (arith, level_domain-fits base l y.base_le (omega (arith, y.small, y.level-le))) in
+    let w : (widths_of how.set).width ≤ 512 = omega (arith, narrow how.set) in
+    let z = build_allowed (widths_of how.set) (powers how.set) n k l (length (level_domain base l)) halves room w y.small d y.values_are y.tree_is in
+    (rw (ed, ec, ew) at e) ∙ z
 
 pub level-built : (how : Trees) {n k l : ℕ} (base values : List ℕ) {domain : List ℕ} {halves room count width : ℕ} (tree : List ℕ) {t : List ℕ}
     → LevelTree (widths_of how.set) n k l (length base) halves room

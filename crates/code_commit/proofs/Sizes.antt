@@ -1,12 +1,16 @@
 -- What the questions of `commit` and `level_tree`, all answered yes, say of sizes and lengths; with them no step of the work is refused.
 use Prim.Native.Nat.{ℕ, ◌+◌, ◌-◌, ◌*◌, ◌^◌, ◌≤◌}
-use mathlib.Core.Path.{◌≡◌, sym, ◌∙◌, ap}
+use mathlib.Core.Path.{◌≡◌, refl, sym, ◌∙◌, ap}
 use mathlib.Core.List.{List, ◌++◌}
 use native.Mathlib.Omega.{arith}
 use borrow.Author.Tests.{leb-true, eqb-true, le-leb, eq-eqb}
 use Rattle.theory_laws.specs.Lists.{flat}
 use Rattle.theory_laws.specs.Questions.{on_done}
 use Rattle.theory_laws.proofs.Questions.{all_yes}
+use Rattle.std.specs.Prelude.{Result, Ok, Err, IsOk}
+use Rattle.theory_laws.specs.Refusals.{answered}
+use Rattle.theory_laws.specs.declared.Refusal.{Refusal}
+use Rattle.theory_laws.proofs.Refusals.{never}
 use Rattle.theory_blake3.specs.Digest.{hash}
 use Rattle.theory_multilinear.specs.Codeword.{encode}
 use Rattle.theory_code.specs.Questions.{encode_number}
@@ -66,6 +70,11 @@ module _ {s : Widths} {n k base table gammas codeword coordinates tree : ℕ} wh
     tree-allowed f =
         let e : n + k - 0 ≡ n + k = omega arith in
         record { small = omega (arith, h.n≤, h.k≤); level-le = omega arith; base_le = h.base≤; values_are = rw e (f ∙ h.codeword=); tree_is = h.tree= }
+
+-- what a call that is not refused can be unwrapped by
+pub not-refused : {A : Type 0} (r : Result A Refusal) → answered r ≡ 0 → IsOk r
+not-refused (Ok x) z = refl
+not-refused (Err e) z = never e z
 
 -- a step that is not refused leaves what it made
 pub made : {A : Type 0} (q v : ℕ) (x y z : A) → q ≡ v → v ≡ 0 → z ≡ on_done q x y → z ≡ x

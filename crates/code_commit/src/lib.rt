@@ -7,6 +7,7 @@ pub mod trees;
 
 ghost use Rattle.std.specs.Prelude.{◌≡◌};
 ghost use Rattle.theory_laws.specs.Questions.{on_done};
+ghost use Rattle.theory_laws.specs.Refusals.{answered};
 ghost use Rattle.theory_field.specs.Words.{words};
 ghost use Rattle.theory_multilinear.specs.Codeword.{all_coordinates};
 ghost use Rattle.theory_blake3.specs.Digest.{hash};
@@ -18,11 +19,12 @@ ghost use Rattle.theory_record.specs.Lent.{scheme_of};
 
 use code_codeword::coordinates::all_coordinates;
 use code_codeword::sizes::holds;
-use theory_record::{Trees, WidthSet};
+use theory_laws::Refusal;
+use theory_record::{Deposit, Trees, WidthSet};
 use trees::{build_level, tree_bytes};
 
-// The number that `commit` answers.
-fn number(
+// The questions of `commit`.
+fn questions(
     set: WidthSet,
     n: usize,
     k: usize,
@@ -32,34 +34,34 @@ fn number(
     codeword: usize,
     coordinates: usize,
     tree: usize,
-) -> u32
-    ensures { result ≡ commit_number (widths_of set) n k base table gammas codeword coordinates tree }
+) -> Result<(), Refusal>
+    ensures { answered result ≡ commit_number (widths_of set) n k base table gammas codeword coordinates tree }
 {
     if n > 20 {
-        return 4;
+        return Err(Refusal::Parameters);
     }
     if k > 4 {
-        return 4;
+        return Err(Refusal::Parameters);
     }
     if !holds(table, n) {
-        return 5;
+        return Err(Refusal::Length);
     }
     if gammas != 2 * (k * n) {
-        return 5;
+        return Err(Refusal::Length);
     }
     if !holds(codeword, n + k) {
-        return 5;
+        return Err(Refusal::Length);
     }
     if coordinates != n {
-        return 5;
+        return Err(Refusal::Length);
     }
     if tree != tree_bytes(set, n, k, 0) {
-        return 5;
+        return Err(Refusal::Length);
     }
     if base > 200 {
-        return 7;
+        return Err(Refusal::Domain);
     }
-    0
+    Ok(())
 }
 
 // The gammas of a base domain, the codeword of a table of 2^n words, its list, 0 to n - 1, and level 0's tree by a set of widths and a mode. It
@@ -74,16 +76,15 @@ pub fn commit(
     codeword: &mut [u64],
     coordinates: &mut [usize],
     tree: &mut [u8],
-) -> u32
-    ensures value { result ≡ commit_lent how n k base table gammas codeword coordinates tree }
-    ensures gammas_after { words gammas.new ≡ on_done result (G.gammas hash base.now n k) (words gammas.old) }
-    ensures codeword_after { words codeword.new ≡ on_done result (codeword_lent n k base table) (words codeword.old) }
-    ensures coordinates_after { coordinates.new ≡ on_done result (all_coordinates n) coordinates.old }
-    ensures tree_after { tree.new ≡ on_done result (committed_tree (scheme_of how base n k) (words table.now)) tree.old }
+) -> Result<(), Refusal>
+    ensures value { answered result ≡ commit_lent how n k base table gammas codeword coordinates tree }
+    ensures gammas_after { words gammas.new ≡ on_done (answered result) (G.gammas hash base.now n k) (words gammas.old) }
+    ensures codeword_after { words codeword.new ≡ on_done (answered result) (codeword_lent n k base table) (words codeword.old) }
+    ensures coordinates_after { coordinates.new ≡ on_done (answered result) (all_coordinates n) coordinates.old }
+    ensures tree_after { tree.new ≡ on_done (answered result) (committed_tree (scheme_of how base n k) (words table.now)) tree.old }
 {
-    let set = how.set;
-    let refusal = number(
-        set,
+    questions(
+        how.set,
         n,
         k,
         base.len(),
@@ -92,13 +93,11 @@ pub fn commit(
         codeword.len(),
         coordinates.len(),
         tree.len(),
-    );
-    if refusal != 0 {
-        return refusal;
-    }
-    code_gamma::derive(n, k, base, gammas);
-    code_codeword::encode(n, k, table, gammas, codeword);
+    )?;
+    code_gamma::derive(n, k, base, gammas).unwrap();
+    code_codeword::encode(n, k, table, gammas, codeword).unwrap();
     all_coordinates(coordinates);
-    build_level(how, n, k, 0, base, codeword, tree);
-    0
+    let deposit = Deposit { how, base, n, k };
+    build_level(deposit, 0, codeword, tree);
+    Ok(())
 }

@@ -5,10 +5,12 @@ ghost use Rattle.theory_field.specs.Words.{words};
 ghost use Rattle.theory_record.specs.Widths.{widths_of, tree_length};
 ghost use Rattle.theory_record.specs.Trees.{tree_for};
 ghost use Rattle.code_commit.specs.helpers.LevelTree.{LevelTree};
-ghost use Rattle.theory_record.specs.Lent.{scheme_of};
+ghost use Rattle.theory_record.specs.Lent.{fixed_by};
 
 use code_level::{DOMAIN, level_domain, level_groups, level_length, level_width};
-use theory_record::{Trees, WidthSet};
+use theory_record::{Deposit, WidthSet};
+use tree_digest::Hashing;
+use tree_place::Shape;
 
 // How many bytes level l's tree has.
 pub fn tree_bytes(set: WidthSet, n: usize, k: usize, l: usize) -> usize
@@ -19,23 +21,17 @@ pub fn tree_bytes(set: WidthSet, n: usize, k: usize, l: usize) -> usize
 }
 
 // Level l's tree over its values, at the level's width under level domain l, into a buffer of its size.
-pub fn build_level(
-    how: Trees,
-    n: usize,
-    k: usize,
-    l: usize,
-    base: &[u8],
-    values: &[u64],
-    tree: &mut [u8],
-)
-    requires { LevelTree (widths_of how.set) n k l (length base.now) (length values.now) (length tree.old) }
-    ensures { tree.new ≡ flat (tree_for (scheme_of how base n k) l (words values.now)) }
+pub fn build_level<'a>(deposit: Deposit<'a>, l: usize, values: &[u64], tree: &mut [u8])
+    requires { LevelTree (widths_of deposit.how.set) deposit.n deposit.k l (length deposit.base.now) (length values.now) (length tree.old) }
+    ensures { tree.new ≡ flat (tree_for (fixed_by deposit.entry) l (words values.now)) }
 {
-    let set = how.set;
-    let mode = how.mode;
     let mut domain = [0u8; DOMAIN];
-    let size = level_domain(&mut domain, base, l);
-    let count = level_length(n, k, l);
-    let width = level_width(set, n, k, l);
-    tree_build::build(mode, &domain[..size], count, width, values, tree);
+    let size = level_domain(&mut domain, deposit.base, l);
+    let hashing = Hashing {
+        mode: deposit.how.mode,
+        domain: &domain[..size],
+    };
+    let count = level_length(deposit.n, deposit.k, l);
+    let width = level_width(deposit.how.set, deposit.n, deposit.k, l);
+    tree_build::build(hashing, Shape { count, width }, values, tree).unwrap();
 }

@@ -19,12 +19,12 @@ use Rattle.code_level_trees.specs.helpers.Room as tree
 use Rattle.code_fold_levels.specs.Levels.{lent_questions, fold_levels_number}
 
 -- every length has its yes, and 7 is left
-pub lengths_yes : (s : Widths) (n k base challenges levels half trees roots : ℕ) {x len first all r : ℕ} → x ≡ size_number n k → x ≡ 0 → challenges ≡ 2 * n
+pub lengths_yes : (s : Widths) (n k base challenges levels half trees roots : ℕ) {len first all r : ℕ} → 0 ≡ size_number n k → challenges ≡ 2 * n
     → len ≡ levels_length n k → levels ≡ 2 * len → first ≡ level_length n k 1 → half ≡ 2 * first → all ≡ 32 * tree_start s n k (suc n) → trees ≡ all
     → roots ≡ 32 * (n + 1) → r ≡ pick (leb base 200) 0 7 → r ≡ fold_levels_number s n k base challenges levels half trees roots
 unfolding fold_levels_number
-lengths_yes s n k base challenges levels half trees roots {x = x} {r = r} ex z ec el hl ef hf ea ht hr e =
-    yes_sizes n k x _ ex r z
+lengths_yes s n k base challenges levels half trees roots {r = r} ex ec el hl ef hf ea ht hr e =
+    yes_sizes n k _ r ex
     (yes_eq r _ _ _ _ ec (yes_halves r _ _ _ _ _ el hl (yes_halves r _ _ _ _ _ ef hf (yes_eq-given r _ _ _ _ _ ea ht (yes_eq r _ _ _ _ hr e)))))
 
 pub record Sizes (s : Widths) (n k base challenges levels half trees roots : ℕ) : Type 0 where

@@ -4,6 +4,7 @@
 
 ghost use Rattle.std.specs.Prelude.{◌≡◌, suc, ◌*◌, ◌<◌, length, take};
 ghost use Rattle.theory_laws.specs.Questions.{on_done};
+ghost use Rattle.theory_laws.specs.Refusals.{answered};
 ghost use Rattle.theory_laws.specs.Table.{tab};
 ghost use Rattle.theory_field.specs.Words.{words};
 ghost use Rattle.field_gf128.specs.Word.{word};
@@ -15,15 +16,16 @@ ghost use Rattle.code_levels.specs.helpers.Levels.{laid, level_folded, Room, Lev
 ghost use Rattle.code_fold_levels.specs.Levels.{fold_levels_number, fold_levels_lent, folded_lent};
 
 use code_codeword::folding::fold_into;
-use code_level::{level_length, levels_length, size_number, trees_size};
+use code_level::{level_length, levels_length, size_questions, trees_size};
 use code_level_trees::all_trees;
 use code_levels::lay;
 use field_gf128::Word;
 use field_words::{clear, get};
-use theory_record::{Trees, WidthSet};
+use theory_laws::Refusal;
+use theory_record::{Deposit, Trees, WidthSet};
 
 // 4, 5 and 7.
-fn number(
+fn questions(
     set: WidthSet,
     n: usize,
     k: usize,
@@ -33,32 +35,29 @@ fn number(
     half: usize,
     trees: usize,
     roots: usize,
-) -> u32
-    ensures { result ≡ fold_levels_number (widths_of set) n k base challenges levels half trees roots }
+) -> Result<(), Refusal>
+    ensures { answered result ≡ fold_levels_number (widths_of set) n k base challenges levels half trees roots }
 {
-    let x = size_number(n, k);
-    if x != 0 {
-        return x;
-    }
+    size_questions(n, k)?;
     if challenges != 2 * n {
-        return 5;
+        return Err(Refusal::Length);
     }
     if levels != 2 * levels_length(n, k) {
-        return 5;
+        return Err(Refusal::Length);
     }
     if half != 2 * level_length(n, k, 1) {
-        return 5;
+        return Err(Refusal::Length);
     }
     if trees != trees_size(set, n, k) {
-        return 5;
+        return Err(Refusal::Length);
     }
     if roots != 32 * (n + 1) {
-        return 5;
+        return Err(Refusal::Length);
     }
     if base > 200 {
-        return 7;
+        return Err(Refusal::Domain);
     }
-    0
+    Ok(())
 }
 
 // Level l, which starts at the half `from`, folded at variable 0 by r into the front of `half`.
@@ -98,11 +97,9 @@ fn fold_all(n: usize, k: usize, challenges: &[u64], levels: &mut [u64], half: &m
     ensures half_after { half.new ≡ tab (length half.old) (λ v. 0) }
 {
     let mut from: usize = 0;
-    let mut l: usize = 0;
-    while l < n {
+    for l in 0..n {
         let r = get(challenges, l);
         from = next_level(n, k, l, from, r, levels, half);
-        l += 1;
     }
     clear(half);
 }
@@ -120,16 +117,15 @@ pub fn fold_levels(
     half: &mut [u64],
     trees: &mut [u8],
     roots: &mut [u8],
-) -> u32
-    ensures value { result ≡ fold_levels_lent how n k base challenges levels half trees roots }
-    ensures levels_after { words levels.new ≡ on_done result (levels_lent n (folded_lent n k challenges levels)) (words levels.old) }
-    ensures half_after { half.new ≡ on_done result (tab (length half.old) (λ v. 0)) half.old }
-    ensures trees_after { trees.new ≡ on_done result (trees_lent (scheme_of how base n k) (folded_lent n k challenges levels)) trees.old }
-    ensures roots_after { roots.new ≡ on_done result (roots_lent (scheme_of how base n k) (folded_lent n k challenges levels)) roots.old }
+) -> Result<(), Refusal>
+    ensures value { answered result ≡ fold_levels_lent how n k base challenges levels half trees roots }
+    ensures levels_after { words levels.new ≡ on_done (answered result) (levels_lent n (folded_lent n k challenges levels)) (words levels.old) }
+    ensures half_after { half.new ≡ on_done (answered result) (tab (length half.old) (λ v. 0)) half.old }
+    ensures trees_after { trees.new ≡ on_done (answered result) (trees_lent (scheme_of how base n k) (folded_lent n k challenges levels)) trees.old }
+    ensures roots_after { roots.new ≡ on_done (answered result) (roots_lent (scheme_of how base n k) (folded_lent n k challenges levels)) roots.old }
 {
-    let set = how.set;
-    let refusal = number(
-        set,
+    questions(
+        how.set,
         n,
         k,
         base.len(),
@@ -138,11 +134,9 @@ pub fn fold_levels(
         half.len(),
         trees.len(),
         roots.len(),
-    );
-    if refusal != 0 {
-        return refusal;
-    }
+    )?;
     fold_all(n, k, challenges, levels, half);
-    all_trees(how, n, k, base, levels, trees, roots);
-    0
+    let deposit = Deposit { how, base, n, k };
+    all_trees(deposit, levels, trees, roots);
+    Ok(())
 }

@@ -6,6 +6,7 @@ pub mod message;
 ghost use Rattle.std.specs.Prelude.{◌≡◌, ◌*◌, ◌≤◌, length};
 ghost use Rattle.theory_laws.specs.Lists.{part, le_value};
 ghost use Rattle.theory_laws.specs.Questions.{on_done};
+ghost use Rattle.theory_laws.specs.Refusals.{answered};
 ghost use Rattle.theory_blake3.specs.Digest.{hash};
 ghost use Rattle.hash_chunk.specs.State as S;
 ghost use Rattle.hash_chunk.specs.helpers.Room.{Fits};
@@ -16,8 +17,9 @@ ghost use Rattle.code_gamma.specs.helpers.Prefix.{gamma_rest};
 ghost use Rattle.theory_code.specs.Questions.{derive_number};
 
 use field_gf128::Word;
-use hash_chunk::state::{ChunkState, finish};
+use hash_chunk::state::ChunkState;
 use message::{prefix, whole};
+use theory_laws::Refusal;
 
 // The gamma of (j, i): the first 16 bytes of the digest of the prefix, j and i.
 fn gamma_at(common: ChunkState, j: usize, i: usize) -> Word
@@ -25,7 +27,7 @@ fn gamma_at(common: ChunkState, j: usize, i: usize) -> Word
     ensures { word result ≡ le_value (part 16 0 (S.finished (S.fed common (gamma_rest j i)))) }
 {
     let message = whole(common, j, i);
-    let digest = finish(message);
+    let digest = message.finish();
     field_bytes::word_at(&digest, 0)
 }
 
@@ -35,44 +37,38 @@ fn fill(n: usize, k: usize, domain: &[u8], out: &mut [u64])
     ensures { words out.new ≡ gammas hash domain.now n k }
 {
     let common = prefix(n, k, domain);
-    let count = k * n;
-    let mut v = 0;
-    while v < count {
+    for v in 0..k * n {
         let g = gamma_at(common, v / n, v % n);
         field_words::put(out, v, g);
-        v += 1;
     }
 }
 
-// The number that `derive` answers.
-fn number(n: usize, k: usize, domain: usize, out: usize) -> u32
-    ensures { result ≡ derive_number n k domain out }
+// The questions of `derive`.
+fn questions(n: usize, k: usize, domain: usize, out: usize) -> Result<(), Refusal>
+    ensures { answered result ≡ derive_number n k domain out }
 {
     if n > 20 {
-        return 4;
+        return Err(Refusal::Parameters);
     }
     if k > 4 {
-        return 4;
+        return Err(Refusal::Parameters);
     }
     if out != 2 * (k * n) {
-        return 5;
+        return Err(Refusal::Length);
     }
     if domain > 200 {
-        return 7;
+        return Err(Refusal::Domain);
     }
-    0
+    Ok(())
 }
 
 // The gammas of a base domain: k × n words, j outer. It refuses n past 20 or k past 4 with 4, room that is not theirs with 5, and a base
 // domain of more than 200 bytes with 7.
-pub fn derive(n: usize, k: usize, domain: &[u8], out: &mut [u64]) -> u32
-    ensures value { result ≡ derive_number n k (length domain.now) (length out.old) }
-    ensures out_after { words out.new ≡ on_done result (gammas hash domain.now n k) (words out.old) }
+pub fn derive(n: usize, k: usize, domain: &[u8], out: &mut [u64]) -> Result<(), Refusal>
+    ensures value { answered result ≡ derive_number n k (length domain.now) (length out.old) }
+    ensures out_after { words out.new ≡ on_done (answered result) (gammas hash domain.now n k) (words out.old) }
 {
-    let refusal = number(n, k, domain.len(), out.len());
-    if refusal != 0 {
-        return refusal;
-    }
+    questions(n, k, domain.len(), out.len())?;
     fill(n, k, domain, out);
-    0
+    Ok(())
 }

@@ -8,16 +8,17 @@ ghost use Rattle.theory_merkle.specs.Message.{prefixed};
 ghost use Rattle.theory_code.specs.Gammas.{gamma_message};
 ghost use Rattle.code_gamma.specs.helpers.Prefix.{gamma_prefix, gamma_rest};
 
-use hash_chunk::state::{ChunkState, feed_number, feed_part, start};
+use hash_chunk::state::ChunkState;
 use hash_compress::iv;
+use theory_blake3::Mode;
 
 // A number more, as a part of eight bytes.
 fn feed_number_part(s: ChunkState, x: u64) -> ChunkState
     requires { Fits s 16 }
     ensures { result ≡ S.fed s (prefixed (le_bytes 8 x)) }
 {
-    let t = feed_number(s, 8);
-    feed_number(t, x)
+    let t = s.feed_number(8);
+    t.feed_number(x)
 }
 
 // What the messages have in common: the count of 6, the label, the base domain, n and k.
@@ -25,11 +26,16 @@ pub fn prefix(n: usize, k: usize, domain: &[u8]) -> ChunkState
     requires { length domain.now ≤ 200 }
     ensures { result ≡ S.fed (S.started C.iv 0 0) (gamma_prefix domain.now n k) }
 {
-    let key = iv();
-    let empty = start(key, 0, 0);
-    let counted = feed_number(empty, 6);
-    let labelled = feed_part(counted, b"magnetar/pcs/gamma/v1");
-    let named = feed_part(labelled, domain);
+    let empty = ChunkState::start(
+        Mode {
+            key: iv(),
+            flags: 0,
+        },
+        0,
+    );
+    let counted = empty.feed_number(6);
+    let labelled = counted.feed_part(b"magnetar/pcs/gamma/v1");
+    let named = labelled.feed_part(domain);
     let sized = feed_number_part(named, n as u64);
     feed_number_part(sized, k as u64)
 }

@@ -2,6 +2,7 @@
 use Prim.Native.Nat.{ℕ, ◌+◌, ◌-◌, ◌/◌, ◌%◌, ◌<◌, ◌≤◌}
 use mathlib.Core.Path.{◌≡◌, refl, sym, ◌∙◌}
 use mathlib.Core.Bool.{false}
+use Rattle.std.specs.Prelude.{Ok, Err}
 use mathlib.Core.List.{List, ◌++◌}
 use native.Mathlib.Omega.{arith}
 use native.Mathlib.Numerals.{add-one}
@@ -14,7 +15,8 @@ use Rattle.bytes_numbers.specs.helpers.Put.{Put}
 use Rattle.bytes_numbers.proofs.Stores.{then_put, same_put}
 use Rattle.theory_record.specs.Domain.{digit, decimal, level_mark, level_domain}
 use Rattle.theory_record.proofs.Domain.{decimal-one, decimal-two}
-use Rattle.code_level.specs.Domain.{domain_questions, domain_number, length_number, domain_length_of}
+use Rattle.theory_laws.specs.declared.Refusal.TheVariants as no
+use Rattle.code_level.specs.Domain.{domain_questions, domain_number, length_number, domain_length_of, length_answer}
 
 pub one-digit : (o : List ℕ) (from x v : ℕ) → x < 10 → v ≡ digit x → Put o from (length (decimal x)) (decimal x) (set o from v) (from + 1)
 one-digit o from x v h e = rw (decimal-one x h, e) (record { bytes = rw (stored-cons, stored-nil); size = refl; end = refl })
@@ -57,16 +59,16 @@ module _ (base : List ℕ) (l : ℕ) where
 -- ---- the entries
 
 module _ (base : List ℕ) (l : ℕ) where
-  pub length-level : 20 < l → record { number = 4; length = 0 } ≡ domain_length_of base l
+  pub length-level : 20 < l → length_answer (Err no.Parameters) ≡ domain_length_of base l
   unfolding length_number
   length-level h = rw (lt-leb l 20 h)
 
-  pub length_base : l ≤ 20 → 200 < length base → record { number = 7; length = 0 } ≡ domain_length_of base l
+  pub length_base : l ≤ 20 → 200 < length base → length_answer (Err no.Domain) ≡ domain_length_of base l
   unfolding length_number
   length_base h b = rw (le-leb l 20 h, lt-leb (length base) 200 b)
 
   pub length-done : (digits : ℕ) → l ≤ 20 → length base ≤ 200 → digits ≡ length (decimal l)
-      → record { number = 0; length = length base + 7 + digits } ≡ domain_length_of base l
+      → length_answer (Ok (length base + 7 + digits)) ≡ domain_length_of base l
   unfolding length_number
   length-done digits h b e = rw (le-leb l 20 h, le-leb (length base) 200 b, e, domain-long base l)
 

@@ -1,6 +1,6 @@
 -- A level's sizes, from its length and its width as code computes them.
 use Prim.Native.Nat.{ℕ, ◌+◌, ◌-◌, ◌*◌, ◌/◌, ◌%◌, ◌^◌, ◌<◌, ◌≤◌}
-use mathlib.Core.Path.{◌≡◌, sym, ◌∙◌, ap, ap₂}
+use mathlib.Core.Path.{◌≡◌, refl, sym, ◌∙◌, ap, ap₂}
 use mathlib.Core.Bool.{Bool, true, false}
 use native.Mathlib.Nat.{mod-eq_of_lt}
 use native.Mathlib.Omega.{arith}
@@ -11,7 +11,10 @@ use Rattle.theory_laws.specs.Questions.{pick}
 use Rattle.theory_merkle.specs.Tree.{depth_of}
 use Rattle.theory_record.specs.declared.WidthSet.{WidthSet}
 use Rattle.theory_record.specs.Widths.{widths_of, width_for, level_length, level_width, level_groups, level_depth}
+use Rattle.theory_laws.specs.Refusals.{number_of}
+use Rattle.theory_laws.specs.declared.Refusal.{Refusal}
 use Rattle.theory_laws.proofs.Questions.{all_yes}
+use Rattle.theory_laws.proofs.Refusals.{never}
 use Rattle.theory_record.specs.Query.{size_questions}
 use Rattle.theory_record.proofs.Ranges.{SizesFit, sizes_fit}
 use Rattle.code_level.specs.Sizes.{size_number}
@@ -56,22 +59,23 @@ pub sizes-said : (n k x : ℕ) → x ≡ size_number n k → x ≡ 0 → SizesFi
 unfolding size_number
 sizes-said n k x e z = (sizes_fit n k (all_yes (size_questions n k) tt (sym e ∙ z))).0
 
--- the three parts of question 4 in front of further questions, of which X is the number, by what `size_number` gave: `search (asks, asks-sizes)`
+-- the three parts of question 4 in front of further questions, of which X is the number, by what `size_questions` answered:
+-- `search (asks, asks-sizes)`
 abbrev sizes_then : Bool → Bool → Bool → ℕ → ℕ
 sizes_then a b c X = pick a (pick b (pick c X 4) 4) 4
 
-module _ (n k x X : ℕ) (e : x ≡ size_number n k) where
-  pub yes_sizes : (r : ℕ) → x ≡ 0 → r ≡ X → r ≡ sizes_then (leb n 20) (leb k 4) (leb 1 n) X
-  yes_sizes r z f =
-      let s = sizes-said n k x e z in
+module _ (n k X : ℕ) where
+  pub yes_sizes : (r : ℕ) → 0 ≡ size_number n k → r ≡ X → r ≡ sizes_then (leb n 20) (leb k 4) (leb 1 n) X
+  yes_sizes r e f =
+      let s = sizes-said n k 0 e refl in
       rw (le-leb n 20 s.n_most, le-leb k 4 s.k_most, le-leb 1 n s.n_least) f
 
-  pub no_sizes : (x ≡ 0 → ⊥) → x ≡ sizes_then (leb n 20) (leb k 4) (leb 1 n) X
+  pub no_sizes : (x : Refusal) → number_of x ≡ size_number n k → number_of x ≡ sizes_then (leb n 20) (leb k 4) (leb 1 n) X
   unfolding size_number
-  no_sizes h = go (leb n 20) (leb k 4) (leb 1 n) e
+  no_sizes x e = go (leb n 20) (leb k 4) (leb 1 n) e
     where
-      go : (a b c : Bool) → x ≡ sizes_then a b c 0 → x ≡ sizes_then a b c X
-      go true true true f = absurd (h f)
+      go : (a b c : Bool) → number_of x ≡ sizes_then a b c 0 → number_of x ≡ sizes_then a b c X
+      go true true true f = never x f
       go true true false f = f
       go true false c f = f
       go false b c f = f

@@ -76,5 +76,5 @@ pub digests-step : (set : WidthSet) (n k l d g : ℕ)
 unfolding tree_start total
 digests-step set n k l d g e f small = rw (e, f, add-one) (omega (arith, (level-small set n k l small).tree_is))
 
-pub trees_are : (set : WidthSet) (n k l d : ℕ) → d ≡ tree_start (widths_of set) n k l → l ≤ n + 1 → n < l → 32 * d ≡ 32 * tree_start (widths_of set) n k (suc n)
+pub trees_are : (set : WidthSet) (n k l d : ℕ) → d ≡ tree_start (widths_of set) n k l → l ≤ n + 1 → n + 1 ≤ l → 32 * d ≡ 32 * tree_start (widths_of set) n k (suc n)
 trees_are set n k l d e h g = let z : l ≡ suc n = omega arith in rw (e, z)

@@ -1,17 +1,12 @@
 // The domain of a level, as an entry: its length, and its bytes.
 ghost use Rattle.std.specs.Prelude.{◌≡◌, ◌<◌, eqb, length};
 ghost use Rattle.theory_laws.specs.Questions.{on_done};
+ghost use Rattle.theory_laws.specs.Refusals.{answered};
 ghost use Rattle.theory_record.specs.Domain.{decimal, level_domain};
-ghost use Rattle.code_level.specs.Domain.{domain_number, domain_length_of};
+ghost use Rattle.code_level.specs.Domain.{domain_number, domain_length_of, length_answer};
 
 use crate::put_domain;
-
-// The number, and a length, 0 where it is refused.
-#[derive(Clone, Copy)]
-pub struct DomainLength {
-    pub number: u32,
-    pub length: usize,
-}
+use theory_laws::Refusal;
 
 // How many digits a number below 100 has.
 fn digits(x: usize) -> usize
@@ -25,25 +20,16 @@ fn digits(x: usize) -> usize
 }
 
 // How long the domain of level l is: 4, 7.
-pub fn level_domain_length(base: &[u8], l: usize) -> DomainLength
-    ensures { result ≡ domain_length_of base.now l }
+pub fn level_domain_length(base: &[u8], l: usize) -> Result<usize, Refusal>
+    ensures { length_answer result ≡ domain_length_of base.now l }
 {
     if l > 20 {
-        return DomainLength {
-            number: 4,
-            length: 0,
-        };
+        return Err(Refusal::Parameters);
     }
     if base.len() > 200 {
-        return DomainLength {
-            number: 7,
-            length: 0,
-        };
+        return Err(Refusal::Domain);
     }
-    DomainLength {
-        number: 0,
-        length: base.len() + 7 + digits(l),
-    }
+    Ok(base.len() + 7 + digits(l))
 }
 
 // Whether a lent length is that of the domain of a level below 100.
@@ -59,31 +45,28 @@ fn holds_domain(out: usize, base: &[u8], l: usize) -> bool
 }
 
 // 4, 5 and 7.
-fn number(base: &[u8], l: usize, out: usize) -> u32
-    ensures { result ≡ domain_number base.now l out }
+fn questions(base: &[u8], l: usize, out: usize) -> Result<(), Refusal>
+    ensures { answered result ≡ domain_number base.now l out }
 {
     if l > 20 {
-        return 4;
+        return Err(Refusal::Parameters);
     }
     if !holds_domain(out, base, l) {
-        return 5;
+        return Err(Refusal::Length);
     }
     if base.len() > 200 {
-        return 7;
+        return Err(Refusal::Domain);
     }
-    0
+    Ok(())
 }
 
 // The domain of level l, into a buffer of its length. It refuses a level past 20 with 4, a length that is not the domain's with 5, and a
 // base domain of more than 200 bytes with 7.
-pub fn level_domain(base: &[u8], l: usize, out: &mut [u8]) -> u32
-    ensures value { result ≡ domain_number base.now l (length out.old) }
-    ensures out_after { out.new ≡ on_done result (level_domain base.now l) out.old }
+pub fn level_domain(base: &[u8], l: usize, out: &mut [u8]) -> Result<(), Refusal>
+    ensures value { answered result ≡ domain_number base.now l (length out.old) }
+    ensures out_after { out.new ≡ on_done (answered result) (level_domain base.now l) out.old }
 {
-    let refusal = number(base, l, out.len());
-    if refusal != 0 {
-        return refusal;
-    }
+    questions(base, l, out.len())?;
     put_domain(out, base, l);
-    0
+    Ok(())
 }

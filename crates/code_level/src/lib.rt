@@ -5,6 +5,7 @@
 pub mod domain;
 
 ghost use Rattle.std.specs.Prelude.{◌≡◌, suc, ◌+◌, ◌*◌, ◌≤◌, ◌<◌, length};
+ghost use Rattle.theory_laws.specs.Refusals.{answered};
 ghost use Rattle.bytes_numbers.specs.helpers.Put.{Put};
 ghost use Rattle.theory_record.specs.Widths.{widths_of, width_for, level_length, level_width, level_groups, level_depth};
 ghost use Rattle.theory_record.specs.Domain.{digit, decimal, level_domain};
@@ -13,32 +14,37 @@ ghost use Rattle.theory_record.proofs.Ranges.{SizesFit};
 ghost use Rattle.code_level.specs.Sizes.{size_number};
 
 use bytes_numbers::put;
+use theory_laws::Refusal;
 use theory_record::WidthSet;
-use tree_place::depth_of;
+use tree_place::Shape;
 
-// How many bytes the longest level domain has, `domainRoom` of the definitions: a base domain of 200, "/level/" and two digits.
+// How many bytes the longest level domain has, `domain_room` of the definitions: a base domain of 200, "/level/" and two digits.
 pub const DOMAIN: usize = 209;
 
 // How many values the widest group of either set has: `widest` of the definitions.
 pub const WIDEST: usize = 32;
 
-// From which length on a set's groups have its width.
-fn threshold_of(set: WidthSet) -> usize
-    ensures { result ≡ (widths_of set).threshold }
-{
-    match set {
-        WidthSet::Present => 16,
-        WidthSet::Wide => 64,
-    }
+// The widths of a set: `width` from the length `threshold` on.
+#[derive(Clone, Copy, Debug, PartialEq, Eq)]
+struct Widths {
+    threshold: usize,
+    width: usize,
 }
 
-// A set's width.
-fn width_of(set: WidthSet) -> usize
-    ensures { result ≡ (widths_of set).width }
+// Those of a set.
+fn widths_of(set: WidthSet) -> Widths
+    ensures threshold { result.threshold ≡ (widths_of set).threshold }
+    ensures width { result.width ≡ (widths_of set).width }
 {
     match set {
-        WidthSet::Present => 8,
-        WidthSet::Wide => 32,
+        WidthSet::Present => Widths {
+            threshold: 16,
+            width: 8,
+        },
+        WidthSet::Wide => Widths {
+            threshold: 64,
+            width: 32,
+        },
     }
 }
 
@@ -46,8 +52,9 @@ fn width_of(set: WidthSet) -> usize
 pub fn fold_tree_width(set: WidthSet, len: usize) -> usize
     ensures { result ≡ width_for (widths_of set) len }
 {
-    if len >= threshold_of(set) {
-        return width_of(set);
+    let widths = widths_of(set);
+    if len >= widths.threshold {
+        return widths.width;
     }
     if len >= 2 {
         return 2;
@@ -56,19 +63,19 @@ pub fn fold_tree_width(set: WidthSet, len: usize) -> usize
 }
 
 // Question 4, for records: is n from 1 to 20 and k at most 4?
-pub fn size_number(n: usize, k: usize) -> u32
-    ensures { result ≡ size_number n k }
+pub fn size_questions(n: usize, k: usize) -> Result<(), Refusal>
+    ensures { answered result ≡ size_number n k }
 {
     if n > 20 {
-        return 4;
+        return Err(Refusal::Parameters);
     }
     if k > 4 {
-        return 4;
+        return Err(Refusal::Parameters);
     }
     if n < 1 {
-        return 4;
+        return Err(Refusal::Parameters);
     }
-    0
+    Ok(())
 }
 
 // How many values level l has.
@@ -100,7 +107,11 @@ pub fn level_depth(set: WidthSet, n: usize, k: usize, l: usize) -> usize
     requires { (n + k ≤ 24) × (l ≤ n) }
     ensures { result ≡ level_depth (widths_of set) n k l }
 {
-    depth_of(level_length(n, k, l), level_width(set, n, k, l))
+    let shape = Shape {
+        count: level_length(n, k, l),
+        width: level_width(set, n, k, l),
+    };
+    shape.depth()
 }
 
 // How many words the levels have: twice as many as the first, less the last.
@@ -117,10 +128,8 @@ pub fn trees_size(set: WidthSet, n: usize, k: usize) -> usize
     ensures { result ≡ 32 * tree_start (widths_of set) n k (suc n) }
 {
     let mut digests: usize = 0;
-    let mut l: usize = 0;
-    while l <= n {
+    for l in 0..n + 1 {
         digests += 2 * level_groups(set, n, k, l) - 1;
-        l += 1;
     }
     32 * digests
 }
@@ -130,7 +139,7 @@ fn digit_of(d: usize) -> u8
     requires { d < 10 }
     ensures { result ≡ digit d }
 {
-    48 + d as u8
+    b'0' + d as u8
 }
 
 // A number below 100 in decimal, without leading zeros.

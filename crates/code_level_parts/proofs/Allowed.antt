@@ -128,6 +128,16 @@ leaves-allowed s p n k l domain first values out w small d v whole within =
     yes_all (leaves_questions domain count width first values out)
     (y.0, (y.1.0, (y.1.1.0, (y.1.1.1.0, (le-leb _ _ within, (y.1.1.1.1.0, (eq-eqb _ _ whole, tt)))))))
 
+pub leaves-unrefused : (how : Trees) {n k l first : ℕ} (base : List ℕ) {domain : List ℕ} {halves out count width q : ℕ}
+    → LeavesFit (widths_of how.set) n k l (length base) first halves out
+    → domain ≡ level_domain base l → count ≡ level_length n k l → width ≡ level_width (widths_of how.set) n k l
+    → q ≡ leaves_number (length domain) count width first halves out → q ≡ 0
+leaves-unrefused how {n} {k} {l} {first} base {halves = halves} {out = out} y ed ec ew e =
+    let d : length (level_domain base l) ≤ 255 = omega (arith, level_domain-fits base l y.base_le (omega (arith, y.small, y.level-le))) in
+    let w : (widths_of how.set).width ≤ 512 = omega (arith, narrow how.set) in
+    let z = leaves-allowed (widths_of how.set) (powers how.set) n k l _ first halves out w y.small d y.values_are y.whole y.within in
+    (rw (ed, ec, ew) at e) ∙ z
+
 pub leaves-built : (how : Trees) {n k l first : ℕ} (base values : List ℕ) {domain : List ℕ} {halves count width : ℕ} (out : List ℕ) {t : List ℕ}
     → LeavesFit (widths_of how.set) n k l (length base) first halves (length out)
     → domain ≡ level_domain base l → count ≡ level_length n k l → width ≡ level_width (widths_of how.set) n k l
@@ -160,6 +170,12 @@ parents-allowed : (domain children out : ℕ) → domain ≤ 255 → children % 
 unfolding parents_number
 parents-allowed domain children out d pairs half =
     yes_all (parents_questions domain children out) (eq-eqb _ _ pairs, (eq-eqb _ _ half, (le-leb _ _ d, tt)))
+
+pub parents-unrefused : {l : ℕ} (base : List ℕ) {domain : List ℕ} {children out q : ℕ} → ParentsFit l (length base) children out
+    → domain ≡ level_domain base l → q ≡ parents_number (length domain) children out → q ≡ 0
+parents-unrefused {l} base {children = children} {out = out} y ed e =
+    let d : length (level_domain base l) ≤ 255 = omega (arith, level_domain-fits base l y.base_le (omega (arith, y.level-le))) in
+    (rw ed at e) ∙ parents-allowed (length (level_domain base l)) children out d y.pairs y.out_is
 
 pub parents-built : (H : List ℕ → List ℕ) {l : ℕ} (height : ℕ) (base children : List ℕ) {domain : List ℕ} (out : List ℕ) {t : List ℕ}
     → ParentsFit l (length base) (length children) (length out) → domain ≡ level_domain base l

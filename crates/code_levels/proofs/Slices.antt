@@ -2,6 +2,7 @@
 use Prim.Native.Nat.{ℕ, zero, suc, ◌+◌, ◌-◌, ◌*◌, ◌<◌, ◌≤◌}
 use mathlib.Core.Path.{◌≡◌, refl, sym, ◌∙◌, ap, ap₂}
 use mathlib.Core.Bool.{Bool, true, false}
+use Rattle.std.specs.Prelude.{Result, Ok, Err}
 use mathlib.Core.List.{List, ◌++◌}
 use native.Mathlib.Omega.{arith}
 use borrow.Author.Tests.{eqb-true}
@@ -14,8 +15,9 @@ use Rattle.theory_laws.proofs.Lists.{length_part}
 use Rattle.theory_field.specs.Words.{words}
 use Rattle.theory_multilinear.specs.Fold.{fold_list}
 use Rattle.theory_code.specs.Questions.{fold_number}
-use Rattle.code_codeword.specs.Answers.{folded_of}
-use Rattle.code_codeword.specs.declared.Folded.{Folded}
+use Rattle.theory_laws.specs.Refusals.{answered}
+use Rattle.theory_laws.specs.declared.Refusal.{Refusal}
+use Rattle.code_codeword.specs.Answers.{Folded, folded, folded_of}
 use Rattle.theory_record.specs.Widths.{level_length}
 use Rattle.theory_record.specs.Build.{level_start}
 use Rattle.theory_record.proofs.Offsets.{level-halves, level-le}
@@ -47,11 +49,15 @@ number_of n q = go (eqb q 0) refl
     go true e = sym (eqb-true q 0 e)
     go false e = refl
 
-pub fold-number : (m k original var : ℕ) (list : List ℕ) (size : ℕ) {src out room : ℕ} {a : Folded}
-    → a ≡ folded_of m (fold_number m k original var list src out) → src ≡ 2 * size → out ≡ room
-    → a.number ≡ fold_number m k original var list (2 * size) room
-fold-number m k original var list size {src} {out} e f g =
-    ap (λ (x : Folded). x.number) e ∙ number_of m (fold_number m k original var list src out)
+numbered : (a : Result ℕ Refusal) → answered a ≡ (folded a).number
+numbered (Ok m) = refl
+numbered (Err e) = refl
+
+pub fold-number : (m k original var : ℕ) (list : List ℕ) (size : ℕ) {src out room : ℕ} (a : Result ℕ Refusal)
+    → folded a ≡ folded_of m (fold_number m k original var list src out) → src ≡ 2 * size → out ≡ room
+    → answered a ≡ fold_number m k original var list (2 * size) room
+fold-number m k original var list size {src} {out} a e f g =
+    numbered a ∙ ap (λ (x : Folded). x.number) e ∙ number_of m (fold_number m k original var list src out)
     ∙ ap₂ (λ (x y : ℕ). fold_number m k original var list x y) f g
 
 -- what it leaves in the front of its buffer

@@ -4,6 +4,7 @@
 
 ghost use Rattle.std.specs.Prelude.{◌≡◌, ◌*◌, ◌<◌, ◌≤◌, length, take, drop};
 ghost use Rattle.theory_laws.specs.Questions.{on_done};
+ghost use Rattle.theory_laws.specs.Refusals.{answered};
 ghost use Rattle.theory_field.specs.Words.{words};
 ghost use Rattle.field_gf128.specs.Word.{word};
 ghost use Rattle.theory_code.specs.Questions.{fold_number};
@@ -14,6 +15,7 @@ ghost use Rattle.code_levels.specs.helpers.Levels.{laid, level_folded, LevelLent
 use code_level::level_length;
 use field_gf128::Word;
 use field_words::copy;
+use theory_laws::Refusal;
 
 // What `fold` answers to a call on level l, which starts at the half `from`, with its list: a call of any n, k and original n, cn, ck and original, at any
 // variable, by r, lent the first `room` halves of `half`.
@@ -31,16 +33,16 @@ pub fn fold_level(
     coordinates: &mut [usize],
     levels: &[u64],
     half: &mut [u64],
-) -> u32
+) -> Result<usize, Refusal>
     requires { LevelLent n k l from (length levels.now) (length half.old) × (room ≤ length half.old) }
-    ensures value { result ≡ fold_number cn ck original var coordinates.old (2 * level_length n k l) room }
-    ensures coordinates_after { coordinates.new ≡ on_done result (dropped_of var coordinates.old) coordinates.old }
+    ensures value { answered result ≡ fold_number cn ck original var coordinates.old (2 * level_length n k l) room }
+    ensures coordinates_after { coordinates.new ≡ on_done (answered result) (dropped_of var coordinates.old) coordinates.old }
     ensures half_after { words (take room half.new)
-        ≡ on_done result (level_folded n k l var (word r) levels.now) (words (take room half.old)) }
+        ≡ on_done (answered result) (level_folded n k l var (word r) levels.now) (words (take room half.old)) }
     ensures half_unchanged { drop room half.new ≡ drop room half.old }
 {
     let to = from + 2 * level_length(n, k, l);
-    let a = code_codeword::fold(
+    code_codeword::fold(
         cn,
         ck,
         original,
@@ -49,8 +51,7 @@ pub fn fold_level(
         coordinates,
         &levels[from..to],
         &mut half[..room],
-    );
-    a.number
+    )
 }
 
 // The front of `half` laid as level l, which starts at the half `from`.

@@ -12,7 +12,7 @@ use Rattle.theory_laws.proofs.Numbers.{lt_or_le, pow-two}
 use Rattle.theory_laws.proofs.Questions.{all_yes}
 use Rattle.theory_code.specs.Questions.{sized, lent}
 use Rattle.theory_code.specs.PartQuestions.{block_number, half_number, fold_part_number}
-use Rattle.code_codeword.specs.helpers.Sizes.{EncodeSizes}
+use Rattle.code_codeword.specs.helpers.Sizes.{ShiftSizes, EncodeSizes}
 use Rattle.code_codeword.proofs.Lengths.{has_bit, pow-halved}
 use Rattle.code_parts.specs.helpers.FoldPart.{PartFits}
 use Rattle.code_parts.specs.helpers.Half.{number_within, HalfSizes}
@@ -76,19 +76,21 @@ no_half n k half table gammas out h = rw (lt-leb 1 n h)
 
 -- half a block that is not refused
 pub half-sizes : (n k half table gammas out number : ℕ) → number ≡ half_number n k half table gammas out → number ≡ 0
-    → HalfSizes n k half table gammas out
+    → ShiftSizes n k gammas × HalfSizes n k half table out
 half-sizes n k half table gammas out number e z =
     ⊎_elim (λ (h : n < 1). absurd (omega (arith, e ∙ sym (no_half n k half table gammas out h)))) done (lt_or_le n 1)
   where
-    done : 1 ≤ n → HalfSizes n k half table gammas out
+    done : 1 ≤ n → ShiftSizes n k gammas × HalfSizes n k half table out
     done h =
-        let w = within-sizes (n - 1) n k (half / 2) table gammas out number (e ∙ sym (half-within n k half table gammas out h)) z in
-        record {
-          sizes = w.sizes;
-          some = h;
-          out= = w.out=;
-          below = ltb-true half (2 ^ (k + 1)) (sym (half-below k half) ∙ lt-ltb (half / 2) (2 ^ k) w.below);
-        }
+        let w = within-sizes (n - 1) n k (half / 2) table gammas out number (e ∙ sym (half-within n k half table gammas out h)) z in (
+          w.sizes.shifts,
+          record {
+            table= = w.sizes.table=;
+            some = h;
+            out= = w.out=;
+            below = ltb-true half (2 ^ (k + 1)) (sym (half-below k half) ∙ lt-ltb (half / 2) (2 ^ k) w.below);
+          },
+        )
 
 -- ---- a part of a fold
 

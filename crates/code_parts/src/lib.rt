@@ -4,21 +4,22 @@
 #![tactic(auto)]
 
 ghost use Rattle.std.specs.Prelude.{◌≡◌, ◌+◌, ◌-◌, ◌*◌, ◌/◌, ◌^◌, ◌≤◌, ◌<◌, leb, ltb, length};
-ghost use Rattle.theory_laws.specs.Questions.{on_done};
+ghost use Rattle.theory_laws.specs.Refusals.{answered};
 ghost use Rattle.theory_laws.specs.Lists.{part};
 ghost use Rattle.theory_field.specs.Words.{words};
 ghost use Rattle.field_gf128.specs.Word.{word};
 ghost use Rattle.theory_code.specs.PartQuestions.{block_number, half_number, fold_part_number};
 ghost use Rattle.code_parts.specs.Parts.{part_of_codeword, block_into, half_into, part_of_fold, fold_part_into};
-ghost use Rattle.field_multiples.specs.helpers.Multiples.{Room, Ready};
+ghost use Rattle.field_multiples.specs.helpers.Multiples.{Room};
 ghost use Rattle.code_parts.specs.helpers.FoldPart.{PartFits};
 ghost use Rattle.code_parts.specs.helpers.Half.{number_within, HalfSizes};
 
+use code_codeword::Code;
 use code_codeword::sizes::{holds, power};
-use code_codeword::{coordinate, encode_block, shift_table};
 use field_gf128::Word;
-use field_multiples::Kernel;
+use field_multiples::{Kernel, Table};
 use field_words::copy;
+use theory_laws::Refusal;
 use tree_place::ends_within;
 
 // ---- a block of the codeword
@@ -31,8 +32,8 @@ fn is_block(k: usize, eps: usize) -> bool
     eps < power(k)
 }
 
-// The number that an entry answers which makes 2^m words of block eps.
-fn number_within(
+// The questions of an entry that makes 2^m words of block eps.
+fn questions_within(
     m: usize,
     n: usize,
     k: usize,
@@ -40,29 +41,29 @@ fn number_within(
     table: usize,
     gammas: usize,
     out: usize,
-) -> u32
+) -> Result<(), Refusal>
     requires { m ≤ n }
-    ensures { result ≡ number_within m n k eps table gammas out }
+    ensures { answered result ≡ number_within m n k eps table gammas out }
 {
     if n > 20 {
-        return 4;
+        return Err(Refusal::Parameters);
     }
     if k > 4 {
-        return 4;
+        return Err(Refusal::Parameters);
     }
     if !holds(table, n) {
-        return 5;
+        return Err(Refusal::Length);
     }
     if gammas != 2 * (k * n) {
-        return 5;
+        return Err(Refusal::Length);
     }
     if !holds(out, m) {
-        return 5;
+        return Err(Refusal::Length);
     }
     if !is_block(k, eps) {
-        return 11;
+        return Err(Refusal::Place);
     }
-    0
+    Ok(())
 }
 
 // Block eps of the codeword of a table of 2^n words: entries eps × 2^n to eps × 2^n + 2^n − 1 of what `encode` makes. It refuses n past 20 or
@@ -74,31 +75,36 @@ pub fn codeword_block(
     table: &[u64],
     gammas: &[u64],
     out: &mut [u64],
-) -> u32
-    ensures value { result ≡ block_number n k eps (length table.now) (length gammas.now) (length out.old) }
-    ensures out_after { words out.new ≡ block_into result n k gammas.now eps table.now out.old }
+) -> Result<(), Refusal>
+    ensures value { answered result ≡ block_number n k eps (length table.now) (length gammas.now) (length out.old) }
+    ensures out_after { words out.new ≡ block_into (answered result) n k gammas.now eps table.now out.old }
 {
     // Room for the products of the block's passes, made before the questions are put: docs/DECISIONS.md, 54.
     let mut multiples = [0u64; 8192];
-    let number = number_within(n, n, k, eps, table.len(), gammas.len(), out.len());
-    if number != 0 {
-        return number;
-    }
+    questions_within(n, n, k, eps, table.len(), gammas.len(), out.len())?;
     field_runs::align(&mut multiples, table);
-    encode_block(n, k, eps, table, gammas, out, &mut multiples);
-    0
+    let code = Code { n, k, gammas };
+    code.encode_block(eps, table, out, &mut multiples);
+    Ok(())
 }
 
 // ---- half a block
 
-// The number that `codeword_half` answers.
-fn half_number(n: usize, k: usize, half: usize, table: usize, gammas: usize, out: usize) -> u32
-    ensures { result ≡ half_number n k half table gammas out }
+// The questions of `codeword_half`.
+fn half_questions(
+    n: usize,
+    k: usize,
+    half: usize,
+    table: usize,
+    gammas: usize,
+    out: usize,
+) -> Result<(), Refusal>
+    ensures { answered result ≡ half_number n k half table gammas out }
 {
     if n < 1 {
-        return 4;
+        return Err(Refusal::Parameters);
     }
-    number_within(n - 1, n, k, half / 2, table, gammas, out)
+    questions_within(n - 1, n, k, half / 2, table, gammas, out)
 }
 
 // Half 0 or 1 of a table.
@@ -114,46 +120,30 @@ fn copy_half(half: usize, table: &[u64], out: &mut [u64])
 
 // A half of any block: the table folded at its last variable, by the bit that says which half it is plus L(eps) there, and then shifted by the
 // coordinates that are left.
-fn shift_half(
-    n: usize,
-    k: usize,
-    half: usize,
-    table: &[u64],
-    gammas: &[u64],
-    out: &mut [u64],
-    multiples: &mut [u64],
-)
-    requires { HalfSizes n k half (length table.now) (length gammas.now) (length out.old) × Room multiples.old }
-    ensures { words out.new ≡ part_of_codeword (n - 1) n k gammas.now half table.now }
+fn shift_half(code: &Code, half: usize, table: &[u64], out: &mut [u64], multiples: &mut [u64])
+    requires { HalfSizes code.now.n code.now.k half (length table.now) (length out.old) × Room multiples.old }
+    ensures { words out.new ≡ part_of_codeword (code.now.n - 1) code.now.n code.now.k code.now.gammas.now half table.now }
 {
     let eps = half / 2;
-    let last = n - 1;
+    let last = code.n - 1;
     let bit = Word {
         lo: (half % 2) as u64,
         hi: 0,
     };
-    let r = field_gf128::add(bit, coordinate(n, k, eps, gammas, last));
+    let r = field_gf128::add(bit, code.coordinate(eps, last));
     field_runs::fold(out, table, last as u64, r, multiples);
-    shift_table(0, last, n, k, eps, gammas, out, multiples);
+    code.shift_table(0, last, eps, out, multiples);
 }
 
 // Half a block, once the questions are answered: those of block 0 are the table's.
-fn encode_half(
-    n: usize,
-    k: usize,
-    half: usize,
-    table: &[u64],
-    gammas: &[u64],
-    out: &mut [u64],
-    multiples: &mut [u64],
-)
-    requires { HalfSizes n k half (length table.now) (length gammas.now) (length out.old) × Room multiples.old }
-    ensures { words out.new ≡ part_of_codeword (n - 1) n k gammas.now half table.now }
+fn encode_half(code: &Code, half: usize, table: &[u64], out: &mut [u64], multiples: &mut [u64])
+    requires { HalfSizes code.now.n code.now.k half (length table.now) (length out.old) × Room multiples.old }
+    ensures { words out.new ≡ part_of_codeword (code.now.n - 1) code.now.n code.now.k code.now.gammas.now half table.now }
 {
     if half < 2 {
         copy_half(half, table, out);
     } else {
-        shift_half(n, k, half, table, gammas, out, multiples);
+        shift_half(code, half, table, out, multiples);
     }
 }
 
@@ -167,19 +157,17 @@ pub fn codeword_half(
     table: &[u64],
     gammas: &[u64],
     out: &mut [u64],
-) -> u32
-    ensures value { result ≡ half_number n k half (length table.now) (length gammas.now) (length out.old) }
-    ensures out_after { words out.new ≡ half_into result n k gammas.now half table.now out.old }
+) -> Result<(), Refusal>
+    ensures value { answered result ≡ half_number n k half (length table.now) (length gammas.now) (length out.old) }
+    ensures out_after { words out.new ≡ half_into (answered result) n k gammas.now half table.now out.old }
 {
     // Made before the questions are put: docs/DECISIONS.md, 54.
     let mut multiples = [0u64; 8192];
-    let number = half_number(n, k, half, table.len(), gammas.len(), out.len());
-    if number != 0 {
-        return number;
-    }
+    half_questions(n, k, half, table.len(), gammas.len(), out.len())?;
     field_runs::align(&mut multiples, table);
-    encode_half(n, k, half, table, gammas, out, &mut multiples);
-    0
+    let code = Code { n, k, gammas };
+    encode_half(&code, half, table, out, &mut multiples);
+    Ok(())
 }
 
 // ---- a part of a fold
@@ -192,54 +180,57 @@ fn is_part(first: usize, m: usize, e: usize) -> bool
     ends_within(first, m, power(e) / 2)
 }
 
-// The number that `fold_part` answers.
-fn fold_part_number(n: usize, k: usize, var: usize, first: usize, src: usize, out: usize) -> u32
-    ensures { result ≡ fold_part_number n k var first src out }
+// The questions of `fold_part`.
+fn fold_part_questions(
+    n: usize,
+    k: usize,
+    var: usize,
+    first: usize,
+    src: usize,
+    out: usize,
+) -> Result<(), Refusal>
+    ensures { answered result ≡ fold_part_number n k var first src out }
 {
     if n > 20 {
-        return 4;
+        return Err(Refusal::Parameters);
     }
     if k > 4 {
-        return 4;
+        return Err(Refusal::Parameters);
     }
     if !holds(src, n + k) {
-        return 5;
+        return Err(Refusal::Length);
     }
     if out % 2 != 0 {
-        return 5;
+        return Err(Refusal::Length);
     }
     if var >= n {
-        return 6;
+        return Err(Refusal::Variable);
     }
     if !is_part(first, out / 2, n + k) {
-        return 11;
+        return Err(Refusal::Place);
     }
-    0
+    Ok(())
 }
 
-// a + r × (a + b) for the pairs from pair `first` on, by windows of `bits` bits.
-fn fold_entries(
+// a + r × (a + b) for the pairs from pair `first` on, by the table of r's multiples.
+fn fold_entries<const BITS: u64>(
     var: usize,
     first: usize,
     src: &[u64],
     out: &mut [u64],
-    t: &[u64],
-    bits: u64,
-    r: Word,
+    by: Table<'_, BITS>,
 )
-    requires { PartFits var first (length src.now) (length out.old) × Ready bits (word r) t.now }
-    ensures { words out.new ≡ part_of_fold (length out.old / 2) first var (word r) src.now }
+    requires { PartFits var first (length src.now) (length out.old) }
+    ensures { words out.new ≡ part_of_fold (length out.old / 2) first var (word by.entry.factor) src.now }
 {
     let half: usize = 1 << var;
     let m = out.len() / 2;
-    let mut v: usize = 0;
-    while v < m {
+    for v in 0..m {
         let lo = field_runs::first(first + v, half);
         let a = field_words::get(src, lo);
         let b = field_words::get(src, lo + half);
-        let p = field_runs::line_at(t, bits, r, a, b);
+        let p = field_runs::line_at(by, a, b);
         field_words::put(out, v, p);
-        v += 1;
     }
 }
 
@@ -250,8 +241,8 @@ fn put_fold_part(var: usize, r: Word, first: usize, src: &[u64], out: &mut [u64]
 {
     field_runs::align(t, src);
     match field_multiples::prepare(t, out.len() / 2, r) {
-        Kernel::Nibbles => fold_entries(var, first, src, out, t, 4, r),
-        Kernel::Bytes => fold_entries(var, first, src, out, t, 8, r),
+        Kernel::Nibbles => fold_entries::<4>(var, first, src, out, Table::of(t, r)),
+        Kernel::Bytes => fold_entries::<8>(var, first, src, out, Table::of(t, r)),
     }
 }
 
@@ -266,16 +257,13 @@ pub fn fold_part(
     first: usize,
     src: &[u64],
     out: &mut [u64],
-) -> u32
-    ensures value { result ≡ fold_part_number n k var first (length src.now) (length out.old) }
-    ensures out_after { words out.new ≡ fold_part_into result first var (word r) src.now out.old }
+) -> Result<(), Refusal>
+    ensures value { answered result ≡ fold_part_number n k var first (length src.now) (length out.old) }
+    ensures out_after { words out.new ≡ fold_part_into (answered result) first var (word r) src.now out.old }
 {
     // Made before the questions are put: docs/DECISIONS.md, 54.
     let mut multiples = [0u64; 8192];
-    let number = fold_part_number(n, k, var, first, src.len(), out.len());
-    if number != 0 {
-        return number;
-    }
+    fold_part_questions(n, k, var, first, src.len(), out.len())?;
     put_fold_part(var, r, first, src, out, &mut multiples);
-    0
+    Ok(())
 }

@@ -6,7 +6,7 @@ ghost use Rattle.theory_record.specs.Profiles.{FastChunk, Balanced, CompactWrap,
 ghost use Rattle.theory_record.specs.Profiles.{No, default_parameters, checked_under, written_under};
 ghost use Rattle.code_profile.specs.Meaning.{parameters, profile, named};
 
-#[derive(Clone, Copy)]
+#[derive(Clone, Copy, Debug, PartialEq, Eq)]
 pub enum Profile {
     FastChunk,
     Balanced,
@@ -15,15 +15,9 @@ pub enum Profile {
     FirstDefault,
 }
 
-// The profile that a seal or its writer names, if any.
-#[derive(Clone, Copy)]
-pub enum Named {
-    No,
-    Yes(Profile),
-}
-
-// k, how many queries, and the base domain: the first `length` bytes of `domain`, zeros after them.
-#[derive(Clone, Copy)]
+// k, how many queries, and the base domain: the first `length` bytes of `domain`, zeros after them. The 24 bytes are those of the C interface, which
+// hands over no address of them.
+#[derive(Clone, Copy, Debug, PartialEq, Eq)]
 pub struct Parameters {
     pub k: usize,
     pub queries: usize,
@@ -31,76 +25,54 @@ pub struct Parameters {
     pub length: usize,
 }
 
+const DEFAULT: Parameters = Parameters {
+    k: 2,
+    queries: 40,
+    domain: *b"magnetar/pcs/default\0\0\0\0",
+    length: 20,
+};
+
+const FAST_CHUNK: Parameters = Parameters {
+    k: 1,
+    queries: 40,
+    domain: *b"magnetar/pcs/fastchunk\0\0",
+    length: 22,
+};
+
+const BALANCED: Parameters = Parameters {
+    k: 2,
+    queries: 40,
+    domain: *b"magnetar/pcs/balanced\0\0\0",
+    length: 21,
+};
+
+const COMPACT_WRAP: Parameters = Parameters {
+    k: 3,
+    queries: 20,
+    domain: *b"magnetar/pcs/compactwrap",
+    length: 24,
+};
+
+const DEEP_WRAP: Parameters = Parameters {
+    k: 4,
+    queries: 14,
+    domain: *b"magnetar/pcs/deepwrap\0\0\0",
+    length: 21,
+};
+
+// What the default was before it had k 2.
+const FIRST_DEFAULT: Parameters = Parameters {
+    k: 1,
+    queries: 40,
+    domain: *b"magnetar/pcs/default\0\0\0\0",
+    length: 20,
+};
+
 // k 2, 40 queries, "magnetar/pcs/default".
 pub fn default_parameters() -> Parameters
     ensures { parameters result ≡ fields_of default_parameters }
 {
-    Parameters {
-        k: 2,
-        queries: 40,
-        domain: *b"magnetar/pcs/default\0\0\0\0",
-        length: 20,
-    }
-}
-
-// k 1, 40 queries, "magnetar/pcs/fastchunk".
-fn fastchunk() -> Parameters
-    ensures { parameters result ≡ fields_of (parameters_of FastChunk) }
-{
-    Parameters {
-        k: 1,
-        queries: 40,
-        domain: *b"magnetar/pcs/fastchunk\0\0",
-        length: 22,
-    }
-}
-
-// k 2, 40 queries, "magnetar/pcs/balanced".
-fn balanced() -> Parameters
-    ensures { parameters result ≡ fields_of (parameters_of Balanced) }
-{
-    Parameters {
-        k: 2,
-        queries: 40,
-        domain: *b"magnetar/pcs/balanced\0\0\0",
-        length: 21,
-    }
-}
-
-// k 3, 20 queries, "magnetar/pcs/compactwrap".
-fn compactwrap() -> Parameters
-    ensures { parameters result ≡ fields_of (parameters_of CompactWrap) }
-{
-    Parameters {
-        k: 3,
-        queries: 20,
-        domain: *b"magnetar/pcs/compactwrap",
-        length: 24,
-    }
-}
-
-// k 4, 14 queries, "magnetar/pcs/deepwrap".
-fn deepwrap() -> Parameters
-    ensures { parameters result ≡ fields_of (parameters_of DeepWrap) }
-{
-    Parameters {
-        k: 4,
-        queries: 14,
-        domain: *b"magnetar/pcs/deepwrap\0\0\0",
-        length: 21,
-    }
-}
-
-// k 1, 40 queries, "magnetar/pcs/default": what the default was before it had k 2.
-fn firstdefault() -> Parameters
-    ensures { parameters result ≡ fields_of (parameters_of FirstDefault) }
-{
-    Parameters {
-        k: 1,
-        queries: 40,
-        domain: *b"magnetar/pcs/default\0\0\0\0",
-        length: 20,
-    }
+    DEFAULT
 }
 
 // The parameters of a profile.
@@ -108,11 +80,11 @@ pub fn parameters_of(p: Profile) -> Parameters
     ensures { parameters result ≡ fields_of (parameters_of (profile p)) }
 {
     match p {
-        Profile::FastChunk => fastchunk(),
-        Profile::Balanced => balanced(),
-        Profile::CompactWrap => compactwrap(),
-        Profile::DeepWrap => deepwrap(),
-        Profile::FirstDefault => firstdefault(),
+        Profile::FastChunk => FAST_CHUNK,
+        Profile::Balanced => BALANCED,
+        Profile::CompactWrap => COMPACT_WRAP,
+        Profile::DeepWrap => DEEP_WRAP,
+        Profile::FirstDefault => FIRST_DEFAULT,
     }
 }
 
@@ -120,29 +92,25 @@ pub fn parameters_of(p: Profile) -> Parameters
 pub fn unnamed_parameters(older: bool) -> Parameters
     ensures { parameters result ≡ fields_of (checked_under No older) }
 {
-    if older {
-        firstdefault()
-    } else {
-        default_parameters()
-    }
+    if older { FIRST_DEFAULT } else { DEFAULT }
 }
 
-// Under which parameters a seal is checked: those of the profile that it names, or else those of a seal that names none.
-pub fn seal_parameters(name: Named, older: bool) -> Parameters
+// Under which parameters a seal is checked: those of the profile that it names, if it names one, or else those of a seal that names none.
+pub fn seal_parameters(name: Option<Profile>, older: bool) -> Parameters
     ensures { parameters result ≡ fields_of (checked_under (named name) older) }
 {
     match name {
-        Named::Yes(p) => parameters_of(p),
-        Named::No => unnamed_parameters(older),
+        Some(p) => parameters_of(p),
+        None => unnamed_parameters(older),
     }
 }
 
 // Under which parameters a seal is written: those of the profile that its writer names, or else the default's.
-pub fn writer_parameters(name: Named) -> Parameters
+pub fn writer_parameters(name: Option<Profile>) -> Parameters
     ensures { parameters result ≡ fields_of (written_under (named name)) }
 {
     match name {
-        Named::Yes(p) => parameters_of(p),
-        Named::No => default_parameters(),
+        Some(p) => parameters_of(p),
+        None => DEFAULT,
     }
 }

@@ -1,8 +1,10 @@
 -- A level of two records: its groups and paths are in the records, and what is found at their places is what is found of the levels read there.
 use Prim.Native.Nat.{ℕ, suc, ◌+◌, ◌-◌, ◌*◌, ◌<◌, ◌≤◌}
-use mathlib.Core.Path.{◌≡◌, sym, ◌∙◌}
-use mathlib.Core.Bool.{Bool, true, false}
+use mathlib.Core.Path.{◌≡◌, refl, sym, ◌∙◌}
+use mathlib.Core.Bool.{true}
 use mathlib.Core.List.{List}
+use Rattle.std.specs.Prelude.{Option, Some, None, IsSome}
+use Rattle.compare_pick.proofs.Picked.{picked_first, picked_none, picked_later}
 use native.Mathlib.Omega.{arith}
 use native.Mathlib.Numerals.{add-one}
 use lib.ListN.{length, drop}
@@ -11,38 +13,39 @@ use Rattle.theory_record.specs.Query.{pair_of}
 use Rattle.theory_record.proofs.Query.{Holds, AllHold, QueryAccepted}
 use Rattle.record_reader.specs.helpers.Places.{level_at}
 use Rattle.record_reader.specs.declared.Level.{Level}
-use Rattle.record_reader.proofs.Places.{level-places}
+use Rattle.record_reader.proofs.Places.{level-places, level-here}
 use Rattle.record_opening.specs.helpers.Opening.{values_at, digests_at, Readable, Sized}
 use Rattle.record_opening.proofs.Numbers.{length-values, length-digests}
 use Rattle.record_query_check.specs.helpers.Level.{Allowed, Whole}
 use Rattle.record_query_check.proofs.Level.{pair_small, level-room}
-use Rattle.record_query_check.proofs.Loop.{begin_within, begin_whole, level-there, rest-there}
+use Rattle.record_query_check.proofs.Loop.{begin_within, begin_whole, rest-there}
 use Rattle.theory_compare.specs.Compare.{pair_found}
 use Rattle.compare_opening.specs.helpers.Messages.{found_at}
 use Rattle.compare_pick.specs.helpers.Chains.{Picked}
-use Rattle.compare_levels.specs.helpers.Levels.{path_found, places_found, LevelSized}
+use Rattle.compare_levels.specs.helpers.Levels.{places_found, LevelSized}
 use Rattle.theory_record.specs.Scheme.{Scheme, width_at, depth_at}
 
-pub places-found : (S : Scheme) (l q : ℕ) (s : List ℕ) (i : ℕ) (x : Level) (t : List ℕ) (j : ℕ) (y : Level) → x ≡ level_at s i → y ≡ level_at t j
+pub places-found : (S : Scheme) (l q : ℕ) (s : List ℕ) (i : ℕ) (x : Level) (t : List ℕ) (j : ℕ) (y : Level) → Some x ≡ level_at s i → Some y ≡ level_at t j
     → places_found S l q s x t y ≡ pair_found S l q (level_read (drop i s)) (level_read (drop j t))
-unfolding places_found path_found pair_found values_at digests_at level_read
+unfolding places_found pair_found values_at digests_at level_read
 places-found S l q s i x t j y ex ey =
     let p = level-places s i x ex in
     let r = level-places t j y ey in
     rw (add-one, p.a_group, p.a_path_there, p.c_group, p.c_path_there, r.a_group, r.a_path_there, r.c_group, r.c_path_there)
 
--- path c, or path a
-module _ (S : Scheme) (l q : ℕ) {next : Bool} (s : List ℕ) (x : Level) (t : List ℕ) (y : Level) {old old' new new' : List ℕ} {r : ℕ} where
-  pub path-c : next ≡ true → Picked (found_at S (l + 1) q s x.c_group_at x.c_path_at t y.c_group_at y.c_path_at) old old' new new' r
-      → Picked (path_found S l q next s x t y) old old' new new' r
-  unfolding path_found
-  path-c e p = rw e p
+-- what was picked at path a, or, where nothing was, at path c
+module _ (S : Scheme) (l q : ℕ) (s : List ℕ) (x : Level) (t : List ℕ) (y : Level) {old old' mid mid' : List ℕ} {first : ℕ} (e : first ≡ 2 * q) where
+  pub at-path-a : {m : ℕ} → Picked (found_at S l first s x.a.group_at x.a.path_at t y.a.group_at y.a.path_at) old old' mid mid' (Some m)
+      → Picked (places_found S l q s x t y) old old' mid mid' (Some m)
+  unfolding places_found
+  at-path-a p = picked_first _ _ _ _ _ _ _ (rw e at p)
 
-  pub path-a : {first : ℕ} → first ≡ 2 * q → next ≡ false
-      → Picked (found_at S l first s x.a_group_at x.a_path_at t y.a_group_at y.a_path_at) old old' new new' r
-      → Picked (path_found S l q next s x t y) old old' new new' r
-  unfolding path_found
-  path-a ef e p = rw (e, ← ef) p
+  pub at_path_c : {new new' : List ℕ} {r : Option ℕ}
+      → Picked (found_at S l first s x.a.group_at x.a.path_at t y.a.group_at y.a.path_at) old old' mid mid' None
+      → Picked (found_at S (l + 1) q s x.c.group_at x.c.path_at t y.c.group_at y.c.path_at) mid mid' new new' r
+      → Picked (places_found S l q s x t y) old old' new new' r
+  unfolding places_found
+  at_path_c p = picked_later _ _ _ _ _ _ _ _ _ (picked_none _ _ _ _ _ (rw e at p))
 
 -- what is left of an accepted record, from level l on, which starts at this place: it is there, and 16 to 26 hold of each level
 pub record Rest (S : Scheme) (position l : ℕ) (s : List ℕ) (i : ℕ) : Type 0 where
@@ -82,7 +85,7 @@ sized_by : {S : Scheme} {l : ℕ} {s : List ℕ} {group path : ℕ} → Readable
 sized_by {s = s} {group = group} {path = path} r w d =
     record { readable = r; width_is = sym (length-values s group) ∙ w; depth_is = sym (length-digests s path) ∙ d }
 
-module _ {S : Scheme} {position l : ℕ} {s : List ℕ} {i : ℕ} (v : Level) (z : Rest S position l s i) (h : l < S.n) (ev : v ≡ level_at s i) where
+module _ {S : Scheme} {position l : ℕ} {s : List ℕ} {i : ℕ} (v : Level) (z : Rest S position l s i) (h : l < S.n) (ev : Some v ≡ level_at s i) where
   first_holds : Holds S position z.challenges z.roots l (level_read (drop i s))
       × AllHold S position z.challenges z.roots (suc l) (items_of level_form (S.n - suc l) (level_form.after (drop i s)))
   unfolding items_of
@@ -91,7 +94,7 @@ module _ {S : Scheme} {position l : ℕ} {s : List ℕ} {i : ℕ} (v : Level) (z
   pub level-sized : LevelSized S l s v
   unfolding level_read values_at digests_at
   level-sized =
-      let room = level-room l s i v z.allowed h ev (level-there S.n l s i v ev h z.whole) in
+      let room = level-room l s i v z.allowed h ev in
       let p = level-places s i v ev in
       let f = first_holds.0 in
       let one : l + 1 ≡ suc l = add-one l in
@@ -115,3 +118,9 @@ module _ {S : Scheme} {position l : ℕ} {s : List ℕ} {i : ℕ} (v : Level) (z
   -- the pair is small
   pub pair-low : (q : ℕ) → q ≡ pair_of position l → q < 16777216
   pair-low q e = pair_small l q z.allowed h e
+
+-- the level that code reads is there
+pub read-there : {S : Scheme} {position l : ℕ} {s : List ℕ} {i : ℕ} → Rest S position l s i → l < S.n → (r : Option Level) → r ≡ level_at s i → IsSome r
+read-there {S} {position} {l} {s} {i} z h r e =
+    let v = level-here s i S.n l h z.whole in
+    rw (e ∙ sym v.1) refl

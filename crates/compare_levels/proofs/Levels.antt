@@ -2,6 +2,7 @@
 use Prim.Native.Nat.{ℕ, suc, ◌+◌, ◌-◌, ◌<◌, ◌≤◌}
 use mathlib.Core.Path.{◌≡◌, refl, sym, ◌∙◌, ap}
 use mathlib.Core.List.{List}
+use Rattle.std.specs.Prelude.{Option, Some, None}
 use native.Mathlib.Omega.{arith}
 use native.Mathlib.Numerals.{add-one}
 use lib.ListN.{drop}
@@ -34,46 +35,46 @@ pub record NoneBelow (S : Scheme) (position l : ℕ) (s : List ℕ) (i : ℕ) (t
 
 -- the two levels that code read, and the messages that it picked of them
 pub record LevelPicked (S : Scheme) (position l : ℕ) (s : List ℕ) (i : ℕ) (x : Level) (t : List ℕ) (j : ℕ) (y : Level)
-    (mid mid' new new' : List ℕ) (m : ℕ) : Type 0 where
-  pub first_read : x ≡ level_at s i
-  pub second-read : y ≡ level_at t j
+    (mid mid' new new' : List ℕ) (m : Option ℕ) : Type 0 where
+  pub first_read : Some x ≡ level_at s i
+  pub second-read : Some y ≡ level_at t j
   pub picked : Picked (places_found S l (pair_of position l) s x t y) mid mid' new new' m
 
-pub level-picked : {S : Scheme} {position l q : ℕ} {s : List ℕ} {i : ℕ} {x : Level} {t : List ℕ} {j : ℕ} {y : Level} {mid mid' new new' : List ℕ} {m : ℕ}
-    → x ≡ level_at s i → y ≡ level_at t j → q ≡ pair_of position l → Picked (places_found S l q s x t y) mid mid' new new' m
+pub level-picked : {S : Scheme} {position l q : ℕ} {s : List ℕ} {i : ℕ} {x : Level} {t : List ℕ} {j : ℕ} {y : Level} {mid mid' new new' : List ℕ} {m : Option ℕ}
+    → Some x ≡ level_at s i → Some y ≡ level_at t j → q ≡ pair_of position l → Picked (places_found S l q s x t y) mid mid' new new' m
     → LevelPicked S position l s i x t j y mid mid' new new' m
 level-picked ex ey eq p = record { first_read = ex; second-read = ey; picked = rw (← eq) p }
 
 module _ {S : Scheme} {position l : ℕ} {s : List ℕ} {i : ℕ} {t : List ℕ} {j : ℕ} {F : Found} {old old' mid mid' : List ℕ}
     (z : NoneBelow S position l s i t j F old old' mid mid') where
-  module _ {x y : Level} {new new' : List ℕ} {m : ℕ} (p : LevelPicked S position l s i x t j y mid mid' new new' m) (h : l < S.n) where
-    found-level : found_from S position l s i t j
+  module _ {x y : Level} {new new' : List ℕ} (h : l < S.n) where
+    found-level : {m : Option ℕ} (p : LevelPicked S position l s i x t j y mid mid' new new' m) → found_from S position l s i t j
         ≡ or_else (places_found S l (pair_of position l) s x t y) (found_from S position (l + 1) s x.next t y.next)
     unfolding found_from levels_found items_of
-    found-level =
+    found-level p =
         let e : S.n - l ≡ suc (S.n - suc l) = omega arith in
         let ex = p.first_read in
         let ey = p.second-read in
         rw (add-one, e, places-found S l (pair_of position l) s i x t j y ex ey, (level-places s i x ex).after, (level-places t j y ey).after)
 
-    pub level_stop : (m ≡ 0 → ⊥) → Picked F old old' new new' m
-    level_stop u =
-        rw (← z.first_same, ← z.second_same, sym z.from_here ∙ found-level)
-        (picked_first _ (found_from S position (l + 1) s x.next t y.next) mid mid' new new' m p.picked u)
+    pub level_stop : {m : ℕ} → LevelPicked S position l s i x t j y mid mid' new new' (Some m) → Picked F old old' new new' (Some m)
+    level_stop p =
+        rw (← z.first_same, ← z.second_same, sym z.from_here ∙ found-level p)
+        (picked_first _ (found_from S position (l + 1) s x.next t y.next) mid mid' new new' _ p.picked)
 
-    pub level-next : m ≡ 0 → NoneBelow S position (l + 1) s x.next t y.next F old old' new new'
-    level-next e =
-        let u = picked_none _ mid mid' new new' m p.picked e in
+    pub level-next : LevelPicked S position l s i x t j y mid mid' new new' None → NoneBelow S position (l + 1) s x.next t y.next F old old' new new'
+    level-next p =
+        let u = picked_none _ mid mid' new new' p.picked in
         record {
           from_here =
-              ap (λ (f : Found). or_else f (found_from S position (l + 1) s x.next t y.next)) (sym u.found_none) ∙ sym found-level ∙ z.from_here;
+              ap (λ (f : Found). or_else f (found_from S position (l + 1) s x.next t y.next)) (sym u.found_none) ∙ sym (found-level p) ∙ z.from_here;
           first_same = u.first_same ∙ z.first_same;
           second_same = u.second_same ∙ z.second_same;
         }
 
-  pub levels_end : S.n ≤ l → Picked F old old' mid mid' 0
+  pub levels_end : S.n ≤ l → Picked F old old' mid mid' None
   unfolding found_from levels_found items_of
   levels_end h =
       let e : S.n - l ≡ 0 = omega arith in
       let f : none ≡ F = rw e at z.from_here in
-      rw (← f) (record { first-is = z.first_same; second_is = z.second_same; first-long = refl; second_long = refl; none_is = λ w. refl })
+      rw (← f) (record { first-is = z.first_same; second_is = z.second_same; answer = refl })

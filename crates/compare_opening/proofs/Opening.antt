@@ -1,7 +1,8 @@
--- A group and a path of level l in two records: their chains have room in a buffer of `chainBuffer` bytes, and what differs in them is found.
+-- A group and a path of level l in two records: their chains have room in a buffer of `chain_buffer` bytes, and what differs in them is found.
 use Prim.Native.Nat.{ℕ, ◌+◌, ◌*◌, ◌≤◌}
 use mathlib.Core.Path.{◌≡◌, refl, ◌∙◌, ap}
 use mathlib.Core.List.{List}
+use Rattle.std.specs.Prelude.{Option}
 use native.Mathlib.Omega.{arith}
 use native.Mathlib.Nat.{mul-le-mul}
 use lib.ListN.{length, take, drop}
@@ -109,7 +110,7 @@ module _ (how : Trees) {base : List ℕ} {n k l place : ℕ} {s : List ℕ} {sgr
         second_room = z.second_room;
       }
 
-  pub picked_opening : {old old' new new' : List ℕ} {r : ℕ}
+  pub picked_opening : {old old' new new' : List ℕ} {r : Option ℕ}
       → Picked (last_differing (chain_of (97 + d + 16 * width) (136 + d) depth a) (chain_of (97 + d + 16 * width) (136 + d) depth b)) old old' new new' r
       → Picked (found_at (scheme how base n k) l place s sgroup spath t tgroup tpath) old old' new new' r
   unfolding opening_found collision level_messages

@@ -2,6 +2,7 @@
 use Prim.Native.Nat.{ℕ, zero, suc, ◌+◌, ◌-◌, ◌*◌, ◌≤◌, ◌<◌}
 use mathlib.Core.Path.{◌≡◌, refl, sym, ◌∙◌, ap, ap₂}
 use mathlib.Core.List.{List, [], ◌∷◌, ◌++◌}
+use Rattle.std.specs.Prelude.{Option, Some, None}
 use native.Mathlib.Omega.{arith}
 use native.Mathlib.Nat.{mul-le-mul_left, mul-suc}
 use lib.ListN.{length, take, drop}
@@ -66,27 +67,31 @@ below_last leaf node i a b h =
     ∙ ap₂ last_differing (chain_last leaf node j a) (chain_last leaf node j b)
     ∙ last_of (chain_of leaf node j a) (chain_of leaf node j b) _ _ (length_chain leaf node j a ∙ sym (length_chain leaf node j b))
 
--- the loop: nothing was found above place i, so that the buffers are as they were
+-- the loop: nothing was found at place i or above, so that the buffers are as they were
 module _ (leaf node i : ℕ) (a b : List ℕ) (F : Found) (e : found_below leaf node i a b ≡ F) (old old' mid mid' new new' : List ℕ) (same : mid ≡ old)
-    (same' : mid' ≡ old') (m : ℕ) where
-  module _ (from : ℕ) (h : 0 < i) (f : from ≡ leaf + node * (i - 1)) (p : Picked (differing (part node from a) (part node from b)) mid mid' new new' m) where
-    found_here : found_below leaf node i a b ≡ or_else (differing (part node from a) (part node from b)) (found_below leaf node (i - 1) a b)
-    found_here = rw f (below_last leaf node i a b h)
+    (same' : mid' ≡ old') (from : ℕ) (h : 0 < i) (f : from ≡ leaf + node * (i - 1)) where
+  found_here : found_below leaf node i a b ≡ or_else (differing (part node from a) (part node from b)) (found_below leaf node (i - 1) a b)
+  found_here = rw f (below_last leaf node i a b h)
 
-    pub below_stop : (m ≡ 0 → ⊥) → Picked F old old' new new' m
-    below_stop z = rw (← same, ← same', sym e ∙ found_here) (picked_first _ (found_below leaf node (i - 1) a b) mid mid' new new' m p z)
+  pub below_stop : (m : ℕ) → Picked (differing (part node from a) (part node from b)) mid mid' new new' (Some m) → Picked F old old' new new' (Some m)
+  below_stop m p = rw (← same, ← same', sym e ∙ found_here) (picked_first _ (found_below leaf node (i - 1) a b) mid mid' new new' m p)
 
-    pub below_step : m ≡ 0 → (new ≡ old) × (new' ≡ old') × (found_below leaf node (i - 1) a b ≡ F)
-    below_step z =
-        let u = picked_none _ mid mid' new new' m p z in (
-          u.first_same ∙ same,
-          u.second_same ∙ same',
-          ap (λ (x : Found). or_else x (found_below leaf node (i - 1) a b)) (sym u.found_none) ∙ sym found_here ∙ e,
-        )
+  pub below_step : Picked (differing (part node from a) (part node from b)) mid mid' new new' None
+      → (new ≡ old) × (new' ≡ old') × (found_below leaf node (i - 1) a b ≡ F)
+  below_step p =
+      let u = picked_none _ mid mid' new new' p in (
+        u.first_same ∙ same,
+        u.second_same ∙ same',
+        ap (λ (x : Found). or_else x (found_below leaf node (i - 1) a b)) (sym u.found_none) ∙ sym found_here ∙ e,
+      )
 
-  pub below_end : i ≤ 0 → Picked (differing (part leaf 0 a) (part leaf 0 b)) mid mid' new new' m → Picked F old old' new new' m
-  unfolding found_below chain_of last_differing runs
-  below_end h p = let z : i ≡ 0 = omega arith in rw (← same, ← same', ← (rw z at e)) p
+-- the leaf messages are all that is left
+pub below_end : (leaf node i : ℕ) (a b : List ℕ) (F : Found) → found_below leaf node i a b ≡ F → i ≤ 0 → (old old' mid mid' new new' : List ℕ) → mid ≡ old → mid' ≡ old'
+    → (r : Option ℕ) → Picked (differing (part leaf 0 a) (part leaf 0 b)) mid mid' new new' r → Picked F old old' new new' r
+unfolding found_below chain_of last_differing runs
+below_end leaf node i a b F e h old old' mid mid' new new' same same' r p =
+    let z : i ≡ 0 = omega arith in
+    rw (← same, ← same', ← (rw z at e)) p
 
 -- a node message ends within its chain
 pub node_room : (node depth j : ℕ) → j < depth → node * j + node ≤ node * depth

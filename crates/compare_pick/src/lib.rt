@@ -19,7 +19,7 @@ fn put_message(out: &mut [u8], message: &[u8])
     clear(out, end);
 }
 
-// The messages of this length at one place of two chains: if they differ, both in their buffers and their length, else 0.
+// The messages of this length at one place of two chains: if they differ, both in their buffers and their length.
 fn pick_at(
     a: &[u8],
     b: &[u8],
@@ -27,17 +27,17 @@ fn pick_at(
     len: usize,
     first: &mut [u8],
     second: &mut [u8],
-) -> usize
+) -> Option<usize>
     requires { MessagesThere len from (length a.now) (length b.now) (length first.old) (length second.old) }
     ensures { PickedIn (differing (part len from a.now) (part len from b.now)) first second result }
 {
     let to = from + len;
     if same_bytes(&a[from..to], &b[from..to]) {
-        return 0;
+        return None;
     }
     put_message(first, &a[from..to]);
     put_message(second, &b[from..to]);
-    len
+    Some(len)
 }
 
 // Where node message j of a chain begins.
@@ -57,18 +57,15 @@ pub fn pick_last(
     depth: usize,
     first: &mut [u8],
     second: &mut [u8],
-) -> usize
+) -> Option<usize>
     requires { Chains leaf node depth a.now b.now first.old second.old }
     ensures { PickedIn (last_differing (chain_of leaf node depth a.now) (chain_of leaf node depth b.now)) first second result }
 {
-    let mut i = depth;
-    while i > 0 {
-        let from = node_at(leaf, node, depth, i - 1);
-        let m = pick_at(a, b, from, node, first, second);
-        if m != 0 {
-            return m;
+    for i in (0..depth).rev() {
+        let from = node_at(leaf, node, depth, i);
+        if let Some(m) = pick_at(a, b, from, node, first, second) {
+            return Some(m);
         }
-        i -= 1;
     }
     pick_at(a, b, 0, leaf, first, second)
 }

@@ -3,6 +3,9 @@ use Prim.Native.Nat.{ℕ}
 use mathlib.Core.Path.{◌≡◌, sym, ◌∙◌}
 use mathlib.Core.Bool.{true}
 use mathlib.Core.List.{List, ◌++◌}
+use Rattle.std.specs.Prelude.{Option}
+use Rattle.std.specs.Option.{unwrap_or}
+use Rattle.compare_pick.proofs.Picked.{picked_long}
 use borrow.Author.Tests.{eq-eqb, ne_eqb, eqb-true}
 use lib.ListN.{length}
 use Rattle.theory_laws.proofs.Questions.{all_yes, first_stops, first_passes}
@@ -72,13 +75,14 @@ module _ (base : List ℕ) (how : Trees) (n k position : ℕ) (challenges roots 
               second_room = eqb-true _ _ a.1.1.1.0;
             }
 
-        pub picked-answer : {new new' : List ℕ} {m : ℕ} → Picked (records_found S position first second) old old' new new' m
+        pub picked-answer : {new new' : List ℕ} {r : Option ℕ} {m : ℕ} → m ≡ unwrap_or r 0 → Picked (records_found S position first second) old old' new new' r
             → Answered (record { number = 0; first = m; second = m }) new new'
         unfolding compared first_message second_message
-        picked-answer p =
+        picked-answer e p =
             let h = eq-eqb y 0 zy in
+            let long = picked_long _ _ p.answer in
             record {
-              answer_is = rw (← number_is, h, ← p.first-long, ← p.second_long);
+              answer_is = rw (← number_is, h, e, ← long.0, ← long.1);
               first-is = rw (← number_is, h) p.first-is;
               second_is = rw (← number_is, h) p.second_is;
             }

@@ -1,10 +1,13 @@
 -- The questions put to what is lent, in the order of the code.
 use Prim.Native.Nat.{ℕ, ◌+◌, ◌*◌, ◌^◌, ◌<◌, ◌≤◌}
-use mathlib.Core.Path.{◌≡◌, ◌∙◌}
+use mathlib.Core.Path.{◌≡◌, refl, ◌∙◌}
 use mathlib.Core.List.{[], ◌∷◌}
 use lib.Dec.{ltb}
 use borrow.Author.Tests.{eq-eqb, ne_eqb, le-leb, lt-leb, le-ltb, lt-ltb}
 use Rattle.theory_laws.specs.Questions.{◌asks◌, first_no}
+use Rattle.theory_laws.specs.Refusals.{number_of}
+use Rattle.theory_laws.specs.declared.Refusal.{Refusal}
+use Rattle.theory_laws.proofs.Refusals.{never}
 use Rattle.theory_laws.proofs.Questions.{first_stops, first_passes}
 use Rattle.code_level.specs.Sizes.{size_number}
 use Rattle.theory_record.specs.Widths.{level_length}
@@ -13,16 +16,16 @@ use Rattle.theory_record.proofs.Offsets.{first-length}
 use Rattle.theory_compare.specs.Compare.{message_buffer}
 use Rattle.compare_records.specs.helpers.Numbers.{length_questions, lent_number}
 
-module _ (base n k position challenges roots first second x : ℕ) (ex : x ≡ size_number n k) where
-  pub wrong_size : (x ≡ 0 → ⊥) → x ≡ lent_number base n k position challenges roots first second
+module _ (base n k position challenges roots first second : ℕ) where
+  pub wrong_size : (x : Refusal) → number_of x ≡ size_number n k → number_of x ≡ lent_number base n k position challenges roots first second
   unfolding lent_number size_number
-  wrong_size z = first_stops (size_questions n k) (length_questions base n k position challenges roots first second) x tt ex z
+  wrong_size x e = first_stops (size_questions n k) (length_questions base n k position challenges roots first second) (number_of x) tt e (never x)
 
-  module _ (z : x ≡ 0) where
+  module _ (sizes : 0 ≡ size_number n k) where
     passes : (r : ℕ) → r ≡ first_no (length_questions base n k position challenges roots first second)
         → r ≡ lent_number base n k position challenges roots first second
     unfolding lent_number size_number
-    passes r f = first_passes (size_questions n k) (length_questions base n k position challenges roots first second) x tt ex r z f
+    passes r f = first_passes (size_questions n k) (length_questions base n k position challenges roots first second) 0 tt sizes r refl f
 
     pub wrong_challenges : (challenges ≡ 2 * n → ⊥) → 5 ≡ lent_number base n k position challenges roots first second
     wrong_challenges e = passes 5 (rw (ne_eqb challenges (2 * n) e))

@@ -4,6 +4,7 @@
 use Rattle.std.specs.Prelude.{ℕ, suc, ◌+◌, ◌*◌, ◌^◌}
 use Rattle.theory_laws.specs.Questions.{on_done}
 use Rattle.code_level.specs.Sizes.{size_number}
+use Rattle.theory_record.specs.declared.WidthSet.{WidthSet}
 use Rattle.theory_record.specs.Widths.{widths_of, level_length, tree_length}
 use Rattle.theory_record.specs.Sizes.{query_size, tail_size}
 use Rattle.theory_record.specs.Build.{levels_length, tree_start}
@@ -33,23 +34,27 @@ no_sizes number =
 unfoldable pub sizes_number : ℕ → ℕ → ℕ → ℕ
 sizes_number widths n k = with_set widths (λ _. size_number n k) 4
 
-abbrev pub sizes_of : ℕ → ℕ → ℕ → Sizes
-sizes_of widths n k =
-    let s = widths_of (set_of widths) in
-    on_done (sizes_number widths n k)
-    (record {
+-- what a set of widths, n and k fix
+abbrev pub sizes_under : WidthSet → ℕ → ℕ → Sizes
+sizes_under set n k =
+    record {
       number = 0;
       table = 2 ^ n;
       gammas = k * n;
       codeword = level_length n k 0;
-      tree = 32 * tree_length s n k 0;
+      tree = 32 * tree_length (widths_of set) n k 0;
       levels = levels_length n k;
-      trees = 32 * tree_start s n k (suc n);
+      trees = 32 * tree_start (widths_of set) n k (suc n);
       half = level_length n k 1;
       roots = 32 * (n + 1);
       last_level = level_length n k n;
-      last_tree = 32 * tree_length s n k n;
-      query = query_size s n k;
-      tail = tail_size s n k;
-    })
+      last_tree = 32 * tree_length (widths_of set) n k n;
+      query = query_size (widths_of set) n k;
+      tail = tail_size (widths_of set) n k;
+    }
+
+-- what is answered: these, or none and why
+abbrev pub sizes_of : ℕ → ℕ → ℕ → Sizes
+sizes_of widths n k =
+    on_done (sizes_number widths n k) (sizes_under (set_of widths) n k)
     (no_sizes (sizes_number widths n k))

@@ -17,12 +17,12 @@ ghost use Rattle.code_fold_levels.specs.Levels.{fold_levels_lent, folded_lent};
 ghost use Rattle.export_dequmlo.specs.Answers.{folded};
 ghost use Rattle.export_dequmlo.specs.Keys.{scheme_by, with_trees};
 
-use crate::keys::{Key, trees_of};
+use crate::answers::number_of;
+use crate::keys::{Key, trees_named};
 use field_gf128::Word;
 
 // The gammas of a base domain, the codeword of a table of 2^n words, its list, 0 to n - 1, and level 0's tree: 4, 5, 7.
-#[unsafe(no_mangle)]
-pub extern "C" fn dequmlo_commit(
+pub fn dequmlo_commit(
     key: Key,
     widths: u32,
     n: usize,
@@ -41,20 +41,20 @@ pub extern "C" fn dequmlo_commit(
     ensures tree_after { tree.new
         ≡ on_done result (committed_tree (scheme_by key widths base n k) (words table.now)) tree.old }
 {
-    if widths > 1 {
-        return 4;
+    match trees_named(key, widths) {
+        Ok(how) => number_of(code_commit::commit(
+            how,
+            n,
+            k,
+            base,
+            table,
+            gammas,
+            codeword,
+            coordinates,
+            tree,
+        )),
+        Err(refusal) => refusal.number(),
     }
-    code_commit::commit(
-        trees_of(key, widths),
-        n,
-        k,
-        base,
-        table,
-        gammas,
-        codeword,
-        coordinates,
-        tree,
-    )
 }
 
 // The number, and the n of the folded codeword, 0 where it is refused.
@@ -67,8 +67,7 @@ pub struct Folded {
 
 // A codeword in use folded at a variable by r, into a buffer of half its length, and its list left without the variable's entry, 0 after its end: 4, 5, 36,
 // 6.
-#[unsafe(no_mangle)]
-pub extern "C" fn dequmlo_fold(
+pub fn dequmlo_fold(
     n: usize,
     k: usize,
     original: usize,
@@ -83,16 +82,17 @@ pub extern "C" fn dequmlo_fold(
     ensures coordinates_after { coordinates.new ≡ on_done result.number (dropped_of var coordinates.old) coordinates.old }
     ensures out_after { words out.new ≡ on_done result.number (fold_list var (word r) (words codeword.now)) (words out.old) }
 {
-    let a = code_codeword::fold(n, k, original, var, r, coordinates, codeword, out);
-    Folded {
-        number: a.number,
-        n: a.n,
+    match code_codeword::fold(n, k, original, var, r, coordinates, codeword, out) {
+        Ok(n) => Folded { number: 0, n },
+        Err(refusal) => Folded {
+            number: refusal.number(),
+            n: 0,
+        },
     }
 }
 
 // All levels of the codeword that stands as level 0 at the front of `levels`, by n challenges, their trees and their roots: 4, 5, 7.
-#[unsafe(no_mangle)]
-pub extern "C" fn dequmlo_fold_levels(
+pub fn dequmlo_fold_levels(
     key: Key,
     widths: u32,
     n: usize,
@@ -112,18 +112,10 @@ pub extern "C" fn dequmlo_fold_levels(
     ensures roots_after { roots.new
         ≡ on_done result (roots_lent (scheme_by key widths base n k) (folded_lent n k challenges levels)) roots.old }
 {
-    if widths > 1 {
-        return 4;
+    match trees_named(key, widths) {
+        Ok(how) => number_of(code_fold_levels::fold_levels(
+            how, n, k, base, challenges, levels, half, trees, roots,
+        )),
+        Err(refusal) => refusal.number(),
     }
-    code_fold_levels::fold_levels(
-        trees_of(key, widths),
-        n,
-        k,
-        base,
-        challenges,
-        levels,
-        half,
-        trees,
-        roots,
-    )
 }

@@ -38,48 +38,42 @@ fn exported_of(p: Profile) -> Parameters
 }
 
 // k 2, 40 queries, "magnetar/pcs/default".
-#[unsafe(no_mangle)]
-pub extern "C" fn dequmlo_default_parameters() -> Parameters
+pub fn dequmlo_default_parameters() -> Parameters
     ensures { parameters result ≡ fields_of default_parameters }
 {
     exported(code_profile::default_parameters())
 }
 
 // k 1, 40 queries, "magnetar/pcs/fastchunk".
-#[unsafe(no_mangle)]
-pub extern "C" fn dequmlo_fastchunk() -> Parameters
+pub fn dequmlo_fastchunk() -> Parameters
     ensures { parameters result ≡ fields_of (parameters_of FastChunk) }
 {
     exported_of(Profile::FastChunk)
 }
 
 // k 2, 40 queries, "magnetar/pcs/balanced".
-#[unsafe(no_mangle)]
-pub extern "C" fn dequmlo_balanced() -> Parameters
+pub fn dequmlo_balanced() -> Parameters
     ensures { parameters result ≡ fields_of (parameters_of Balanced) }
 {
     exported_of(Profile::Balanced)
 }
 
 // k 3, 20 queries, "magnetar/pcs/compactwrap".
-#[unsafe(no_mangle)]
-pub extern "C" fn dequmlo_compactwrap() -> Parameters
+pub fn dequmlo_compactwrap() -> Parameters
     ensures { parameters result ≡ fields_of (parameters_of CompactWrap) }
 {
     exported_of(Profile::CompactWrap)
 }
 
 // k 4, 14 queries, "magnetar/pcs/deepwrap".
-#[unsafe(no_mangle)]
-pub extern "C" fn dequmlo_deepwrap() -> Parameters
+pub fn dequmlo_deepwrap() -> Parameters
     ensures { parameters result ≡ fields_of (parameters_of DeepWrap) }
 {
     exported_of(Profile::DeepWrap)
 }
 
 // k 1, 40 queries, "magnetar/pcs/default": what the default was before it had k 2.
-#[unsafe(no_mangle)]
-pub extern "C" fn dequmlo_firstdefault() -> Parameters
+pub fn dequmlo_firstdefault() -> Parameters
     ensures { parameters result ≡ fields_of (parameters_of FirstDefault) }
 {
     exported_of(Profile::FirstDefault)
@@ -87,8 +81,7 @@ pub extern "C" fn dequmlo_firstdefault() -> Parameters
 
 // Under which parameters a seal is checked that names no profile: the first default's where it is older than the change of the default, else the
 // default's. Every number but 0 says that it is older.
-#[unsafe(no_mangle)]
-pub extern "C" fn dequmlo_unnamed_parameters(older: u32) -> Parameters
+pub fn dequmlo_unnamed_parameters(older: u32) -> Parameters
     ensures { parameters result ≡ fields_of (checked_under No (not (eqb older 0))) }
 {
     exported(code_profile::unnamed_parameters(older != 0))

@@ -1,18 +1,23 @@
 // Query and tail records built and checked, and two query records compared.
 ghost use Rattle.std.specs.Prelude.{◌≡◌};
 ghost use Rattle.field_gf128.specs.Word.{word};
+ghost use Rattle.record_query_check.specs.Answer as check;
+ghost use Rattle.compare_records.specs.Answers.{comparison};
 ghost use Rattle.export_dequmlo.specs.Answers.{checked, compared};
 ghost use Rattle.export_dequmlo.specs.Records.{query_number, query_left, query_answer, tail_number, tail_left, tail_answer};
 ghost use Rattle.export_dequmlo.specs.Records.{compared_answer, first_after, second_after};
 
-use crate::keys::{Key, trees_of};
-use crate::sets::set_of;
+use crate::answers::number_of;
+use crate::keys::{Key, deposit_of};
+use crate::sets::set_named;
+use compare_records::Messages;
 use field_gf128::Word;
+use record_query_check::Rejection;
+use theory_laws::Refusal;
 use tree_place::Place;
 
 // The query record at a position, from all levels and their trees end to end: 4, 5, 11.
-#[unsafe(no_mangle)]
-pub extern "C" fn dequmlo_build_query(
+pub fn dequmlo_build_query(
     out: &mut [u8],
     levels: &[u64],
     trees: &[u8],
@@ -24,11 +29,13 @@ pub extern "C" fn dequmlo_build_query(
     ensures value { result ≡ query_number out levels trees widths n k position }
     ensures out_after { out.new ≡ query_left out levels trees widths n k position }
 {
-    if widths > 1 {
-        return 4;
+    match set_named(widths) {
+        Ok(set) => {
+            let place = Place::at(position);
+            number_of(record_query_build::build_query(out, levels, trees, set, n, k, place))
+        }
+        Err(refusal) => refusal.number(),
     }
-    let place = Place::at(position);
-    record_query_build::build_query(out, levels, trees, set_of(widths), n, k, place)
 }
 
 // The number, and the level for 16 to 26.
@@ -39,9 +46,24 @@ pub struct Checked {
     pub level: u32,
 }
 
+// The answer of a check.
+fn check_answered(answer: Result<(), Rejection>) -> Checked
+    ensures { checked result ≡ check.answer answer }
+{
+    match answer {
+        Ok(()) => Checked {
+            number: 0,
+            level: 0,
+        },
+        Err(rejection) => Checked {
+            number: rejection.refusal.number(),
+            level: rejection.level,
+        },
+    }
+}
+
 // A query record checked: 4, 5, 7, 11, 14 to 26.
-#[unsafe(no_mangle)]
-pub extern "C" fn dequmlo_check_query(
+pub fn dequmlo_check_query(
     key: Key,
     base: &[u8],
     widths: u32,
@@ -54,24 +76,22 @@ pub extern "C" fn dequmlo_check_query(
 ) -> Checked
     ensures { checked result ≡ query_answer key base widths n k position challenges roots bytes }
 {
-    if widths > 1 {
-        return Checked {
-            number: 4,
+    match deposit_of(key, widths, base, n, k) {
+        Ok(deposit) => {
+            let place = Place::at(position);
+            check_answered(record_query_check::check_query(
+                deposit, place, challenges, roots, bytes,
+            ))
+        }
+        Err(refusal) => Checked {
+            number: refusal.number(),
             level: 0,
-        };
-    }
-    let place = Place::at(position);
-    let how = trees_of(key, widths);
-    let a = record_query_check::check_query(base, how, n, k, place, challenges, roots, bytes);
-    Checked {
-        number: a.number,
-        level: a.level,
+        },
     }
 }
 
 // The tail record of the last level and its tree: 4, 5.
-#[unsafe(no_mangle)]
-pub extern "C" fn dequmlo_build_tail(
+pub fn dequmlo_build_tail(
     out: &mut [u8],
     level: &[u64],
     tree: &[u8],
@@ -82,15 +102,14 @@ pub extern "C" fn dequmlo_build_tail(
     ensures value { result ≡ tail_number out level tree widths n k }
     ensures out_after { out.new ≡ tail_left out level tree widths n k }
 {
-    if widths > 1 {
-        return 4;
+    match set_named(widths) {
+        Ok(set) => number_of(record_tail_build::build_tail(out, level, tree, set, n, k)),
+        Err(refusal) => refusal.number(),
     }
-    record_tail_build::build_tail(out, level, tree, set_of(widths), n, k)
 }
 
 // A tail record checked against the last level's root and the terminal claim: 4, 5, 7, 14, 27 to 31.
-#[unsafe(no_mangle)]
-pub extern "C" fn dequmlo_check_tail(
+pub fn dequmlo_check_tail(
     key: Key,
     base: &[u8],
     widths: u32,
@@ -102,10 +121,10 @@ pub extern "C" fn dequmlo_check_tail(
 ) -> u32
     ensures { result ≡ tail_answer key base widths n k root (word claim) bytes }
 {
-    if widths > 1 {
-        return 4;
+    match deposit_of(key, widths, base, n, k) {
+        Ok(deposit) => number_of(record_tail_check::check_tail(deposit, root, claim, bytes)),
+        Err(refusal) => refusal.number(),
     }
-    record_tail_check::check_tail(base, trees_of(key, widths), n, k, root, claim, bytes)
 }
 
 // The number, and the lengths of the two messages, 0 where it is refused.
@@ -117,10 +136,27 @@ pub struct Compared {
     pub second: usize,
 }
 
+// The answer of a comparison.
+fn compare_answered(answer: Result<Messages, Refusal>) -> Compared
+    ensures { compared result ≡ comparison answer }
+{
+    match answer {
+        Ok(messages) => Compared {
+            number: 0,
+            first: messages.first,
+            second: messages.second,
+        },
+        Err(refusal) => Compared {
+            number: refusal.number(),
+            first: 0,
+            second: 0,
+        },
+    }
+}
+
 // Two query records of one position compared: 4, 5, 7, 11, 32, 33. Where they differ, the two messages nearest the root that differ go into
 // the buffers, of 1,024 bytes each.
-#[unsafe(no_mangle)]
-pub extern "C" fn dequmlo_compare(
+pub fn dequmlo_compare(
     key: Key,
     base: &[u8],
     widths: u32,
@@ -138,29 +174,21 @@ pub extern "C" fn dequmlo_compare(
     ensures one_after { one.new ≡ first_after key base widths n k position challenges roots first second one two }
     ensures two_after { two.new ≡ second_after key base widths n k position challenges roots first second one two }
 {
-    if widths > 1 {
-        return Compared {
-            number: 4,
+    match deposit_of(key, widths, base, n, k) {
+        Ok(deposit) => compare_answered(compare_records::compare(
+            deposit,
+            Place::at(position),
+            challenges,
+            roots,
+            first,
+            second,
+            one,
+            two,
+        )),
+        Err(refusal) => Compared {
+            number: refusal.number(),
             first: 0,
             second: 0,
-        };
-    }
-    let a = compare_records::compare(
-        base,
-        trees_of(key, widths),
-        n,
-        k,
-        Place::at(position),
-        challenges,
-        roots,
-        first,
-        second,
-        one,
-        two,
-    );
-    Compared {
-        number: a.number,
-        first: a.first,
-        second: a.second,
+        },
     }
 }

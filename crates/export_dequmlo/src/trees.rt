@@ -11,29 +11,28 @@ ghost use Rattle.theory_record.specs.Domain.{level_domain};
 ghost use Rattle.theory_record.specs.Trees.{tree_for};
 ghost use Rattle.code_level.specs.Domain.{domain_number, domain_length_of};
 ghost use Rattle.code_commit.specs.Lent.{level_tree_lent};
-ghost use Rattle.export_dequmlo.specs.Answers.{domain_length};
+ghost use Rattle.export_dequmlo.specs.Answers.{digested, domain_length};
 ghost use Rattle.export_dequmlo.specs.Keys.{mode_of, scheme_by, with_trees};
 ghost use Rattle.export_dequmlo.specs.Sets.{with_set};
 
-use crate::keys::{Key, mode_of, trees_of};
-use crate::sets::set_of;
-use hash_hasher::whole::Digested;
-use tree_place::Place;
+use crate::answers::number_of;
+use crate::hashing::{Digested, digest_answered};
+use crate::keys::{Key, hashing_of, trees_named};
+use crate::sets::set_named;
+use tree_place::{Place, Shape};
 
 // The width of the groups of a level of this many values: the set's from its threshold on, 2 from length 2, else 1; 0 where the number names no set.
-#[unsafe(no_mangle)]
-pub extern "C" fn dequmlo_fold_tree_width(widths: u32, length: usize) -> usize
+pub fn dequmlo_fold_tree_width(widths: u32, length: usize) -> usize
     ensures { result ≡ with_set widths (λ set. width_for (widths_of set) length) 0 }
 {
-    if widths > 1 {
-        return 0;
+    match set_named(widths) {
+        Ok(set) => code_level::fold_tree_width(set, length),
+        Err(_) => 0,
     }
-    code_level::fold_tree_width(set_of(widths), length)
 }
 
 // The tree over groups of words, leaves first, 2 × groups - 1 digests: 7, 8, 9, 10, 5.
-#[unsafe(no_mangle)]
-pub extern "C" fn dequmlo_tree(
+pub fn dequmlo_tree(
     key: Key,
     domain: &[u8],
     count: usize,
@@ -44,27 +43,24 @@ pub extern "C" fn dequmlo_tree(
     ensures value { result ≡ build_number (length domain.now) count width (length values.now) (length tree.old) }
     ensures tree_after { tree.new ≡ built_into (mode_of key) domain.now count width values.now tree.old }
 {
-    tree_build::build(mode_of(key), domain, count, width, values, tree)
+    number_of(tree_build::build(
+        hashing_of(key, domain),
+        Shape { count, width },
+        values,
+        tree,
+    ))
 }
 
 // The path of the group that holds a place, off a tree that `dequmlo_tree` built: 8, 9, 10, 11, 5.
-#[unsafe(no_mangle)]
-pub extern "C" fn dequmlo_open(
-    count: usize,
-    width: usize,
-    place: usize,
-    tree: &[u8],
-    path: &mut [u8],
-) -> u32
+pub fn dequmlo_open(count: usize, width: usize, place: usize, tree: &[u8], path: &mut [u8]) -> u32
     ensures value { result ≡ open_number count width place (length tree.now) (length path.old) }
     ensures path_after { path.new ≡ opened_into count width place tree.now path.old }
 {
-    tree_path::open(count, width, Place::at(place), tree, path)
+    number_of(tree_path::open(Shape { count, width }, Place::at(place), tree, path))
 }
 
 // The root that the group of a place and a path lead to: 7, 8, 9, 10, 11, 12, 5.
-#[unsafe(no_mangle)]
-pub extern "C" fn dequmlo_root_of_path(
+pub fn dequmlo_root_of_path(
     key: Key,
     domain: &[u8],
     count: usize,
@@ -73,17 +69,11 @@ pub extern "C" fn dequmlo_root_of_path(
     values: &[u64],
     path: &[u8],
 ) -> Digested
-    ensures { result ≡ root_answer (mode_of key) domain.now count width place values.now path.now }
+    ensures { digested result ≡ root_answer (mode_of key) domain.now count width place values.now path.now }
 {
-    tree_path::root_of_path(
-        mode_of(key),
-        domain,
-        count,
-        width,
-        Place::at(place),
-        values,
-        path,
-    )
+    let hashing = hashing_of(key, domain);
+    let shape = Shape { count, width };
+    digest_answered(tree_path::root_of_path(hashing, shape, Place::at(place), values, path))
 }
 
 // The number, and a length, 0 where it is refused.
@@ -95,29 +85,28 @@ pub struct DomainLength {
 }
 
 // How long the domain of a level is: 4, 7.
-#[unsafe(no_mangle)]
-pub extern "C" fn dequmlo_level_domain_length(base: &[u8], level: usize) -> DomainLength
+pub fn dequmlo_level_domain_length(base: &[u8], level: usize) -> DomainLength
     ensures { domain_length result ≡ domain_length_of base.now level }
 {
-    let a = code_level::domain::level_domain_length(base, level);
-    DomainLength {
-        number: a.number,
-        length: a.length,
+    match code_level::domain::level_domain_length(base, level) {
+        Ok(length) => DomainLength { number: 0, length },
+        Err(refusal) => DomainLength {
+            number: refusal.number(),
+            length: 0,
+        },
     }
 }
 
 // The domain of a level, into a buffer of its length: 4, 5, 7.
-#[unsafe(no_mangle)]
-pub extern "C" fn dequmlo_level_domain(base: &[u8], level: usize, out: &mut [u8]) -> u32
+pub fn dequmlo_level_domain(base: &[u8], level: usize, out: &mut [u8]) -> u32
     ensures value { result ≡ domain_number base.now level (length out.old) }
     ensures out_after { out.new ≡ on_done result (level_domain base.now level) out.old }
 {
-    code_level::domain::level_domain(base, level, out)
+    number_of(code_level::domain::level_domain(base, level, out))
 }
 
 // The tree of a level over its values, into a buffer of its size: 4, 5, 7.
-#[unsafe(no_mangle)]
-pub extern "C" fn dequmlo_level_tree(
+pub fn dequmlo_level_tree(
     key: Key,
     widths: u32,
     n: usize,
@@ -131,8 +120,8 @@ pub extern "C" fn dequmlo_level_tree(
     ensures tree_after { tree.new
         ≡ on_done result (flat (tree_for (scheme_by key widths base n k) level (words values.now))) tree.old }
 {
-    if widths > 1 {
-        return 4;
+    match trees_named(key, widths) {
+        Ok(how) => number_of(code_commit::level::level_tree(how, n, k, level, base, values, tree)),
+        Err(refusal) => refusal.number(),
     }
-    code_commit::level::level_tree(trees_of(key, widths), n, k, level, base, values, tree)
 }

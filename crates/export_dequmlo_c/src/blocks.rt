@@ -5,9 +5,11 @@ ghost use Rattle.theory_field.specs.Words.{words};
 ghost use Rattle.theory_gcm.specs.Blocks.{imported, exported};
 ghost use Rattle.field_gf128.specs.Word.{word};
 ghost use Rattle.field_blocks.specs.Block.{block};
-ghost use Rattle.field_blocks.specs.Answers.{run_number, imported_run, exported_run, answer, hashed_of};
+ghost use Rattle.field_blocks.specs.Answers.{run_number, imported_run, exported_run, hashed_of};
+ghost use Rattle.export_dequmlo.specs.Answers.{hashed};
 
-use field_blocks::{Block, Hashed};
+use export_dequmlo::blocks::Hashed;
+use field_blocks::Block;
 use field_gf128::Word;
 
 // The word of a block.
@@ -47,7 +49,7 @@ pub extern "C" fn dequmlo_export_blocks(values: &[u64], out: &mut [u8]) -> u32
 // GHASH of a run of blocks by a key: 5.
 #[unsafe(no_mangle)]
 pub extern "C" fn dequmlo_ghash(key: Block, blocks: &[u8]) -> Hashed
-    ensures { answer result ≡ hashed_of (block key) blocks.now }
+    ensures { hashed result ≡ hashed_of (block key) blocks.now }
 {
     export_dequmlo::blocks::dequmlo_ghash(key, blocks)
 }

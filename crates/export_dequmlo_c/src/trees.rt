@@ -11,13 +11,13 @@ ghost use Rattle.theory_record.specs.Domain.{level_domain};
 ghost use Rattle.theory_record.specs.Trees.{tree_for};
 ghost use Rattle.code_level.specs.Domain.{domain_number, domain_length_of};
 ghost use Rattle.code_commit.specs.Lent.{level_tree_lent};
-ghost use Rattle.export_dequmlo.specs.Answers.{domain_length};
+ghost use Rattle.export_dequmlo.specs.Answers.{digested, domain_length};
 ghost use Rattle.export_dequmlo.specs.Keys.{mode_of, scheme_by, with_trees};
 ghost use Rattle.export_dequmlo.specs.Sets.{with_set};
 
+use export_dequmlo::hashing::Digested;
 use export_dequmlo::keys::Key;
 use export_dequmlo::trees::DomainLength;
-use hash_hasher::whole::Digested;
 
 // The width of the groups of a level of this many values: the set's from its threshold on, 2 from length 2, else 1; 0 where the number names no set.
 #[unsafe(no_mangle)]
@@ -69,7 +69,7 @@ pub extern "C" fn dequmlo_root_of_path(
     values: &[u64],
     path: &[u8],
 ) -> Digested
-    ensures { result ≡ root_answer (mode_of key) domain.now count width place values.now path.now }
+    ensures { digested result ≡ root_answer (mode_of key) domain.now count width place values.now path.now }
 {
     export_dequmlo::trees::dequmlo_root_of_path(key, domain, count, width, place, values, path)
 }

@@ -21,7 +21,7 @@ use Rattle.ring_partials.specs.Numbers as ring
 use Rattle.ring_indicator.specs.Numbers.{eval_questions, eval_number}
 use Rattle.ring_identities.specs.Numbers.{sides_questions, sides_number}
 use Rattle.hash_hasher.specs.Whole.{digest_questions, digest_of}
-use Rattle.hash_hasher.specs.declared.hasher.Updated.{Updated}
+use Rattle.hash_hasher.specs.Hasher.{Updated}
 use Rattle.hash_hasher.specs.Hasher as hasher
 use Rattle.hash_modes.specs.Answers as modes
 use Rattle.hash_serialize_parts.specs.Parts as parts
@@ -30,10 +30,10 @@ use Rattle.theory_merkle.specs.Numbers.{leaf_number, node_number, build_number, 
 use Rattle.theory_merkle.specs.PartQuestions.{leaves_questions, leaves_number, parents_questions, parents_number}
 use Rattle.theory_code.specs.Questions as code
 use Rattle.theory_code.specs.PartQuestions.{block_questions, block_number, half_questions, half_number, fold_part_questions, fold_part_number}
-use Rattle.code_codeword.specs.declared.Folded.{Folded}
+use Rattle.code_codeword.specs.Answers.{Folded}
 use Rattle.theory_claim.specs.Commit.{commit_questions, commit_number}
 use Rattle.code_level.specs.Sizes.{size_number}
-use Rattle.code_level.specs.declared.domain.DomainLength.{DomainLength}
+use Rattle.code_level.specs.Domain.{DomainLength}
 use Rattle.code_level.specs.Domain.{length_questions, length_number, domain_questions, domain_number}
 use Rattle.code_commit.specs.Level.{level_questions, level_tree_number}
 use Rattle.code_level_parts.specs.Numbers as levelPart

@@ -5,7 +5,6 @@
 ghost use Rattle.std.specs.Prelude.{◌≡◌};
 ghost use Rattle.theory_field.specs.Spread.{spread};
 
-use export_text::{Line, empty, hex_digit, print, with_byte};
 use std::io;
 
 // Entry v: bit i of v goes to bit 2i, one bit after another.
@@ -13,32 +12,15 @@ fn entry(v: u64) -> u64
     ensures { result ≡ spread 8 v }
 {
     let mut e: u64 = 0;
-    let mut i: u64 = 0;
-    while i < 8 {
+    for i in 0..8u64 {
         e = e ^ (((v >> i) % 2) << (2 * i));
-        i += 1;
     }
     e
 }
 
-// The line with a byte in two hexadecimal digits.
-fn with_two_digits(line: Line, x: u64) -> Line {
-    with_byte(with_byte(line, hex_digit(x / 16 % 16)), hex_digit(x % 16))
-}
-
-// An entry on a line of its own.
-fn show(rt: &impl Print, e: u64) -> io::Result<()> {
-    print(
-        rt,
-        with_two_digits(with_two_digits(empty(), e / 256), e % 256),
-    )
-}
-
 fn main(rt: HostRuntime) -> io::Result<()> {
-    let mut v: u64 = 0;
-    while v < 256 {
-        show(&rt, entry(v))?;
-        v += 1;
+    for v in 0..256u64 {
+        println!(&rt; "{:04x}", entry(v))?;
     }
     Ok(())
 }

@@ -1,15 +1,19 @@
 -- The input's sizes, its codeword, and its levels one after another.
 use mathlib.Core.Path.{◌≡◌, sym, ap, ap₂, ◌∙◌}
-use mathlib.Core.List.{List, [], ◌∷◌, ◌++◌}
+use mathlib.Core.List.{List, ◌∷◌, ◌++◌}
 use Prim.Native.Nat.{ℕ, ◌+◌, ◌-◌, ◌*◌, ◌/◌, ◌^◌, ◌≤◌, ◌<◌}
 use native.Mathlib.Nat.{mul-le-mul}
 use native.Mathlib.Numerals.{add-one}
 use native.Mathlib.Omega.{arith}
 use lib.Dec.{leb}
-use borrow.Author.Tests.{leb-true, eqb-true, ne_eqb}
+use borrow.Author.Tests.{leb-true, eqb-true}
 use lib.Pow.{pow_mono}
 use lib.ListN.{length, take, drop}
 use Rattle.theory_laws.specs.Questions.{◌asks◌, on_done}
+use Rattle.std.specs.Prelude.{Result, Ok, Err, IsErrAnd}
+use Rattle.theory_laws.specs.Refusals.{number_of}
+use Rattle.theory_laws.specs.declared.Refusal.{Refusal}
+use Rattle.theory_laws.proofs.Refusals.{not-done}
 use Rattle.theory_laws.specs.Table.{tab, at}
 use Rattle.theory_laws.specs.Lists.{part, le_value}
 use Rattle.theory_laws.proofs.Table.{at-tab, length-tab}
@@ -26,7 +30,8 @@ use Rattle.field_bytes.specs.Words.{words_from}
 use Rattle.theory_code.specs.Questions.{encode_number}
 use Rattle.theory_field.proofs.Words.{take_words}
 use Rattle.code_codeword.proofs.Lengths.{pow-halved, encode-done}
-use Rattle.export_tail_entries.specs.Tail.{zeros, gammas_at, challenges_at, input_size, size_questions, tail_number, codeword_of, input_level, tails_of}
+use Rattle.export_tail_entries.specs.declared.level.LastLevel.{LastLevel}
+use Rattle.export_tail_entries.specs.Tail.{zeros, gammas_at, challenges_at, input_size, size_questions, tail_number, codeword_of, input_level, answer, tails_of}
 use Rattle.export_tail_entries.specs.helpers.Room.{Whole}
 use Rattle.export_tail_entries.proofs.Padded.{length_front, padded, unpadded}
 
@@ -43,10 +48,10 @@ pub input_small : (n k : ℕ) → n + k ≤ 8 → challenges_at n k ≤ 5122
 input_small n k h = omega (arith, power_small {e = n} (omega arith), product_small n k h)
 
 -- where no question said no
-pub whole : (s : List ℕ) (number : ℕ) → number ≡ tail_number s → number ≡ 0 → Whole (at s 0) (at s 1) (length s) × (2 ≤ length s)
+pub whole : (s : List ℕ) → 0 ≡ tail_number s → Whole (at s 0) (at s 1) (length s) × (2 ≤ length s)
 unfolding tail_number
-whole s number e z =
-    let y = all_yes ((5 asks leb 2 (length s)) ∷ size_questions (at s 0) (at s 1) (length s)) tt (sym e ∙ z) in (
+whole s e =
+    let y = all_yes ((5 asks leb 2 (length s)) ∷ size_questions (at s 0) (at s 1) (length s)) tt (sym e) in (
       record {
         k≤ = leb-true (at s 1) 4 y.1.1.0;
         n+k≤ = leb-true (at s 0 + at s 1) 8 y.1.1.1.0;
@@ -123,11 +128,13 @@ last-level-is n k eps s h =
 
 -- ---- the answer
 
-pub refused : (s : List ℕ) (q : ℕ) → q ≡ tail_number s → (q ≡ 0 → ⊥) → ◌≡◌ {A = ℕ × ℕ × ℕ × List ℕ} (q, 0, 0, tab 16 (at [])) (tails_of s)
-unfolding tails_of
-refused s q e h = rw (← e, ne_eqb q 0 h)
+pub refused : (s : List ℕ) (r : Result LastLevel Refusal) (e : Refusal) → IsErrAnd r (λ y. y ≡ e) → number_of e ≡ tail_number s
+    → answer r ≡ tails_of s
+unfolding answer tails_of
+refused s (Ok l) e i q = absurd i
+refused s (Err y) e i q = rw (i, ← q, not-done e)
 
-pub found : (s : List ℕ) (q n k : ℕ) (entries : List ℕ) → q ≡ tail_number s → q ≡ 0 → n ≡ at s 0 → k ≡ at s 1
+pub found : (s : List ℕ) (n k : ℕ) (entries : List ℕ) → 0 ≡ tail_number s → n ≡ at s 0 → k ≡ at s 1
     → words entries ≡ tab 16 (at (input_level n k s n)) → ◌≡◌ {A = ℕ × ℕ × ℕ × List ℕ} (0, n, k, words entries) (tails_of s)
 unfolding tails_of
-found s q n k entries e z en ek el = rw (el, en, ek, ← e, z)
+found s n k entries e en ek el = rw (el, en, ek, ← e)

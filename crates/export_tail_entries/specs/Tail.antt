@@ -1,13 +1,15 @@
 -- The program `tail-list` (SPECIFICATION 11): its input, n and k, a byte each, then table, gammas (j outer) and challenges, 16 bytes a word,
 -- little-endian; and what it finds, the last level of the table's codeword.
-use Rattle.std.specs.Prelude.{ℕ, ◌+◌, ◌*◌, ◌^◌, List, [], ◌∷◌, eqb, leb, length, replicate}
+use Rattle.std.specs.Prelude.{ℕ, ◌+◌, ◌*◌, ◌^◌, List, [], ◌∷◌, eqb, leb, length, replicate, Result, Ok, Err}
 use Rattle.theory_laws.specs.Questions.{Question, ◌asks◌, first_no, on_done}
+use Rattle.theory_laws.specs.Refusals.{number_of}
+use Rattle.theory_laws.specs.declared.Refusal.{Refusal}
 use Rattle.theory_laws.specs.Table.{tab, at}
 use Rattle.theory_field.specs.Words.{words}
 use Rattle.field_bytes.specs.Words.{words_from}
 use Rattle.theory_multilinear.specs.Codeword.{encode}
 use Rattle.theory_multilinear.specs.Levels.{level}
-use Rattle.export_tail_entries.specs.declared.Answer.{Answer}
+use Rattle.export_tail_entries.specs.declared.level.LastLevel.{LastLevel}
 
 -- n zeros
 unfoldable pub zeros : ℕ → List ℕ
@@ -46,9 +48,10 @@ codeword_of n k s = encode n k (words_from (gammas_at n) (k * n) s) (words_from 
 unfoldable pub input_level : ℕ → ℕ → List ℕ → ℕ → List ℕ
 input_level n k s l = level (codeword_of n k s) (words_from (challenges_at n k) n s) l
 
--- the code's answer: the number, n, k, and room for 16 entries
-unfoldable pub answer : Answer → ℕ × ℕ × ℕ × List ℕ
-answer t = (t.number, t.n, t.k, words t.entries)
+-- the code's answer: the number, n, k, and room for 16 entries; in a refusal all else is zero
+unfoldable pub answer : Result LastLevel Refusal → ℕ × ℕ × ℕ × List ℕ
+answer (Ok t) = (0, t.n, t.k, words t.entries)
+answer (Err e) = (number_of e, 0, 0, tab 16 (at []))
 
 -- the entries of the last level, zeros after them; in a refusal all else is zero
 unfoldable pub tails_of : List ℕ → ℕ × ℕ × ℕ × List ℕ

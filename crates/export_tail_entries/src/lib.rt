@@ -2,6 +2,7 @@
 #![tactic(auto)]
 
 ghost use Rattle.std.specs.Prelude.{◌≡◌, ◌+◌, ◌*◌, ◌-◌, ◌^◌, ◌<◌, ◌≤◌, eqb, length, take};
+ghost use Rattle.theory_laws.specs.Refusals.{answered};
 ghost use Rattle.theory_laws.specs.Table.{tab, at};
 ghost use Rattle.theory_field.specs.Words.{words};
 ghost use Rattle.field_gf128.specs.Word.{word};
@@ -10,26 +11,13 @@ ghost use Rattle.export_tail_entries.specs.Tail.{zeros, challenges_at, input_siz
 ghost use Rattle.export_tail_entries.specs.Tail.{codeword_of, input_level, answer, tails_of};
 ghost use Rattle.export_tail_entries.specs.helpers.Room.{Whole, Buffers};
 
+pub mod level;
+
+use crate::level::LastLevel;
 use code_codeword::folding::fold_into;
 use code_codeword::sizes::power;
 use field_gf128::Word;
-use std::io;
-
-// The number, n, k and the entries of the last level, 2^k words and zeros after them.
-#[derive(Clone, Copy)]
-pub struct Answer {
-    pub number: u32,
-    pub n: usize,
-    pub k: usize,
-    pub entries: [u64; 32],
-}
-
-// A byte of the input as a size.
-fn size(x: u8) -> usize
-    ensures { result ≡ x }
-{
-    x as usize
-}
+use theory_laws::Refusal;
 
 // Where the challenges begin.
 fn challenges_at(n: usize, k: usize) -> usize
@@ -47,35 +35,33 @@ fn is_whole(len: usize, n: usize, k: usize) -> bool
     len == challenges_at(n, k) + 16 * n
 }
 
-// The number that n, k and the input's length give.
-fn size_number(n: usize, k: usize, len: usize) -> u32
-    ensures { result ≡ size_number n k len }
+// The questions for n, k and the input's length.
+fn size_questions(n: usize, k: usize, len: usize) -> Result<(), Refusal>
+    ensures { answered result ≡ size_number n k len }
 {
     if n > 20 {
-        return 4;
+        return Err(Refusal::Parameters);
     }
     if k > 4 {
-        return 4;
+        return Err(Refusal::Parameters);
     }
     if n + k > 8 {
-        return 4;
+        return Err(Refusal::Parameters);
     }
     if !is_whole(len, n, k) {
-        return 5;
+        return Err(Refusal::Length);
     }
-    0
+    Ok(())
 }
 
-// The number that `tails` answers.
-fn number(input: &[u8]) -> u32
-    ensures { result ≡ tail_number input.now }
+// The questions that `tails` puts.
+fn questions(input: &[u8]) -> Result<(), Refusal>
+    ensures { answered result ≡ tail_number input.now }
 {
     if input.len() < 2 {
-        return 5;
+        return Err(Refusal::Length);
     }
-    let n = size(input[0]);
-    let k = size(input[1]);
-    size_number(n, k, input.len())
+    size_questions(usize::from(input[0]), usize::from(input[1]), input.len())
 }
 
 // The codeword, of the table and the gammas that are read on the way.
@@ -93,7 +79,8 @@ fn encode_input(
     let rows = power(n);
     field_bytes::words_at(input, 2, rows, table);
     field_bytes::words_at(input, 2 + 16 * rows, k * n, gammas);
-    code_codeword::encode(n, k, table, gammas, out);
+    // What is required leaves it nothing to refuse.
+    let _ = code_codeword::encode(n, k, table, gammas, out);
 }
 
 // Room for 256 words, all zero.
@@ -130,11 +117,10 @@ fn folded(m: usize, k: usize, r: Word, level: [u64; 512]) -> [u64; 512]
     requires { (0 < m) × (k ≤ 4) × (m + k ≤ 8) }
     ensures { words result ≡ tab 256 (at (fold_list 0 (word r) (take (2 ^ (m + k)) (words level)))) }
 {
-    let from = level;
     let mut out = blank();
     let half = power(m + k);
     let whole = 2 * half;
-    fold_into(0, r, &from[..whole], &mut out[..half]);
+    fold_into(0, r, &level[..whole], &mut out[..half]);
     out
 }
 
@@ -142,13 +128,8 @@ fn folded(m: usize, k: usize, r: Word, level: [u64; 512]) -> [u64; 512]
 fn first(level: [u64; 512]) -> [u64; 32]
     ensures { result ≡ take 32 level }
 {
-    let from = level;
     let mut out = [0u64; 32];
-    let mut i = 0;
-    while i < 32 {
-        out[i] = from[i];
-        i += 1;
-    }
+    out.copy_from_slice(&level[..32]);
     out
 }
 
@@ -158,97 +139,23 @@ fn last_level(n: usize, k: usize, input: &[u8]) -> [u64; 32]
     ensures { words result ≡ tab 16 (at (input_level n k input.now n)) }
 {
     let mut current = codeword(n, k, input);
-    let mut from = challenges_at(n, k);
-    let mut l = 0;
-    while l < n {
-        let r = field_bytes::word_at(input, from);
+    let from = challenges_at(n, k);
+    for l in 0..n {
+        let r = field_bytes::word_at(input, from + 16 * l);
         let next = folded(n - l, k, r, current);
         current = next;
-        from += 16;
-        l += 1;
     }
     first(current)
 }
 
 // What `tail-list` finds in its input. It refuses 0 or 1 byte with 5, sizes past n 20, k 4 or n + k 8 with 4, and a
 // length that is not theirs with 5.
-pub fn tails(input: &[u8]) -> Answer
+pub fn tails(input: &[u8]) -> Result<LastLevel, Refusal>
     ensures { answer result ≡ tails_of input.now }
 {
-    let refusal = number(input);
-    if refusal != 0 {
-        let none = [0u64; 32];
-        return Answer {
-            number: refusal,
-            n: 0,
-            k: 0,
-            entries: none,
-        };
-    }
-    let n = size(input[0]);
-    let k = size(input[1]);
+    questions(input)?;
+    let n = usize::from(input[0]);
+    let k = usize::from(input[1]);
     let entries = last_level(n, k, input);
-    Answer {
-        number: 0,
-        n,
-        k,
-        entries,
-    }
-}
-
-// ---- the lines; what prints fails where a write does
-
-// The entry's line: `tail`, eps in decimal, and the word in 32 hexadecimal digits.
-fn print_entry(rt: &impl Print, eps: usize, w: Word) -> io::Result<()> {
-    let named = export_text::with_text(export_text::empty(), b"tail ");
-    let numbered = export_text::with_byte(export_text::with_decimal(named, eps as u64), b' ');
-    export_text::print(rt, export_text::with_word(numbered, w))
-}
-
-// 2^k, at most 16.
-fn entry_count(k: usize) -> usize
-    ensures { result ≤ 16 }
-{
-    if k < 4 { 1 << k } else { 16 }
-}
-
-// A line for each of the first entries.
-fn print_entries(rt: &impl Print, count: usize, entries: [u64; 32]) -> io::Result<()>
-    requires { count ≤ 16 }
-{
-    let lent = entries;
-    let mut eps = 0;
-    while eps < count {
-        print_entry(rt, eps, field_words::get(&lent, eps))?;
-        eps += 1;
-    }
-    Ok(())
-}
-
-// The line of a refusal.
-fn print_refused(rt: &impl Print, number: u32) -> io::Result<()> {
-    let refused = export_text::with_text(export_text::empty(), b"refused ");
-    export_text::print(rt, export_text::with_decimal(refused, number as u64))
-}
-
-// The line of the sizes.
-fn print_sizes(rt: &impl Print, n: usize, k: usize) -> io::Result<()> {
-    let first = export_text::with_decimal(
-        export_text::with_text(export_text::empty(), b"n "),
-        n as u64,
-    );
-    export_text::print(
-        rt,
-        export_text::with_decimal(export_text::with_text(first, b" k "), k as u64),
-    )
-}
-
-// The lines: `refused` and the number; or n and k, and then each entry.
-pub fn print(rt: &impl Print, a: Answer) -> io::Result<()> {
-    if a.number != 0 {
-        return print_refused(rt, a.number);
-    }
-    print_sizes(rt, a.n, a.k)?;
-    let entries = a.entries;
-    print_entries(rt, entry_count(a.k), entries)
+    Ok(LastLevel { n, k, entries })
 }

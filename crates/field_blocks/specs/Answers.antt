@@ -1,9 +1,11 @@
 -- What the entries on runs of blocks answer: question 5 (SPECIFICATION 8.2) asks that a run is whole blocks and the output has their room.
-use Rattle.std.specs.Prelude.{ℕ, ◌*◌, ◌/◌, ◌%◌, List, [], ◌∷◌, map, eqb, length, replicate}
+use Rattle.std.specs.Prelude.{ℕ, ◌*◌, ◌/◌, ◌%◌, List, [], ◌∷◌, map, eqb, length, replicate, Result, Ok, Err}
 use Rattle.theory_laws.specs.Lists.{flat}
 use Rattle.theory_laws.specs.Questions.{Question, ◌asks◌, first_no, on_done}
 use Rattle.theory_gcm.specs.Blocks.{imported, exported, blocks, ghash_bytes}
-use Rattle.field_blocks.specs.declared.Hashed.{Hashed}
+use Rattle.theory_laws.specs.Refusals.{number_of}
+use Rattle.theory_laws.specs.declared.Refusal.{Refusal}
+use Rattle.field_blocks.specs.declared.Block.{Block}
 use Rattle.field_blocks.specs.Block.{block}
 
 -- a run of blocks of so many bytes, and its words of so many u64, two to a word
@@ -21,9 +23,10 @@ imported_run bytes = map imported (blocks bytes)
 unfoldable pub exported_run : List ℕ → List ℕ
 exported_run ws = flat (map exported ws)
 
--- the code's answer
-unfoldable pub answer : Hashed → ℕ × List ℕ
-answer r = (r.number, block r.block)
+-- the code's answer: 0 and the block, or the number of the refusal and a block of zeros
+unfoldable pub answer : Result Block Refusal → ℕ × List ℕ
+answer (Ok b) = (0, block b)
+answer (Err e) = (number_of e, replicate 16 0)
 
 -- a run of so many bytes to hash
 abbrev pub hash_questions : ℕ → List Question

@@ -5,32 +5,26 @@
 ghost use Rattle.std.specs.Prelude.{◌≡◌, ◌+◌, ◌*◌, ◌/◌, ◌%◌, ◌≤◌, length};
 ghost use Rattle.theory_laws.specs.Lists.{part};
 ghost use Rattle.theory_laws.specs.Questions.{on_done};
+ghost use Rattle.theory_laws.specs.Refusals.{answered};
 ghost use Rattle.theory_field.specs.Words.{words};
 ghost use Rattle.theory_gcm.specs.Blocks.{imported, exported};
 ghost use Rattle.theory_gcm.specs.helpers.Mirrored.{turned};
 ghost use Rattle.theory_gcm.specs.helpers.Hash.{hash_from};
 ghost use Rattle.field_gf128.specs.Word.{word};
-ghost use Rattle.field_multiples.specs.helpers.Multiples.{Room, Ready};
+ghost use Rattle.field_multiples.specs.helpers.Multiples.{Room};
 ghost use Rattle.field_blocks.specs.Block.{block};
 ghost use Rattle.field_blocks.specs.Answers.{run_number, imported_run, exported_run, answer, hashed_of};
 
 use field_gf128::Word;
-use field_multiples::Kernel;
+use field_multiples::{Kernel, Table};
+use theory_laws::Refusal;
 
 // A block: bytes 0 to 7 and bytes 8 to 15, each a little-endian number.
 #[repr(C)]
-#[derive(Clone, Copy)]
+#[derive(Clone, Copy, Debug, PartialEq, Eq)]
 pub struct Block {
     pub first: u64,
     pub second: u64,
-}
-
-// What `ghash` answers: 0 and the hash, or the number of the refusal and a block of zeros.
-#[repr(C)]
-#[derive(Clone, Copy)]
-pub struct Hashed {
-    pub number: u32,
-    pub block: Block,
 }
 
 // ---- one block
@@ -85,17 +79,18 @@ fn block_at(blocks: &[u8], v: usize) -> Word
     mirror_word(field_bytes::word_at(blocks, 16 * v))
 }
 
-// The number that the questions give for a run of so many bytes, and its words of so many u64.
-fn run_number(bytes: usize, halves: usize) -> u32
-    ensures { result ≡ run_number bytes halves }
+// The questions for a run of so many bytes, and its words of so many u64.
+#[tactic(auto, using(theory_laws::proofs::Questions::asks), unfolding(crate::specs::Answers::run_number))]
+fn run_questions(bytes: usize, halves: usize) -> Result<(), Refusal>
+    ensures { answered result ≡ run_number bytes halves }
 {
     if bytes % 16 != 0 {
-        return 5;
+        return Err(Refusal::Length);
     }
     if halves != 2 * (bytes / 16) {
-        return 5;
+        return Err(Refusal::Length);
     }
-    0
+    Ok(())
 }
 
 // The words of a run, once the questions are answered.
@@ -104,25 +99,20 @@ fn import_words(blocks: &[u8], out: &mut [u64])
     ensures { words out.new ≡ imported_run blocks.now }
 {
     let n = blocks.len() / 16;
-    let mut v = 0;
-    while v < n {
+    for v in 0..n {
         field_words::put(out, v, block_at(blocks, v));
-        v += 1;
     }
 }
 
 // The words of a run of blocks, into a buffer of their length. Refuses with 5 a run that is not whole blocks and a buffer of another length, which then
 // stays.
-pub fn import_run(blocks: &[u8], out: &mut [u64]) -> u32
-    ensures value { result ≡ run_number (length blocks.now) (length out.old) }
-    ensures out_after { words out.new ≡ on_done result (imported_run blocks.now) (words out.old) }
+pub fn import_run(blocks: &[u8], out: &mut [u64]) -> Result<(), Refusal>
+    ensures value { answered result ≡ run_number (length blocks.now) (length out.old) }
+    ensures out_after { words out.new ≡ on_done (answered result) (imported_run blocks.now) (words out.old) }
 {
-    let number = run_number(blocks.len(), out.len());
-    if number != 0 {
-        return number;
-    }
+    run_questions(blocks.len(), out.len())?;
     import_words(blocks, out);
-    0
+    Ok(())
 }
 
 // The blocks of words, once the questions are answered.
@@ -132,41 +122,33 @@ fn export_words(values: &[u64], out: &mut [u8])
 {
     let n = values.len() / 2;
     let mut at = 0;
-    let mut v = 0;
-    while v < n {
+    for v in 0..n {
         let m = mirror_word(field_words::get(values, v));
         at = field_bytes::put_word(out, at, m);
-        v += 1;
     }
 }
 
 // The blocks of words, into a buffer of 16 bytes a word. Refuses with 5 an odd number of halves and a buffer of another length, which then stays.
-pub fn export_run(values: &[u64], out: &mut [u8]) -> u32
-    ensures value { result ≡ run_number (length out.old) (length values.now) }
-    ensures out_after { out.new ≡ on_done result (exported_run (words values.now)) out.old }
+pub fn export_run(values: &[u64], out: &mut [u8]) -> Result<(), Refusal>
+    ensures value { answered result ≡ run_number (length out.old) (length values.now) }
+    ensures out_after { out.new ≡ on_done (answered result) (exported_run (words values.now)) out.old }
 {
-    let number = run_number(out.len(), values.len());
-    if number != 0 {
-        return number;
-    }
+    run_questions(out.len(), values.len())?;
     export_words(values, out);
-    0
+    Ok(())
 }
 
 // ---- GHASH
 
-// The hash of a run by the word h of the key, as a word, by windows of `bits` bits.
-fn ghash_by(blocks: &[u8], t: &[u64], bits: u64, h: Word) -> Word
-    requires { Ready bits (word h) t.now }
-    ensures { word result ≡ hash_from (word h) 0 (imported_run blocks.now) }
+// The hash of a run by the word of the key, whose multiples the table has, as a word.
+fn ghash_by<const BITS: u64>(blocks: &[u8], by: Table<'_, BITS>) -> Word
+    ensures { word result ≡ hash_from (word by.entry.factor) 0 (imported_run blocks.now) }
 {
     let n = blocks.len() / 16;
     let mut y = Word { lo: 0, hi: 0 };
-    let mut v = 0;
-    while v < n {
+    for v in 0..n {
         let sum = field_gf128::add(y, block_at(blocks, v));
-        y = field_multiples::times(t, bits, h, sum);
-        v += 1;
+        y = by.times(sum);
     }
     y
 }
@@ -178,13 +160,13 @@ fn ghash_words(blocks: &[u8], h: Word, t: &mut [u64]) -> Word
 {
     let n = blocks.len() / 16;
     match field_multiples::prepare(t, n, h) {
-        Kernel::Nibbles => ghash_by(blocks, t, 4, h),
-        Kernel::Bytes => ghash_by(blocks, t, 8, h),
+        Kernel::Nibbles => ghash_by::<4>(blocks, Table::of(t, h)),
+        Kernel::Bytes => ghash_by::<8>(blocks, Table::of(t, h)),
     }
 }
 
 // GHASH of a run of blocks by a key. Refuses with 5 a run that is not whole blocks.
-pub fn ghash(key: Block, blocks: &[u8]) -> Hashed
+pub fn ghash(key: Block, blocks: &[u8]) -> Result<Block, Refusal>
     ensures { answer result ≡ hashed_of (block key) blocks.now }
 {
     // Room for the products by the key, made before the question is put and aligned by a store: docs/DECISIONS.md, 54 and 58.
@@ -192,17 +174,8 @@ pub fn ghash(key: Block, blocks: &[u8]) -> Hashed
     let h = import_block(key);
     field_words::put(&mut multiples, 0, h);
     if blocks.len() % 16 != 0 {
-        return Hashed {
-            number: 5,
-            block: Block {
-                first: 0,
-                second: 0,
-            },
-        };
+        return Err(Refusal::Length);
     }
     let y = ghash_words(blocks, h, &mut multiples);
-    Hashed {
-        number: 0,
-        block: export_block(y),
-    }
+    Ok(export_block(y))
 }

@@ -28,11 +28,9 @@ pub fn words_at(s: &[u8], from: usize, n: usize, out: &mut [u64])
     requires { (from + 16 * n ≤ length s.now) × (length out.old ≡ 2 * n) }
     ensures { words out.new ≡ words_from from n s.now }
 {
-    let mut v = 0;
-    while v < n {
+    for v in 0..n {
         let w = word_at(s, from + 16 * v);
         field_words::put(out, v, w);
-        v += 1;
     }
 }
 
@@ -51,11 +49,9 @@ pub fn put_words(out: &mut [u8], from: usize, values: &[u64], start: usize, coun
     ensures { Put out.old from (16 * count) (word_bytes (words values.now) start count) out.new result }
 {
     let mut at = from;
-    let mut i: usize = 0;
-    while i < count {
+    for i in 0..count {
         let w = field_words::get(values, start + i);
         at = put_word(out, at, w);
-        i += 1;
     }
     at
 }

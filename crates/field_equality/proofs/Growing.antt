@@ -1,5 +1,5 @@
 -- What the questions of an equality table leave known, its length as code computes it, and its growth by a coordinate. Rests on the
--- doubling of `runs` and on the equality table's laws in `multilinear`.
+-- doubling of field_runs and on the equality table's laws in theory_multilinear.
 use mathlib.Core.Path.{◌≡◌, sym, ap, ap₂, ◌∙◌}
 use mathlib.Core.List.{List, [], ◌∷◌, ◌++◌, map, append_assoc}
 use Prim.Native.Nat.{ℕ, suc, ◌+◌, ◌*◌, ◌^◌, ◌≤◌, ◌<◌}

@@ -1,4 +1,4 @@
--- The questions put to the equality table of a point (SPECIFICATION 8.4). The table itself is `eqTable` of multilinear.
+-- The questions put to the equality table of a point (SPECIFICATION 8.4). The table itself is `eq_table` of theory_multilinear.
 use Rattle.std.specs.Prelude.{ℕ, ◌*◌, ◌^◌, List, [], ◌∷◌, eqb, leb}
 use Rattle.theory_laws.specs.Questions.{Question, ◌asks◌, first_no}
 

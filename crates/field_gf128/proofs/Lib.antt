@@ -2,5 +2,6 @@ pub mod Halves
 pub mod Windows
 pub mod Karatsuba
 pub mod Reduction
-pub mod Spread
+pub mod Spreading
 pub mod Inverting
+pub mod Equality

@@ -1,13 +1,16 @@
 -- What inverting a word answers: a number and a word.
-use Rattle.std.specs.Prelude.{ℕ, not, List, [], ◌∷◌, eqb}
+use Rattle.std.specs.Prelude.{ℕ, not, List, [], ◌∷◌, eqb, Result, Ok, Err}
 use Rattle.theory_laws.specs.Questions.{Question, ◌asks◌, first_no, on_done}
 use Rattle.theory_field.specs.Field.{inverse}
-use Rattle.field_gf128.specs.declared.Inverse.{Inverse}
+use Rattle.theory_laws.specs.Refusals.{number_of}
+use Rattle.theory_laws.specs.declared.Refusal.{Refusal}
+use Rattle.field_gf128.specs.declared.Word.{Word}
 use Rattle.field_gf128.specs.Word.{word}
 
--- the code's answer
-unfoldable pub answer : Inverse → ℕ × ℕ
-answer r = (r.number, word r.word)
+-- the code's answer: 0 and the word, or the number of the refusal and 0
+unfoldable pub answer : Result Word Refusal → ℕ × ℕ
+answer (Ok w) = (0, word w)
+answer (Err e) = (number_of e, 0)
 
 -- question 1 (SPECIFICATION 8.2): is the word to invert other than 0?
 abbrev pub inverse_questions : ℕ → List Question

@@ -7,15 +7,18 @@ ghost use Rattle.theory_laws.specs.Table.{tab};
 ghost use Rattle.theory_field.specs.Field.{xtime, ◌⊗◌, sq, frob, inverse};
 ghost use Rattle.theory_field.specs.LongProduct.{long};
 ghost use Rattle.theory_field.proofs.LongProduct.{red};
-ghost use Rattle.theory_field.specs.Spread.{spread, spread_table};
+ghost use Rattle.theory_field.specs.Spread.{spread};
 ghost use Rattle.field_gf128.specs.Word.{word, wide};
 ghost use Rattle.field_gf128.specs.Inverse.{answer, inverse_of};
+
+use table::Table;
+use theory_laws::Refusal;
 
 mod table;
 
 // A word: bit i of `lo` is the coefficient of x^i, and bit i of `hi` that of x^(64 + i).
 #[repr(C)]
-#[derive(Clone, Copy)]
+#[derive(Clone, Copy, Debug, PartialEq, Eq)]
 pub struct Word {
     pub lo: u64,
     pub hi: u64,
@@ -26,14 +29,6 @@ pub struct Word {
 struct Wide {
     lo: Word,
     hi: Word,
-}
-
-// What `inv` answers: 0 and the inverse, or the number of the refusal and the word 0.
-#[repr(C)]
-#[derive(Clone, Copy)]
-pub struct Inverse {
-    pub number: u32,
-    pub word: Word,
 }
 
 // The sum: in characteristic two, exclusive or.
@@ -104,11 +99,9 @@ fn clmul61(a: u64, b: u64) -> Word
 {
     let t = multiples(a);
     let mut p = Word { lo: 0, hi: 0 };
-    let mut j: u64 = 0;
-    while j < 16 {
+    for j in 0..16u64 {
         let n = ((b >> (60 - 4 * j)) & 15) as usize;
         p = add(shl4(p), Word { lo: t[n], hi: 0 });
-        j += 1;
     }
     p
 }
@@ -177,59 +170,61 @@ pub fn mul(a: Word, b: Word) -> Word
     reduce256(clmul128(a, b))
 }
 
-// The bits of a number below 2^32 spread apart, each with a zero above it.
-fn spread32(x: u64) -> u64
-    requires { x < 2 ^ 32 }
-    ensures { result ≡ spread 32 x }
-{
-    let by16 = (x ^ (x << 16)) & 0x0000_ffff_0000_ffff;
-    let by8 = (by16 ^ (by16 << 8)) & 0x00ff_00ff_00ff_00ff;
-    let by4 = (by8 ^ (by8 << 4)) & 0x0f0f_0f0f_0f0f_0f0f;
-    let by2 = (by4 ^ (by4 << 2)) & 0x3333_3333_3333_3333;
-    (by2 ^ (by2 << 1)) & 0x5555_5555_5555_5555
+// What spreads 32 bits apart, each with a zero above it: by masks, or by a table.
+trait Spread {
+    fn spread32(&self, x: u64) -> u64
+        requires { x < 2 ^ 32 }
+        ensures { result ≡ spread 32 x };
+}
+
+// Bits spread apart by shifts and masks.
+#[derive(Clone, Copy)]
+struct Masks;
+
+impl Spread for Masks {
+    fn spread32(&self, x: u64) -> u64 {
+        let by16 = (x ^ (x << 16)) & 0x0000_ffff_0000_ffff;
+        let by8 = (by16 ^ (by16 << 8)) & 0x00ff_00ff_00ff_00ff;
+        let by4 = (by8 ^ (by8 << 4)) & 0x0f0f_0f0f_0f0f_0f0f;
+        let by2 = (by4 ^ (by4 << 2)) & 0x3333_3333_3333_3333;
+        (by2 ^ (by2 << 1)) & 0x5555_5555_5555_5555
+    }
 }
 
 // A half spread apart: a word.
-fn spread64(x: u64) -> Word
+fn spread64<S: Spread>(by: &S, x: u64) -> Word
     ensures { word result ≡ spread 64 x }
 {
     Word {
-        lo: spread32(x & 0xffff_ffff),
-        hi: spread32(x >> 32),
+        lo: by.spread32(x & 0xffff_ffff),
+        hi: by.spread32(x >> 32),
     }
 }
 
 // The square. The carry-less square of a word is its bits spread apart, since no two of them have a product of their own.
+fn square_by<S: Spread>(by: &S, a: Word) -> Word
+    ensures { word result ≡ sq (word a) }
+{
+    reduce256(Wide {
+        lo: spread64(by, a.lo),
+        hi: spread64(by, a.hi),
+    })
+}
+
+// The square, by masks.
 pub fn square(a: Word) -> Word
     ensures { word result ≡ sq (word a) }
 {
-    reduce256(Wide {
-        lo: spread64(a.lo),
-        hi: spread64(a.hi),
-    })
-}
-
-// The square, its bits spread apart through the table.
-fn square_by(t: &[u16; 256], a: Word) -> Word
-    requires { t.now ≡ spread_table }
-    ensures { word result ≡ sq (word a) }
-{
-    reduce256(Wide {
-        lo: table::spread64(t, a.lo),
-        hi: table::spread64(t, a.hi),
-    })
+    square_by(&Masks, a)
 }
 
 // The word squared n times: its power 2^n.
-fn squares(t: &[u16; 256], a: Word, n: u64) -> Word
-    requires { t.now ≡ spread_table }
+fn squares(t: &Table, a: Word, n: u64) -> Word
     ensures { word result ≡ frob n (word a) }
 {
     let mut w = a;
-    let mut i: u64 = 0;
-    while i < n {
+    for _i in 0..n {
         w = square_by(t, w);
-        i += 1;
     }
     w
 }
@@ -239,13 +234,11 @@ fn squares(t: &[u16; 256], a: Word, n: u64) -> Word
 pub fn square_by_table(a: Word) -> Word
     ensures { word result ≡ sq (word a) }
 {
-    let t = table::spread_table();
-    squares(&t, a, 1)
+    squares(&Table::new(), a, 1)
 }
 
 // a times b squared n times.
-fn mul_squares(t: &[u16; 256], a: Word, b: Word, n: u64) -> Word
-    requires { t.now ≡ spread_table }
+fn mul_squares(t: &Table, a: Word, b: Word, n: u64) -> Word
     ensures { word result ≡ word a ⊗ frob n (word b) }
 {
     mul(a, squares(t, b, n))
@@ -253,8 +246,7 @@ fn mul_squares(t: &[u16; 256], a: Word, b: Word, n: u64) -> Word
 
 // The power 2^128 - 2. With a_n for the power 2^n - 1, a_(m + n) is a_m times a_n squared m times (Itoh and Tsujii), and the
 // square of a_127 is that power: 10 products and 127 squares.
-fn power(t: &[u16; 256], a: Word) -> Word
-    requires { t.now ≡ spread_table }
+fn power(t: &Table, a: Word) -> Word
     ensures { word result ≡ inverse (word a) }
 {
     let a2 = mul_squares(t, a, a, 1);
@@ -271,18 +263,11 @@ fn power(t: &[u16; 256], a: Word) -> Word
 }
 
 // The inverse. Question 1 (SPECIFICATION 8.2): the word 0 has none, and is refused with 1.
-pub fn inv(a: Word) -> Inverse
+pub fn inv(a: Word) -> Result<Word, Refusal>
     ensures { answer result ≡ inverse_of (word a) }
 {
     if (a.lo | a.hi) == 0 {
-        return Inverse {
-            number: 1,
-            word: Word { lo: 0, hi: 0 },
-        };
+        return Err(Refusal::NoInverse);
     }
-    let t = table::spread_table();
-    Inverse {
-        number: 0,
-        word: power(&t, a),
-    }
+    Ok(power(&Table::new(), a))
 }

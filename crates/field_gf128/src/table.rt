@@ -1,10 +1,9 @@
-// Bits spread apart through a table of bytes (SPECIFICATION 2.3). A constant is built anew at each use, so the table is read once and lent to all
-// squares that follow. These are helpers for the rest of the crate; all but `spread_table` require the table.
+// Bits spread apart through a table of bytes (SPECIFICATION 2.3). A constant is built anew at each use, so the table is made once and lent to all
+// squares that follow. These are helpers for the rest of the crate.
 ghost use Rattle.std.specs.Prelude.{◌≡◌};
 ghost use Rattle.theory_field.specs.Spread.{spread, spread_table};
-ghost use Rattle.field_gf128.specs.Word.{word};
 
-use crate::Word;
+use crate::Spread;
 
 // Entry v has bit 2i set exactly where v has bit i. The program export_spread_table prints these entries; tools/house holds one to the other.
 const SPREAD: [u16; 256] = [
@@ -32,46 +31,31 @@ const SPREAD: [u16; 256] = [
     0x5550, 0x5551, 0x5554, 0x5555,
 ];
 
-// The table.
-pub fn spread_table() -> [u16; 256]
-    ensures { result ≡ spread_table }
-{
-    SPREAD
+// The table. Its entries are those that the definition has.
+#[derive(Clone, Copy)]
+pub struct Table {
+    entries: [u16; 256],
+    ghost is: { entries ≡ spread_table },
 }
 
-// An entry as a number of 64 bits.
-fn number(x: u16) -> u64
-    ensures { result ≡ x }
-{
-    x as u64
+impl Table {
+    pub fn new() -> Table {
+        Table { entries: SPREAD }
+    }
+
+    // The lowest byte of a number spread apart.
+    fn spread8(&self, x: u64) -> u64
+        ensures { result ≡ spread 8 x }
+    {
+        u64::from(self.entries[(x % 256) as usize])
+    }
 }
 
-// The lowest byte of a number spread apart.
-fn spread8(t: &[u16; 256], x: u64) -> u64
-    requires { t.now ≡ spread_table }
-    ensures { result ≡ spread 8 x }
-{
-    let v = (x % 256) as usize;
-    number(t[v])
-}
-
-// The four lowest bytes of a number spread apart.
-fn spread32(t: &[u16; 256], x: u64) -> u64
-    requires { t.now ≡ spread_table }
-    ensures { result ≡ spread 32 x }
-{
-    let low = spread8(t, x) ^ (spread8(t, x >> 8) << 16);
-    let high = spread8(t, x >> 16) ^ (spread8(t, x >> 24) << 16);
-    low ^ (high << 32)
-}
-
-// A half spread apart: a word.
-pub fn spread64(t: &[u16; 256], x: u64) -> Word
-    requires { t.now ≡ spread_table }
-    ensures { word result ≡ spread 64 x }
-{
-    Word {
-        lo: spread32(t, x),
-        hi: spread32(t, x >> 32),
+impl Spread for Table {
+    // The four bytes of a number spread apart.
+    fn spread32(&self, x: u64) -> u64 {
+        let low = self.spread8(x) ^ (self.spread8(x >> 8) << 16);
+        let high = self.spread8(x >> 16) ^ (self.spread8(x >> 24) << 16);
+        low ^ (high << 32)
     }
 }

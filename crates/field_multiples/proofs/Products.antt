@@ -1,6 +1,6 @@
 -- The product by windows of b bits, and the rows of a table.
 use mathlib.Core.Path.{◌≡◌, sym, ap, ap₂, ◌∙◌}
-use mathlib.Core.Logic.{◌⊎◌, ⊎_elim}
+use mathlib.Core.Logic.{⊎_elim}
 use mathlib.Core.List.{List}
 use Prim.Native.Nat.{ℕ, suc, ◌+◌, ◌-◌, ◌*◌, ◌/◌, ◌%◌, ◌^◌, ◌≤◌, ◌<◌}
 use native.Mathlib.Nat.{mul_assoc, mod-lt, mod-eq_of_lt, suc-mul, zero-mul, add-zero, one-mul, mul-one, lt_of_lt_of_le, pow-suc, div-one}
@@ -38,7 +38,6 @@ cut b e r v =
 -- a turn of the loop: p with the entry of row j at the low window of x
 pub next-window : (b n j r p x q : ℕ) (ws : List ℕ) → Multiples b n r ws → suc j * 2 ^ b ≤ n → p ⊕ r ⊗ (x * 2 ^ (b * j)) ≡ q
     → (p ⊕ at ws (j * 2 ^ b + x % 2 ^ b)) ⊕ r ⊗ (x / 2 ^ b * 2 ^ (b * (j + 1))) ≡ q
-unfolding Multiples
 next-window b n j r p x q ws m h e =
     ⊕_assoc p _ _
     ∙ ap (λ y. p ⊕ y)
@@ -76,7 +75,6 @@ last-window b n r p x h e q a w l g =
 
 -- the rows of the low half are among those of both
 pub fewer : (b n r : ℕ) (ws : List ℕ) → Multiples b ((n + n) * 2 ^ b) r ws → Multiples b ((0 + n) * 2 ^ b) r ws
-unfolding Multiples
 fewer b n r ws m k h = m k (lt_of_lt_of_le h (mul-le-mul_right (2 ^ b) (omega arith)))
 
 pub halves : (b n r p q hi lo : ℕ) → b * n ≡ 64 → lo < 2 ^ 64 → p ≡ r ⊗ (lo * 2 ^ (b * 0)) → q ≡ r ⊗ (hi * 2 ^ (b * n))
@@ -133,7 +131,6 @@ row_more from i w ws us vs row copied =
 
 -- ---- the rows
 pub no_rows : (b r : ℕ) (ws : List ℕ) → Multiples b (0 * 2 ^ b) r ws
-unfolding Multiples
 no_rows b r ws k h = absurd (omega (arith, zero-mul (2 ^ b)))
 
 pub first_power : (b r : ℕ) → r < 2 ^ 128 → r ≡ r ⊗ 2 ^ (b * 0)
@@ -149,7 +146,6 @@ next_power b j r d e h p q =
 
 pub next_row : (b j r w : ℕ) (ws vs : List ℕ) → b * (j + 1) ≤ 128 → w ≡ r ⊗ 2 ^ (b * j) → Row b (j * 2 ^ b) w ws vs
     → Multiples b (j * 2 ^ b) r ws → Multiples b ((j + 1) * 2 ^ b) r vs
-unfolding Multiples
 next_row b j r w ws vs h e row m k l = pick (dec_lt k (j * 2 ^ b))
   where
     old : k < j * 2 ^ b → at vs k ≡ r ⊗ window b k

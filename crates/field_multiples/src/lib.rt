@@ -7,23 +7,20 @@ ghost use Rattle.theory_laws.specs.Table.{at};
 ghost use Rattle.theory_field.specs.Field.{◌⊗◌};
 ghost use Rattle.theory_field.specs.Words.{words};
 ghost use Rattle.field_gf128.specs.Word.{word};
-ghost use Rattle.field_multiples.specs.helpers.Multiples.{Multiples, bits_of, Room, Ready};
+ghost use Rattle.field_multiples.specs.helpers.Multiples.{Multiples, Room, Ready};
+ghost use Rattle.field_multiples.specs.helpers.Kernels.{bits_of};
 ghost use Rattle.field_multiples.specs.helpers.Rows.{Copied, Row};
 
 use field_gf128::Word;
+pub use table::Table;
+
+mod table;
 
 // How products by one word are made: by windows of 4 bits, 32 rows of 16 multiples; or by windows of 8 bits, 16 rows of 256.
-#[derive(Clone, Copy)]
+#[derive(Clone, Copy, Debug, PartialEq, Eq)]
 pub enum Kernel {
     Nibbles,
     Bytes,
-}
-
-// The same number.
-fn narrow(x: u64) -> usize
-    ensures { result ≡ x }
-{
-    x as usize
 }
 
 // The n words from a place on, each plus d, copied behind them.
@@ -31,11 +28,9 @@ fn copy_plus(t: &mut [u64], from: usize, n: usize, d: Word)
     requires { 2 * (from + n + n) ≤ length t.old }
     ensures { Copied from n n (word d) (words t.old) (words t.new) }
 {
-    let mut k = 0;
-    while k < n {
+    for k in 0..n {
         let w = field_gf128::add(field_words::get(t, from + k), d);
         field_words::put(t, from + n + k, w);
-        k += 1;
     }
 }
 
@@ -47,12 +42,10 @@ fn row(t: &mut [u64], b: u64, from: usize, w: Word) -> Word
     field_words::put(t, from, Word { lo: 0, hi: 0 });
     let mut d = w;
     let mut n: usize = 1;
-    let mut i: u64 = 0;
-    while i < b {
+    for _i in 0..b {
         copy_plus(t, from, n, d);
         d = field_gf128::double(d);
         n = n + n;
-        i += 1;
     }
     d
 }
@@ -63,10 +56,8 @@ fn fill(t: &mut [u64], b: u64, rows: usize, r: Word)
     ensures { Multiples b (rows * 2 ^ b) (word r) (words t.new) }
 {
     let mut d = r;
-    let mut j: usize = 0;
-    while j < rows {
+    for j in 0..rows {
         d = row(t, b, j << b, d);
-        j += 1;
     }
 }
 
@@ -75,7 +66,7 @@ fn entry(t: &[u64], b: u64, j: usize, x: u64) -> Word
     requires { (b < 64) × (2 * (suc j * 2 ^ b) ≤ length t.now) }
     ensures { word result ≡ at (words t.now) (j * 2 ^ b + x % 2 ^ b) }
 {
-    field_words::get(t, (j << b) + narrow(x & ((1 << b) - 1)))
+    field_words::get(t, (j << b) + (x & ((1 << b) - 1)) as usize)
 }
 
 // The product with half a word, h, whose n windows go by the rows from j on.
@@ -85,11 +76,9 @@ fn half(t: &[u64], b: u64, n: usize, j: usize, h: u64) -> Word
 {
     let mut p = Word { lo: 0, hi: 0 };
     let mut x = h;
-    let mut i: usize = 0;
-    while i < n {
+    for i in 0..n {
         p = field_gf128::add(p, entry(t, b, j + i, x));
         x = x >> b;
-        i += 1;
     }
     p
 }
@@ -113,12 +102,4 @@ pub fn prepare(t: &mut [u64], n: usize, r: Word) -> Kernel
     }
     fill(t, 8, 16, r);
     Kernel::Bytes
-}
-
-// The product of r and w, by the table of r for windows of `bits` bits. Where the compiler knows that number, it writes the lookups out.
-pub fn times(t: &[u64], bits: u64, r: Word, w: Word) -> Word
-    requires { Ready bits (word r) t.now }
-    ensures { word result ≡ word r ⊗ word w }
-{
-    windows(t, bits, narrow(64 / bits), w)
 }

@@ -1,11 +1,12 @@
--- An array of words by value as a list of numbers: read, stored, counted, doubled. Rests on the doubling of `runs`.
+-- An array of words by value as a list of numbers: read, stored, counted, doubled. Rests on the doubling of field_runs.
 use mathlib.Core.Path.{◌≡◌, refl, ap, ap₂, ◌∙◌}
 use mathlib.Core.List.{List, [], ◌∷◌}
-use Prim.Native.Nat.{ℕ, zero, suc, ◌+◌, ◌<◌}
+use Prim.Native.Nat.{ℕ, zero, suc, ◌+◌, ◌/◌, ◌^◌, ◌<◌}
 use native.Mathlib.Omega.{arith}
 use lib.ListN.{length, get_or, set, length-map}
 use Rattle.theory_laws.specs.Table.{at}
-use Rattle.theory_laws.specs.Xor.{◌⊕◌}
+use lib.Bits.{bit_and, and_mask}
+use Rattle.theory_laws.specs.Xor.{◌⊕◌, bit, sel}
 use Rattle.theory_field.specs.Field.{◌⊗◌}
 use Rattle.field_gf128.specs.declared.Word.{Word}
 use Rattle.field_gf128.specs.Word.{word}
@@ -36,3 +37,7 @@ numbers-doubled c v n z t s e f =
     ∙ ap₂ (λ (r : List ℕ) (x : ℕ). set r v x)
     (numbers-set c (n + v) t ∙ ap (set (numbers c) (n + v)) e)
     (f ∙ ap (λ (x : ℕ). at (numbers c) v ⊕ x) e)
+
+-- a coefficient that a bit of a number chooses, as code reads both
+pub chosen-at : (c : List Word) (k i b : ℕ) (d : Word) → b < length c → sel (bit_and (k / 2 ^ i) 1) (word (get_or c b d)) ≡ sel (bit i k) (at (numbers c) b)
+chosen-at c k i b d h = ap₂ sel (and_mask (k / 2 ^ i) 1) (numbers-at c b d h)

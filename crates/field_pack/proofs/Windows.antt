@@ -1,5 +1,5 @@
 -- Nibbles of a word by its halves, a value chosen by a bit, and phi by tables of nibbles. Rests on the windows of an additive
--- map (laws, Windows) and on phi's laws in `multilinear`.
+-- map (theory_laws, Windows) and on phi's laws in theory_multilinear.
 use mathlib.Core.Path.{◌≡◌, refl, sym, ap, ap₂, ◌∙◌}
 use mathlib.Core.List.{List}
 use Prim.Native.Nat.{ℕ, zero, suc, ◌+◌, ◌-◌, ◌*◌, ◌/◌, ◌%◌, ◌^◌, ◌≤◌, ◌<◌}

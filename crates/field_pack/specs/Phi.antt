@@ -18,6 +18,6 @@ coefficients c b = at (numbers c) b
 unfoldable pub phi_tab : (ℕ → ℕ) → List ℕ
 phi_tab c = tab 512 (λ k. phi c (k % 16 * 2 ^ (4 * (k / 16))))
 
--- the sum of the entries that the nibbles of w choose, each in its table. Of `phiTab c` it is phi of w (proofs/Windows)
+-- the sum of the entries that the nibbles of w choose, each in its table. Of `phi_tab c` it is phi of w (proofs/Windows)
 unfoldable pub chosen : List ℕ → ℕ → ℕ
 chosen t w = sum 32 (λ j. at t (j * 16 + w / 2 ^ (4 * j) % 16))

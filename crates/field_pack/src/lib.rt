@@ -6,6 +6,7 @@ ghost use Rattle.theory_laws.specs.Xor.{sel};
 ghost use Rattle.theory_laws.specs.Sum.{sum};
 ghost use Rattle.theory_laws.specs.Table.{at};
 ghost use Rattle.theory_laws.specs.Questions.{on_done};
+ghost use Rattle.theory_laws.specs.Refusals.{answered};
 ghost use Rattle.theory_multilinear.specs.Partials.{word_of};
 ghost use Rattle.theory_multilinear.specs.Equality.{eq_table};
 ghost use Rattle.theory_multilinear.specs.Phi.{phi};
@@ -16,39 +17,35 @@ ghost use Rattle.field_pack.specs.Pack.{all_bits, pack_number, packed};
 ghost use Rattle.field_pack.specs.Phi.{numbers, coefficients, phi_tab, chosen};
 
 use crate::bits::{nibble, select};
-use bytes_numbers::wide;
+use crate::sums::sum_of;
 use field_gf128::Word;
+use theory_laws::Refusal;
 
 pub mod bits;
+pub mod sums;
 
 // Is each byte 0 or 1?
 fn all_bits(bytes: &[u8]) -> bool
     ensures { result ≡ all_bits bytes.now }
 {
-    let mut i: usize = 0;
-    while i < bytes.len() {
-        if bytes[i] > 1 {
-            return false;
-        }
-        i += 1;
-    }
-    true
+    bytes.iter().all(|byte| *byte <= 1)
 }
 
-// The number that the questions give for these bytes and a lent output of `len` u64.
-fn pack_number(bytes: &[u8], len: usize) -> u32
-    ensures { result ≡ pack_number bytes.now len }
+// The questions for these bytes and a lent output of `len` u64.
+#[tactic(auto, using(theory_laws::proofs::Questions::asks), unfolding(crate::specs::Pack::pack_number))]
+fn questions(bytes: &[u8], len: usize) -> Result<(), Refusal>
+    ensures { answered result ≡ pack_number bytes.now len }
 {
     if bytes.len() % 128 != 0 {
-        return 2;
+        return Err(Refusal::NotWholeWords);
     }
     if !all_bits(bytes) {
-        return 3;
+        return Err(Refusal::NotBits);
     }
     if len != 2 * (bytes.len() / 128) {
-        return 5;
+        return Err(Refusal::Length);
     }
-    0
+    Ok(())
 }
 
 // 64 bytes from `from` on, byte b giving bit b.
@@ -58,10 +55,8 @@ fn pack_half(bytes: &[u8], from: usize) -> u64
     ensures { result ≡ sum 64 (λ b. sel (at bytes.now (from + b)) (2 ^ b)) }
 {
     let mut half: u64 = 0;
-    let mut b: usize = 0;
-    while b < 64 {
-        half = half ^ (wide(bytes[from + b]) << b);
-        b += 1;
+    for b in 0..64 {
+        half ^= u64::from(bytes[from + b]) << b;
     }
     half
 }
@@ -85,46 +80,52 @@ fn pack_groups(bytes: &[u8], out: &mut [u64])
     ensures { words out.new ≡ packed bytes.now }
 {
     let n = bytes.len() / 128;
-    let mut v: usize = 0;
-    while v < n {
+    for v in 0..n {
         field_words::put(out, v, pack_bytes_le(bytes, 128 * v));
-        v += 1;
     }
 }
 
 // Packs each group of 128 bytes, byte b giving bit b, into the words of `out`. Refuses with 2 where the byte count is no
 // multiple of 128, with 3 where a byte is above 1, with 5 where `out` is not exactly as long as the words; `out` then stays.
-pub fn pack_table(bytes: &[u8], out: &mut [u64]) -> u32
-    ensures value { result ≡ pack_number bytes.now (length out.old) }
-    ensures out_after { words out.new ≡ on_done result (packed bytes.now) (words out.old) }
+pub fn pack_table(bytes: &[u8], out: &mut [u64]) -> Result<(), Refusal>
+    ensures value { answered result ≡ pack_number bytes.now (length out.old) }
+    ensures out_after { words out.new ≡ on_done (answered result) (packed bytes.now) (words out.old) }
 {
-    let number = pack_number(bytes, out.len());
-    if number != 0 {
-        return number;
-    }
+    questions(bytes, out.len())?;
     pack_groups(bytes, out);
-    0
+    Ok(())
+}
+
+// phi of a half that stands in its word from bit `from` on. Only set bits cost: the lowest one that is left goes, until none is.
+fn phi_half(half: u64, from: usize, c: &[Word; 128]) -> Word
+    requires { from ≤ 64 }
+    ensures { word result ≡ phi (coefficients c.now) (half * 2 ^ from) }
+{
+    let mut acc = Word { lo: 0, hi: 0 };
+    let mut left = half;
+    // No `for`: the bits that are left say which turn is next and whether there is one, and a `for` over 64 places would cost the unset bits too.
+    while left != 0 {
+        let x = c[from + left.trailing_zeros() as usize];
+        acc = field_gf128::add(acc, x);
+        left &= left - 1;
+    }
+    acc
 }
 
 // phi of one word under row coefficients c: the sum of c[b] over the set bits b. Fills no table. Of a sum of two words it is the sum of both, and of
-// the word x^b it is c[b] (`PhiLaws`, where phi is defined). Only set bits cost: of each half the lowest one that is left goes, until none is.
+// the word x^b it is c[b] (`PhiLaws`, where phi is defined).
 pub fn phi_c(w: Word, c: [Word; 128]) -> Word
     ensures { word result ≡ phi (coefficients c) (word w) }
 {
-    let mut acc = Word { lo: 0, hi: 0 };
-    let mut lo = w.lo;
-    while lo != 0 {
-        let x = c[u64::trailing_zeros(lo) as usize];
-        acc = field_gf128::add(acc, x);
-        lo = lo & (lo - 1);
-    }
-    let mut hi = w.hi;
-    while hi != 0 {
-        let x = c[64 + u64::trailing_zeros(hi) as usize];
-        acc = field_gf128::add(acc, x);
-        hi = hi & (hi - 1);
-    }
-    acc
+    field_gf128::add(phi_half(w.lo, 0, &c), phi_half(w.hi, 64, &c))
+}
+
+// Word k of the tables of row coefficients c: the sum of the four coefficients of its table that the set bits of k choose.
+fn table_word(c: &[Word; 128], k: usize) -> Word
+    requires { k < 512 }
+    ensures { word result ≡ phi (coefficients c.now) (k % 16 * 2 ^ (4 * (k / 16))) }
+{
+    sum_of(4, |i| select((k as u64 >> i) & 1, c[4 * (k / 16) + i]))
 }
 
 // The tables of row coefficients c: entry v of table j, word 16 × j + v, is the sum of c[4 × j + i] over the set bits i of v.
@@ -132,31 +133,10 @@ pub fn phi_tab(c: [Word; 128]) -> [u64; 1024]
     ensures { words result ≡ phi_tab (coefficients c) }
 {
     let mut t = [0u64; 1024];
-    let mut k: usize = 0;
-    while k < 512 {
-        let from = 4 * (k / 16);
-        let mut acc = Word { lo: 0, hi: 0 };
-        let mut i: usize = 0;
-        while i < 4 {
-            let x = c[from + i];
-            acc = field_gf128::add(acc, select((k as u64 >> i) & 1, x));
-            i += 1;
-        }
-        field_words::put(&mut t, k, acc);
-        k += 1;
+    for k in 0..512 {
+        field_words::put(&mut t, k, table_word(&c, k));
     }
     t
-}
-
-// Word k of the tables.
-fn entry(t: &[u64; 1024], k: usize) -> Word
-    requires { k < 512 }
-    ensures { word result ≡ at (words t.now) k }
-{
-    Word {
-        lo: t[2 * k],
-        hi: t[2 * k + 1],
-    }
 }
 
 // The sum of the entries that the 16 nibbles of a half choose, the lowest nibble in table `from`.
@@ -164,13 +144,10 @@ fn apply_half(t: &[u64; 1024], from: usize, half: u64) -> Word
     requires { from ≤ 16 }
     ensures { word result ≡ sum 16 (λ i. at (words t.now) ((from + i) * 16 + half / 2 ^ (4 * i) % 16)) }
 {
-    let mut acc = Word { lo: 0, hi: 0 };
-    let mut i: usize = 0;
-    while i < 16 {
-        acc = field_gf128::add(acc, entry(t, (from + i) * 16 + nibble(half, i)));
-        i += 1;
-    }
-    acc
+    sum_of(
+        16,
+        |i| field_words::get(t, (from + i) * 16 + nibble(half, i)),
+    )
 }
 
 // phi of a word by tables: of those that `phi_tab` makes of row coefficients c it is what `phi_c` gives.
@@ -182,20 +159,16 @@ pub fn phi_tab_apply(t: &[u64; 1024], w: Word) -> Word
 }
 
 // One coordinate more: each of the first n entries e becomes e + e × z, and e × z goes n places further.
-fn double_entries(c: [Word; 128], n: usize, z: Word) -> [Word; 128]
+fn double_entries(c: &mut [Word; 128], n: usize, z: Word)
     requires { n ≤ 64 }
-    ensures { numbers result ≡ doubled n (word z) (numbers c) }
+    ensures { numbers c.new ≡ doubled n (word z) (numbers c.old) }
 {
-    let mut d = c;
-    let mut v: usize = 0;
-    while v < n {
-        let e = d[v];
+    for v in 0..n {
+        let e = c[v];
         let t = field_gf128::mul(e, z);
-        d[n + v] = t;
-        d[v] = field_gf128::add(e, t);
-        v += 1;
+        c[n + v] = t;
+        c[v] = field_gf128::add(e, t);
     }
-    d
 }
 
 // The row coefficients of 7 coordinates: entry b is the product over j of r[j] where bit j of b is 1, else 1 + r[j]. What the partials are, summed with
@@ -207,13 +180,9 @@ pub fn eq_coefficients(r: [Word; 7]) -> [Word; 128]
     let mut c = [zero; 128];
     c[0] = Word { lo: 1, hi: 0 };
     let mut n: usize = 1;
-    let mut j: usize = 0;
-    while j < 7 {
-        let z = r[j];
-        let d = double_entries(c, n, z);
-        c = d;
+    for z in &r {
+        double_entries(&mut c, n, *z);
         n = n + n;
-        j += 1;
     }
     c
 }

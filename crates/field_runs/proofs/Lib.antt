@@ -1,3 +1,2 @@
 pub mod Pairs
 pub mod Doubling
-pub mod Chosen

@@ -41,20 +41,12 @@ pub fn copy(from: &[u64], to: &mut [u64])
     requires { length to.old ≡ length from.now }
     ensures { to.new ≡ from.now }
 {
-    let mut i = 0;
-    while i < from.len() {
-        to[i] = from[i];
-        i += 1;
-    }
+    to.copy_from_slice(from);
 }
 
 // Every half set to 0.
 pub fn clear(s: &mut [u64])
     ensures { s.new ≡ tab (length s.old) (λ _. 0) }
 {
-    let mut i: usize = 0;
-    while i < s.len() {
-        s[i] = 0;
-        i += 1;
-    }
+    s.fill(0);
 }

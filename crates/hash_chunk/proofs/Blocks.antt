@@ -26,6 +26,13 @@ blocks_step d n i from h v bs r lt e f =
     ap (blocks_from d (n - (i + 1)) (i + 1) v) (sym (drop-drop 64 from bs))
     ∙ ap₂ (λ (j : ℕ) (x : List ℕ). blocks_from d (n - (i + 1)) j x (drop 64 (drop from bs))) (add-one i) e ∙ (rw s at f)
 
+-- the same where block i stands after the i before it
+pub blocks_turn : (d n i : ℕ) (h v bs r : List ℕ) → i < n → v ≡ next d h (start_flag i) 0 (part 64 (64 * i) bs)
+    → blocks_from d (n - i) i h (drop (64 * i) bs) ≡ r → blocks_from d (n - (i + 1)) (i + 1) v (drop (64 * (i + 1)) bs) ≡ r
+blocks_turn d n i h v bs r lt e f =
+    let z : 64 * i + 64 ≡ 64 * (i + 1) = omega arith in
+    rw z at (blocks_step d n i (64 * i) h v bs r lt e f)
+
 pub blocks_end : (d n i : ℕ) (h l r : List ℕ) → n ≤ i → blocks_from d (n - i) i h l ≡ r → h ≡ r
 unfolding blocks_from
 blocks_end d n i h l r le f = let s : n - i ≡ 0 = omega arith in rw s at f

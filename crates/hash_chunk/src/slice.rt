@@ -8,23 +8,18 @@ ghost use Rattle.hash_chunk.specs.helpers.Blocks.{first_blocks};
 
 use hash_compress::compress;
 use hash_node::{Node, first_eight, last_words, start_flag, words_at};
+use theory_blake3::Mode;
 
-// The chaining value of the first blocks of a message of at most a chunk, for key words and flags.
-pub fn first_blocks(key: [u32; 8], flags: u32, message: &[u8], blocks: usize) -> [u32; 8]
+// The chaining value of the first blocks of a message of at most a chunk, under a mode.
+pub fn first_blocks(mode: Mode, message: &[u8], blocks: usize) -> [u32; 8]
     requires { 64 * blocks ≤ length message.now }
-    ensures { result ≡ first_blocks key flags blocks message.now }
+    ensures { result ≡ first_blocks mode.key mode.flags blocks message.now }
 {
-    let mut h = key;
-    let mut from: usize = 0;
-    let mut i: usize = 0;
-    while i < blocks {
-        let m = words_at(message, from);
+    let mut h = mode.key;
+    for i in 0..blocks {
+        let m = words_at(message, 64 * i);
         let f = start_flag(i);
-        let w = compress(h, m, 0, 64, flags | f);
-        let v = first_eight(w);
-        h = v;
-        from += 64;
-        i += 1;
+        h = first_eight(compress(h, m, 0, 64, mode.flags | f));
     }
     h
 }
@@ -38,12 +33,11 @@ pub fn chunk_rest(after: [u32; 8], blocks: usize, flags: u32, t: u64, input: &[u
     let mut h = after;
     let mut from: usize = 0;
     let mut i: usize = blocks;
+    // every block but the last, which may be empty or whole
     while 64 < input.len() - from {
         let m = words_at(input, from);
         let f = start_flag(i);
-        let w = compress(h, m, t, 64, flags | f);
-        let v = first_eight(w);
-        h = v;
+        h = first_eight(compress(h, m, t, 64, flags | f));
         from += 64;
         i += 1;
     }
@@ -60,9 +54,9 @@ pub fn chunk_rest(after: [u32; 8], blocks: usize, flags: u32, t: u64, input: &[u
 }
 
 // The same of a slice that holds all of it.
-pub fn chunk_of(key: [u32; 8], flags: u32, t: u64, input: &[u8]) -> Node
+pub fn chunk_of(mode: Mode, t: u64, input: &[u8]) -> Node
     requires { length input.now ≤ 1024 }
-    ensures { (x : ℕ) → out_of result x ≡ B.chunk key flags t input.now x }
+    ensures { (x : ℕ) → out_of result x ≡ B.chunk mode.key mode.flags t input.now x }
 {
-    chunk_rest(key, 0, flags, t, input)
+    chunk_rest(mode.key, 0, mode.flags, t, input)
 }

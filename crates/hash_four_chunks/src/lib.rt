@@ -16,10 +16,8 @@ pub fn spread(h: [u32; 8]) -> [u32; 32]
     ensures { X.Each 8 result (λ _. h) }
 {
     let mut s = [0u32; 32];
-    let mut j = 0;
-    while j < 32 {
+    for j in 0..32 {
         s[j] = h[j / 4];
-        j += 1;
     }
     s
 }
@@ -30,14 +28,10 @@ pub fn blocks_at(s0: &[u8], s1: &[u8], s2: &[u8], s3: &[u8], from: usize, n: usi
     ensures { X.Each 16 result (λ k. B.block (part n from (which s0.now s1.now s2.now s3.now k))) }
 {
     let mut m = [0u32; 64];
-    let w0 = block_words(s0, from, n);
-    hash_four_lanes::store(&mut m, 0, w0);
-    let w1 = block_words(s1, from, n);
-    hash_four_lanes::store(&mut m, 1, w1);
-    let w2 = block_words(s2, from, n);
-    hash_four_lanes::store(&mut m, 2, w2);
-    let w3 = block_words(s3, from, n);
-    hash_four_lanes::store(&mut m, 3, w3);
+    hash_four_lanes::store(&mut m, 0, block_words(s0, from, n));
+    hash_four_lanes::store(&mut m, 1, block_words(s1, from, n));
+    hash_four_lanes::store(&mut m, 2, block_words(s2, from, n));
+    hash_four_lanes::store(&mut m, 3, block_words(s3, from, n));
     m
 }
 
@@ -53,7 +47,7 @@ fn block_words(s: &[u8], from: usize, n: usize) -> [u32; 16]
 }
 
 // The chaining values of four chunks, each with a counter of its own and one more flag x: ROOT where each is a whole message. The slices
-// hold what is left of the chunks after `blocks` blocks, whose chaining values are the lanes of h.
+// hold what is left of the chunks after `blocks` blocks, whose chaining values are the lanes of h. Flags alone and no `Mode`: h is no key.
 pub fn rests(
     h: [u32; 32],
     blocks: usize,
@@ -72,11 +66,11 @@ pub fn rests(
     let mut v = h;
     let mut from: usize = 0;
     let mut i: usize = blocks;
+    // every block but the last, which may be empty or whole
     while 64 < s0.len() - from {
         let m = blocks_at(s0, s1, s2, s3, from, 64);
         let f = start_flag(i);
-        let w = hash_four_lanes::compress(&v, &m, counters, 64, flags | f);
-        v = w;
+        v = hash_four_lanes::compress(&v, &m, counters, 64, flags | f);
         from += 64;
         i += 1;
     }
@@ -86,7 +80,7 @@ pub fn rests(
     hash_four_lanes::compress(&v, &m, counters, n as u32, flags | (f | 2) | x)
 }
 
-// The same, where the blocks that came before are the same for all, and h is their chaining value.
+// The same, where the blocks that came before are the same for all, and h is their chaining value: flags alone here too.
 pub fn chunks(
     h: [u32; 8],
     blocks: usize,
@@ -101,8 +95,7 @@ pub fn chunks(
     requires { Four blocks s0.now s1.now s2.now s3.now }
     ensures { Rests h blocks flags counters.now (which s0.now s1.now s2.now s3.now) x result }
 {
-    let v = spread(h);
-    rests(v, blocks, flags, counters, s0, s1, s2, s3, x)
+    rests(spread(h), blocks, flags, counters, s0, s1, s2, s3, x)
 }
 
 // The bytes of a lane's chaining value.
@@ -110,5 +103,5 @@ pub fn lane_bytes(v: &[u32; 32], l: usize) -> [u8; 32]
     requires { l < 4 }
     ensures { result ≡ bytes_of_words32 (X.lane 8 v.now l) }
 {
-    bytes_of(hash_four_lanes::value(v, l))
+    bytes_of(hash_four_lanes::lane(v, l))
 }

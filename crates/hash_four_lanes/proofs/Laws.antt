@@ -30,14 +30,14 @@ lane-all n s v l e h = is-tab v n (λ i. at s (4 * i + l)) e h
 
 -- the first i of the n words of lane l of s stand in v
 abbrev pub Copied : ℕ → List ℕ → ℕ → List ℕ → ℕ → Type 0
-Copied n s l v i = (i ≤ n) × (length v ≡ n) × ((k : ℕ) → k < i → at v k ≡ at s (4 * k + l))
+Copied n s l v i = (length v ≡ n) × ((k : ℕ) → k < i → at v k ≡ at s (4 * k + l))
 
 pub copied_more : (n : ℕ) (s v : List ℕ) (l i : ℕ) → i < n → Copied n s l v i → Copied n s l (set v i (at s (4 * i + l))) (i + 1)
 copied_more n s v l i h p =
-    (omega arith, simp length-set p.1, fill_step (λ (k : ℕ). at s (4 * k + l)) i v (at s (4 * i + l)) (omega (arith, p.1)) refl p.2)
+    (simp length-set p.0, fill_step (λ (k : ℕ). at s (4 * k + l)) i v (at s (4 * i + l)) (omega (arith, p.0)) refl p.1)
 
 pub copied_all : (n : ℕ) (s v : List ℕ) (l i : ℕ) → n ≤ i → Copied n s l v i → v ≡ X.lane n s l
-copied_all n s v l i h p = lane-all n s v l p.1 (λ k b. p.2 k (omega arith))
+copied_all n s v l i h p = lane-all n s v l p.0 (λ k b. p.1 k (omega arith))
 
 -- the message's words in an order, read from a lane
 pub ordered_at : (m o : List ℕ) (l i : ℕ) → O.Small o → i < 16 → at m (4 * at o i + l) ≡ at (X.lane 16 m l) (at o i)

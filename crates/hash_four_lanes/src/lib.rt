@@ -10,16 +10,14 @@ ghost use Rattle.theory_blake3.specs.Orders as O;
 ghost use Rattle.hash_four_lanes.specs.helpers.Lane as X;
 ghost use Rattle.hash_four_lanes.specs.helpers.Lane.{Each};
 
-// The words of a lane of the state.
-fn lane(s: &[u32; 64], l: usize) -> [u32; 16]
-    requires { l < 4 }
-    ensures { result ≡ X.lane 16 s.now l }
+// The N words of lane l: of the state and of the message they are 16, of the chaining values 8.
+pub fn lane<const N: usize, const M: usize>(s: &[u32; M], l: usize) -> [u32; N]
+    requires { (l < 4) × (M ≡ 4 * N) }
+    ensures { result ≡ X.lane N s.now l }
 {
-    let mut v = [0u32; 16];
-    let mut i = 0;
-    while i < 16 {
+    let mut v = [0u32; N];
+    for i in 0..N {
         v[i] = s[4 * i + l];
-        i += 1;
     }
     v
 }
@@ -30,11 +28,9 @@ fn ordered(m: &[u32; 64], o: &[u8; 16], l: usize) -> [u32; 16]
     ensures { result ≡ O.ordered (X.lane 16 m.now l) o.now }
 {
     let mut v = [0u32; 16];
-    let mut i = 0;
-    while i < 16 {
+    for i in 0..16 {
         let k = o[i] as usize;
         v[i] = m[4 * k + l];
-        i += 1;
     }
     v
 }
@@ -44,10 +40,8 @@ pub fn store(s: &mut [u32; 64], l: usize, v: [u32; 16])
     requires { (l < 4) × (length s.old ≡ 64) }
     ensures { X.Stored s.old s.new l v }
 {
-    let mut i = 0;
-    while i < 16 {
+    for i in 0..16 {
         s[4 * i + l] = v[i];
-        i += 1;
     }
 }
 
@@ -57,13 +51,11 @@ fn round(s: &mut [u32; 64], m: &[u32; 64], o: &[u8; 16])
     ensures s_len { length s.new ≡ 64 }
     ensures each { Each 16 s.new (λ k. C.round (X.lane 16 s.old k) (O.ordered (X.lane 16 m.now k) o.now)) }
 {
-    let mut l = 0;
-    while l < 4 {
+    for l in 0..4 {
         let w = ordered(m, o, l);
         let mut v = lane(s, l);
         hash_compress::round_0(&mut v, &w);
         store(s, l, v);
-        l += 1;
     }
 }
 
@@ -73,26 +65,10 @@ fn rounds(s: &mut [u32; 64], m: &[u32; 64])
     ensures { Each 16 s.new (λ k. C.rounds 7 (X.lane 16 s.old k) (X.lane 16 m.now k)) }
 {
     let order = hash_compress::orders();
-    let mut r = 0;
-    while r < 7 {
+    for r in 0..7 {
         let o = order[r];
         round(s, m, &o);
-        r += 1;
     }
-}
-
-// The chaining value of a lane.
-pub fn value(h: &[u32; 32], l: usize) -> [u32; 8]
-    requires { l < 4 }
-    ensures { result ≡ X.lane 8 h.now l }
-{
-    let mut v = [0u32; 8];
-    let mut i = 0;
-    while i < 8 {
-        v[i] = h[4 * i + l];
-        i += 1;
-    }
-    v
 }
 
 // The state that the rounds start from, in each lane with a counter of its own.
@@ -101,12 +77,10 @@ fn initial(h: &[u32; 32], counters: &[u64; 4], len: u32, flags: u32) -> [u32; 64
     ensures each { Each 16 result (λ k. C.initial (X.lane 8 h.now k) (at counters.now k) len flags) }
 {
     let mut s = [0u32; 64];
-    let mut l = 0;
-    while l < 4 {
+    for l in 0..4 {
         let t = counters[l];
-        let v = hash_compress::initial(value(h, l), t, len, flags);
+        let v = hash_compress::initial(lane(h, l), t, len, flags);
         store(&mut s, l, v);
-        l += 1;
     }
     s
 }
@@ -116,10 +90,8 @@ fn output(s: &[u32; 64]) -> [u32; 32]
     ensures { Each 8 result (λ k. X.value (X.lane 16 s.now k)) }
 {
     let mut h = [0u32; 32];
-    let mut j = 0;
-    while j < 32 {
+    for j in 0..32 {
         h[j] = s[j] ^ s[j + 32];
-        j += 1;
     }
     h
 }

@@ -1,15 +1,19 @@
 -- Question 13: the number 0 says that the counters agree and that there is room.
-use mathlib.Core.Path.{◌≡◌, refl, sym}
+use mathlib.Core.Path.{◌≡◌, refl, sym, ap}
+use Rattle.std.specs.Prelude.{Ok, Err}
 use mathlib.Core.Logic.{◌⊎◌, ⊎_elim}
 use mathlib.Core.List.{List}
 use Prim.Native.Nat.{ℕ, ◌+◌, ◌*◌, min}
-use borrow.Author.Tests.{leb-true, eqb-true, le-leb, eq-eqb, ne_eqb}
+use borrow.Author.Tests.{leb-true, eqb-true, le-leb, eq-eqb}
 use lib.Count.{ones}
-use lib.ListN.{length, replicate}
+use lib.ListN.{length}
 use Rattle.theory_laws.proofs.Questions.{all_yes, one_number}
 use Rattle.hash_hasher.specs.declared.hasher.Hasher.{Hasher}
-use Rattle.hash_hasher.specs.Whole.{most_bytes, answered}
-use Rattle.hash_hasher.specs.Hasher.{questions, number_of, absorbed, update_of}
+use Rattle.theory_laws.specs.Refusals as no
+use Rattle.theory_laws.specs.declared.Refusal.{Refusal}
+use Rattle.theory_laws.proofs.Refusals.{not-done}
+use Rattle.hash_hasher.specs.Whole.{most_bytes, digested}
+use Rattle.hash_hasher.specs.Hasher.{questions, number_of, absorbed, updated, update_of, finished, finalize_of}
 use Rattle.hash_hasher.specs.helpers.Counts.{Ready}
 
 pub ready : (s : Hasher) (n : ℕ) → number_of s n ≡ 0 → Ready s n
@@ -19,12 +23,12 @@ ready s n e =
     record {
       counts = record {
         small = leb-true (s.len + n) most_bytes y.0;
-        low = leb-true s.blocks 15 y.1.0;
-        within = leb-true s.fill 64 y.1.1.0;
-        sum = eqb-true s.len (1024 * s.chunks + 64 * s.blocks + s.fill) y.1.1.1.0;
-        deep = eqb-true s.depth (ones s.chunks) y.1.1.1.1.1.0;
+        low = leb-true s.chunk.blocks 15 y.1.0;
+        within = leb-true s.chunk.fill 64 y.1.1.0;
+        sum = eqb-true s.len (1024 * s.chunk.counter + 64 * s.chunk.blocks + s.chunk.fill) y.1.1.1.0;
+        deep = eqb-true s.stack.depth (ones s.chunk.counter) y.1.1.1.1.1.0;
       };
-      some = leb-true (min 1 s.len) s.fill y.1.1.1.1.0;
+      some = leb-true (min 1 s.len) s.chunk.fill y.1.1.1.1.0;
     }
 
 -- and the other way round
@@ -34,11 +38,11 @@ ready-number s n r =
     let c = r.counts in
     rw (
       le-leb (s.len + n) most_bytes c.small,
-      le-leb s.blocks 15 c.low,
-      le-leb s.fill 64 c.within,
-      eq-eqb s.len (1024 * s.chunks + 64 * s.blocks + s.fill) c.sum,
-      le-leb (min 1 s.len) s.fill r.some,
-      eq-eqb s.depth (ones s.chunks) c.deep,
+      le-leb s.chunk.blocks 15 c.low,
+      le-leb s.chunk.fill 64 c.within,
+      eq-eqb s.len (1024 * s.chunk.counter + 64 * s.chunk.blocks + s.chunk.fill) c.sum,
+      le-leb (min 1 s.len) s.chunk.fill r.some,
+      eq-eqb s.stack.depth (ones s.chunk.counter) c.deep,
     )
 
 -- every refusal has the number 13
@@ -49,20 +53,22 @@ thirteen s n = one_number 13 (questions s n) (refl, (refl, (refl, (refl, (refl, 
 pub refused : (s : Hasher) (n : ℕ) → (Ready s n → ⊥) → 13 ≡ number_of s n
 refused s n f = ⊎_elim (λ (e : number_of s n ≡ 0). absurd (f (ready s n e))) (λ (e : number_of s n ≡ 13). sym e) (thirteen s n)
 
--- ---- what the calls answer by the number q
+-- ---- what the calls answer
 
-module _ (s : Hasher) (bs : List ℕ) (q : ℕ) (e : q ≡ number_of s (length bs)) where
-  pub update_refused : (q ≡ 0 → ⊥) → record { number = q; state = s } ≡ update_of s bs
+module _ (s : Hasher) (bs : List ℕ) where
+  pub update_refused : (e : Refusal) → no.number_of e ≡ number_of s (length bs) → updated {A = Unit} s (Err e) ≡ update_of s bs
   unfolding update_of
-  update_refused h = rw (← e, ne_eqb q 0 h)
+  update_refused e q = rw (← q, not-done e)
 
-  pub update_done : (t : Hasher) → q ≡ 0 → t ≡ absorbed s bs → record { number = 0; state = t } ≡ update_of s bs
+  pub update_done : {t : Hasher} → 0 ≡ number_of s (length bs) → t ≡ absorbed s bs → updated {A = Unit} t (Ok tt) ≡ update_of s bs
   unfolding update_of
-  update_done t h f = rw (← e, h, f)
+  update_done q f = rw (← q) (ap (λ (t : Hasher). record { number = 0; state = t }) f)
 
-module _ (v q : ℕ) (bytes : List ℕ) (e : q ≡ v) where
-  pub answer-refused : (q ≡ 0 → ⊥) → record { number = q; bytes = replicate 32 0 } ≡ answered v bytes
-  answer-refused h = rw (← e, ne_eqb q 0 h)
+module _ (s : Hasher) where
+  pub finalize_refused : (e : Refusal) → no.number_of e ≡ number_of s 0 → digested (Err e) ≡ finalize_of s
+  unfolding finalize_of
+  finalize_refused e q = rw (← q, not-done e)
 
-  pub answer-done : (b : List ℕ) → q ≡ 0 → b ≡ bytes → record { number = 0; bytes = b } ≡ answered v bytes
-  answer-done b h f = rw (← e, h, f)
+  pub finalize_done : {bytes : List ℕ} → 0 ≡ number_of s 0 → bytes ≡ finished s → digested (Ok bytes) ≡ finalize_of s
+  unfolding finalize_of
+  finalize_done q f = rw (← q) (ap (λ (bs : List ℕ). record { number = 0; bytes = bs }) f)

@@ -22,7 +22,7 @@ use Rattle.hash_chunk.proofs.Stands.{Stands, stands-started, stands_byte, stands
 use Rattle.hash_stack.proofs.Tower.{merges, tower_depth, tower_step, tower_root}
 use Rattle.hash_hasher.specs.declared.hasher.Hasher.{Hasher}
 use Rattle.hash_hasher.specs.Whole.{most_bytes, digest_of}
-use Rattle.hash_hasher.specs.Hasher.{new_of, number_of, chunk_of, with_chunk, next_chunk, taken, absorbed, update_of, finished, finalize_of}
+use Rattle.hash_hasher.specs.Hasher.{new_of, number_of, with_chunk, next_chunk, taken, absorbed, update_of, finished, finalize_of}
 use Rattle.hash_hasher.specs.Sequence.{run, done}
 use Rattle.hash_hasher.specs.helpers.Counts.{Ready}
 use Rattle.hash_hasher.proofs.Ready.{ready-number}
@@ -32,18 +32,18 @@ use Rattle.theory_laws.proofs.Numbers.{lt_or_le}
 -- the state s holds the bytes bs: its stack the finished chunks, its chunk the rest
 pub record Holds (key : List ℕ) (d : ℕ) (s : Hasher) (bs : List ℕ) : Type 0 where
   pub same_key : s.key ≡ key
-  pub same_flags : s.flags ≡ d
+  pub same_flags : s.chunk.flags ≡ d
   pub total : s.len ≡ length bs
-  pub whole : 1024 * s.chunks ≤ length bs
-  pub deep : s.depth ≡ ones s.chunks
-  pub wide : length s.stack ≡ 112
-  pub tower : entries s.stack s.depth ≡ stack key d 54 0 (take (1024 * s.chunks) bs)
-  pub rest : Stands key d s.chunks (chunk_of s) (drop (1024 * s.chunks) bs)
+  pub whole : 1024 * s.chunk.counter ≤ length bs
+  pub deep : s.stack.depth ≡ ones s.chunk.counter
+  pub wide : length s.stack.values ≡ 112
+  pub tower : entries s.stack.values s.stack.depth ≡ stack key d 54 0 (take (1024 * s.chunk.counter) bs)
+  pub rest : Stands key d s.chunk.counter s.chunk (drop (1024 * s.chunk.counter) bs)
 
 -- and the last block is not empty, unless there is no byte
 pub record Stood (key : List ℕ) (d : ℕ) (s : Hasher) (bs : List ℕ) : Type 0 where
   pub holds : Holds key d s bs
-  pub some : min 1 (length bs) ≤ s.fill
+  pub some : min 1 (length bs) ≤ s.chunk.fill
 
 pub stood_new : (key : List ℕ) (d : ℕ) → Stood key d (new_of key d) []
 unfolding new_of entries ones ones_in started
@@ -69,11 +69,11 @@ unfolding part
 last-part i l h = take_all 1024 (drop i l) h
 
 -- a full chunk is finished
-next_holds : (key : List ℕ) (d : ℕ) (s : Hasher) (bs : List ℕ) → Holds key d s bs → length bs < most_bytes → 64 * s.blocks + s.fill ≡ 1024
+next_holds : (key : List ℕ) (d : ℕ) (s : Hasher) (bs : List ℕ) → Holds key d s bs → length bs < most_bytes → 64 * s.chunk.blocks + s.chunk.fill ≡ 1024
     → Holds key d (next_chunk s) bs
 unfolding next_chunk started pushed
 next_holds key d s bs r l f =
-    let n = s.chunks in
+    let n = s.chunk.counter in
     let z : length bs ≡ 1024 * n + 1024 = omega (arith, r.rest.total, r.whole, length-drop (1024 * n) bs) in
     let p : part 1024 (1024 * n) bs ≡ drop (1024 * n) bs = last-part (1024 * n) bs (simp length-drop (omega arith)) in
     let e : drop (1024 * (n + 1)) bs ≡ [] = drop_of_length-le bs {i = 1024 * (n + 1)} (omega arith) in
@@ -82,18 +82,18 @@ next_holds key d s bs r l f =
       same_flags = r.same_flags;
       total = r.total;
       whole = omega arith;
-      deep = tower_depth key d n s.depth r.deep (omega arith);
-      wide = length-stored s.stack _ _ ∙ r.wide;
-      tower = ap₂ (λ (k : List ℕ) (g : ℕ). entries (pushed k g (merges n) s.stack s.depth (cv (last_of (chunk_of s) 0)))
-          (pushed_depth (merges n) s.depth)) r.same_key r.same_flags
-          ∙ tower_step key d n s.depth r.deep bs s.stack (cv (last_of (chunk_of s) 0)) (omega arith) (omega arith) r.wide r.tower
-          (ap cv (stands-last key d n (chunk_of s) (drop (1024 * n) bs) 0 r.rest ∙ ap (λ (c : List ℕ). chunk key d n c 0) (sym p)));
+      deep = tower_depth key d n s.stack.depth r.deep (omega arith);
+      wide = length-stored s.stack.values _ _ ∙ r.wide;
+      tower = ap₂ (λ (k : List ℕ) (g : ℕ). entries (pushed k g (merges n) s.stack.values s.stack.depth (cv (last_of s.chunk 0)))
+          (pushed_depth (merges n) s.stack.depth)) r.same_key r.same_flags
+          ∙ tower_step key d n s.stack.depth r.deep bs s.stack.values (cv (last_of s.chunk 0)) (omega arith) (omega arith) r.wide r.tower
+          (ap cv (stands-last key d n s.chunk (drop (1024 * n) bs) 0 r.rest ∙ ap (λ (c : List ℕ). chunk key d n c 0) (sym p)));
       rest = rw (r.same_key, r.same_flags, e) (stands-started key d (n + 1));
     }
 
 -- with room there, a byte goes into the chunk
-put_holds : (key : List ℕ) (d : ℕ) (u : Hasher) (c : ChunkState) (bs : List ℕ) (b : ℕ) → Holds key d u bs → c.counter ≡ u.chunks → c.flags ≡ d
-    → Stands key d u.chunks c (drop (1024 * u.chunks) bs ++ (b ∷ []))
+put_holds : (key : List ℕ) (d : ℕ) (u : Hasher) (c : ChunkState) (bs : List ℕ) (b : ℕ) → Holds key d u bs → c.counter ≡ u.chunk.counter → c.flags ≡ d
+    → Stands key d u.chunk.counter c (drop (1024 * u.chunk.counter) bs ++ (b ∷ []))
     → Stood key d (with_chunk u c (u.len + 1)) (bs ++ (b ∷ []))
 put_holds key d u c bs b r e f t = record {
   holds = record {
@@ -103,29 +103,29 @@ put_holds key d u c bs b r e f t = record {
     whole = rw e (simp length-append (omega (arith, r.whole)));
     deep = r.deep ∙ ap ones (sym e);
     wide = r.wide;
-    tower = rw (e, take-append-le (1024 * u.chunks) bs (b ∷ []) r.whole) r.tower;
-    rest = subst (λ (n : ℕ). Stands key d n c (drop (1024 * n) (bs ++ (b ∷ [])))) (sym e) (rw (drop-append-le (1024 * u.chunks) bs (b ∷ []) r.whole) t);
+    tower = rw (e, take-append-le (1024 * u.chunk.counter) bs (b ∷ []) r.whole) r.tower;
+    rest = subst (λ (n : ℕ). Stands key d n c (drop (1024 * n) (bs ++ (b ∷ [])))) (sym e) (rw (drop-append-le (1024 * u.chunk.counter) bs (b ∷ []) r.whole) t);
   };
-  some = let h : 1 ≤ c.fill = omega (arith, t.some, length-append (drop (1024 * u.chunks) bs) (b ∷ [])) in omega arith;
+  some = let h : 1 ≤ c.fill = omega (arith, t.some, length-append (drop (1024 * u.chunk.counter) bs) (b ∷ [])) in omega arith;
 }
 
 pub stood_byte : (key : List ℕ) (d : ℕ) (s : Hasher) (bs : List ℕ) (b : ℕ) → Holds key d s bs → length bs < most_bytes → Stood key d (taken s b) (bs ++ (b ∷ []))
 unfolding taken next_chunk
 stood_byte key d s bs b r l =
-    let P : Hasher → Type 0 = λ (u : Hasher). Stood key d (with_chunk u (fed_byte (chunk_of u) b) (u.len + 1)) (bs ++ (b ∷ [])) in
+    let P : Hasher → Type 0 = λ (u : Hasher). Stood key d (with_chunk u (fed_byte u.chunk b) (u.len + 1)) (bs ++ (b ∷ [])) in
     ⊎_elim
-    (λ (h : 64 * s.blocks + s.fill < 1024). subst P (sym (roomy_not s (λ z. omega arith))) (with_room s r (omega (arith, r.rest.total))))
-    (λ (h : 1024 ≤ 64 * s.blocks + s.fill).
-    let f : 64 * s.blocks + s.fill ≡ 1024 = omega (arith, r.rest.low, r.rest.within) in
+    (λ (h : 64 * s.chunk.blocks + s.chunk.fill < 1024). subst P (sym (roomy_not s (λ z. omega arith))) (with_room s r (omega (arith, r.rest.total))))
+    (λ (h : 1024 ≤ 64 * s.chunk.blocks + s.chunk.fill).
+    let f : 64 * s.chunk.blocks + s.chunk.fill ≡ 1024 = omega (arith, r.rest.low, r.rest.within) in
     let n = next_holds key d s bs r l f in
     subst P (sym (roomy_full s f)) (with_room (next_chunk s) n (omega (arith, n.rest.total))))
-    (lt_or_le (64 * s.blocks + s.fill) 1024)
+    (lt_or_le (64 * s.chunk.blocks + s.chunk.fill) 1024)
   where
-    with_room : (u : Hasher) → Holds key d u bs → length (drop (1024 * u.chunks) bs) < 1024
-        → Stood key d (with_chunk u (fed_byte (chunk_of u) b) (u.len + 1)) (bs ++ (b ∷ []))
+    with_room : (u : Hasher) → Holds key d u bs → length (drop (1024 * u.chunk.counter) bs) < 1024
+        → Stood key d (with_chunk u (fed_byte u.chunk b) (u.len + 1)) (bs ++ (b ∷ []))
     with_room u r h =
-        let t = stands_byte key d u.chunks (chunk_of u) (drop (1024 * u.chunks) bs) b r.rest h in
-        put_holds key d u (fed_byte (chunk_of u) b) bs b r t.same_counter t.same_flags t
+        let t = stands_byte key d u.chunk.counter u.chunk (drop (1024 * u.chunk.counter) bs) b r.rest h in
+        put_holds key d u (fed_byte u.chunk b) bs b r t.same_counter t.same_flags t
 
 pub stood_absorbed : (key : List ℕ) (d : ℕ) (s : Hasher) (bs more : List ℕ) → Stood key d s bs → length bs + length more ≤ most_bytes
     → Stood key d (absorbed s more) (bs ++ more)
@@ -145,7 +145,7 @@ stood_ready key d s bs n r l =
         small = omega (arith, h.total);
         low = h.rest.low;
         within = h.rest.within;
-        sum = omega (arith, h.total, h.rest.total, h.whole, length-drop (1024 * s.chunks) bs);
+        sum = omega (arith, h.total, h.rest.total, h.whole, length-drop (1024 * s.chunk.counter) bs);
         deep = h.deep;
       };
       some = omega (arith, h.total, r.some);
@@ -155,13 +155,13 @@ pub stood_finished : (key : List ℕ) (d : ℕ) (s : Hasher) (bs : List ℕ) →
 unfolding finished digest root
 stood_finished key d s bs r l =
     let h = r.holds in
-    let n = s.chunks in
-    let q : 64 * s.blocks + s.fill ≡ length bs - 1024 * n = h.rest.total ∙ length-drop (1024 * n) bs in
+    let n = s.chunk.counter in
+    let q : 64 * s.chunk.blocks + s.chunk.fill ≡ length bs - 1024 * n = h.rest.total ∙ length-drop (1024 * n) bs in
     ap (λ (w : List ℕ). bytes_of_words32 (cv w))
-    (ap₂ (λ (k : List ℕ) (f : ℕ). fold k f (entries s.stack s.depth) (last_of (chunk_of s)) root_node) h.same_key h.same_flags
-    ∙ tower_root key d n bs (entries s.stack s.depth) (last_of (chunk_of s)) root_node h.whole
+    (ap₂ (λ (k : List ℕ) (f : ℕ). fold k f (entries s.stack.values s.stack.depth) (last_of s.chunk) root_node) h.same_key h.same_flags
+    ∙ tower_root key d n bs (entries s.stack.values s.stack.depth) (last_of s.chunk) root_node h.whole
     (omega (arith, h.rest.low, h.rest.within, h.whole)) (omega (arith, r.some)) (omega (arith, r.some, h.whole))
-    h.tower (λ y. stands-last key d n (chunk_of s) (drop (1024 * n) bs) y h.rest))
+    h.tower (λ y. stands-last key d n s.chunk (drop (1024 * n) bs) y h.rest))
 
 -- ---- any sequence of updates
 

@@ -1,4 +1,5 @@
 -- Modes made of key words, and what the entries make of them.
+use Rattle.std.specs.Prelude.{Ok}
 use Prim.Native.Nat.{ℕ, ◌≤◌}
 use mathlib.Core.Path.{◌≡◌, ◌∙◌, ap}
 use mathlib.Core.List.{List}
@@ -13,10 +14,10 @@ use Rattle.theory_blake3.specs.Chunk.{block}
 use Rattle.theory_blake3.specs.Digest.{digest}
 use Rattle.theory_blake3.specs.Modes.{under, key_words, material_mode, derived_key}
 use Rattle.theory_blake3.proofs.Modes.{key_words_lem}
-use Rattle.hash_hasher.specs.declared.whole.Digested.{Digested}
-use Rattle.hash_hasher.specs.declared.hasher.Updated.{Updated}
-use Rattle.hash_hasher.specs.Whole.{most_bytes, digest_of}
-use Rattle.hash_modes.specs.Answers.{keyed_digest_of, derived_key_of, begun, keyed_hasher_of, context_hasher_of}
+use Rattle.hash_hasher.specs.declared.hasher.Hasher.{Hasher}
+use Rattle.hash_hasher.specs.Whole.{Digested, most_bytes, digest_of}
+use Rattle.hash_hasher.specs.Hasher.{new_of}
+use Rattle.hash_modes.specs.Answers.{keyed_digest_of, derived_key_of, started, keyed_hasher_of, context_hasher_of}
 
 abbrev mode : List ℕ → ℕ → Mode
 mode key flags = record { key = key; flags = flags }
@@ -47,11 +48,12 @@ derive_made context material m r n e f = rw (le-leb _ _ n) (f ∙ ap (λ (x : Mo
 
 -- ---- by a hasher
 
-pub keyed_begun : (key w : List ℕ) (r : Updated) → length key ≡ 32 → w ≡ key_words key → r ≡ begun 0 w 16 → r ≡ keyed_hasher_of key
+pub keyed_begun : (key w : List ℕ) (s : Hasher) → length key ≡ 32 → w ≡ key_words key → s ≡ new_of w 16 → started (Ok s) ≡ keyed_hasher_of key
 unfolding keyed_hasher_of
-keyed_begun key w r n e f = rw (eq-eqb _ _ n) (f ∙ ap (λ (k : List ℕ). begun 0 k 16) e)
+keyed_begun key w s n e f = rw (eq-eqb _ _ n) (ap (λ (x : Hasher). record { number = 0; state = x }) (f ∙ ap (λ (k : List ℕ). new_of k 16) e))
 
-pub context_begun : (context : List ℕ) (m : Mode) (r : Updated) → length context ≤ most_bytes → m ≡ material_mode context → r ≡ begun 0 m.key m.flags
-    → r ≡ context_hasher_of context
+pub context_begun : (context : List ℕ) (m : Mode) (s : Hasher) → length context ≤ most_bytes → m ≡ material_mode context → s ≡ new_of m.key m.flags
+    → started (Ok s) ≡ context_hasher_of context
 unfolding context_hasher_of
-context_begun context m r n e f = rw (le-leb _ _ n) (f ∙ ap (λ (x : Mode). begun 0 x.key x.flags) e)
+context_begun context m s n e f =
+    rw (le-leb _ _ n) (ap (λ (x : Hasher). record { number = 0; state = x }) (f ∙ ap (λ (x : Mode). new_of x.key x.flags) e))

@@ -1,12 +1,12 @@
 -- What the entries of the keyed mode and of key derivation answer, with their questions (SPECIFICATION 8.4). Rests on the modes and the hasher.
-use Rattle.std.specs.Prelude.{ℕ, List, [], ◌∷◌, leb, eqb, length, replicate}
+use Rattle.std.specs.Prelude.{ℕ, List, [], ◌∷◌, Result, Ok, Err, leb, eqb, length, replicate}
 use Rattle.theory_laws.specs.Questions.{Question, ◌asks◌, first_no, on_done}
 use Rattle.theory_blake3.specs.declared.Mode.{Mode}
 use Rattle.theory_blake3.specs.Modes.{under, keyed_mode, material_mode, derived_key}
-use Rattle.hash_hasher.specs.declared.whole.Digested.{Digested}
-use Rattle.hash_hasher.specs.declared.hasher.Updated.{Updated}
-use Rattle.hash_hasher.specs.Whole.{most_bytes, answered, digest_questions}
-use Rattle.hash_hasher.specs.Hasher.{new_of}
+use Rattle.theory_laws.specs.declared.Refusal.{Refusal}
+use Rattle.hash_hasher.specs.declared.hasher.Hasher.{Hasher}
+use Rattle.hash_hasher.specs.Whole.{Digested, most_bytes, answered, digest_questions}
+use Rattle.hash_hasher.specs.Hasher.{Updated, updated, new_of}
 
 -- ---- keyed mode: a key is 32 bytes (5), an input at most 2^24 (13)
 
@@ -34,6 +34,11 @@ begun q key d = record { number = q; state = new_of key d }
 
 abbrev pub begun_under : ℕ → Mode → Updated
 begun_under q m = on_done q (begun 0 m.key m.flags) (begun q (replicate 8 0) 0)
+
+-- the same of what a call that starts a hasher returns
+abbrev pub started : Result Hasher Refusal → Updated
+started (Ok s) = updated s (Ok s)
+started (Err e) = updated {A = Hasher} (new_of (replicate 8 0) 0) (Err e)
 
 unfoldable pub keyed_hasher_of : List ℕ → Updated
 keyed_hasher_of key = begun_under (first_no (key_questions key)) (keyed_mode key)

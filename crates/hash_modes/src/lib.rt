@@ -5,13 +5,15 @@
 
 ghost use Rattle.std.specs.Prelude.{◌≡◌, ◌≤◌, length};
 ghost use Rattle.theory_blake3.specs.Modes.{hash_mode, key_words, keyed_mode, material_mode};
-ghost use Rattle.hash_modes.specs.Answers.{begun, keyed_digest_of, derived_key_of, keyed_hasher_of, context_hasher_of};
+ghost use Rattle.hash_hasher.specs.Whole.{digested};
+ghost use Rattle.hash_modes.specs.Answers.{started, keyed_digest_of, derived_key_of, keyed_hasher_of, context_hasher_of};
 
 use hash_compress::iv;
-use hash_hasher::hasher::{Updated, new_with};
-use hash_hasher::whole::{Digested, digest_of, digest_with};
+use hash_hasher::hasher::Hasher;
+use hash_hasher::whole::{MOST_BYTES, digest_of, digest_with};
 use hash_node::{first_eight, last_words};
 use theory_blake3::Mode;
+use theory_laws::Refusal;
 
 // The flags of the modes, as BLAKE3's specification has them: KEYED_HASH, DERIVE_KEY_CONTEXT and DERIVE_KEY_MATERIAL.
 const KEYED: u32 = 16;
@@ -24,8 +26,10 @@ const MATERIAL: u32 = 64;
 pub fn hash_mode() -> Mode
     ensures { result ≡ hash_mode }
 {
-    let key = iv();
-    Mode { key, flags: 0 }
+    Mode {
+        key: iv(),
+        flags: 0,
+    }
 }
 
 // The words of a key.
@@ -33,16 +37,17 @@ fn key_words(key: &[u8]) -> [u32; 8]
     requires { length key.now ≡ 32 }
     ensures { result ≡ key_words key.now }
 {
-    let w = last_words(key, 0, 32);
-    first_eight(w)
+    first_eight(last_words(key, 0, 32))
 }
 
 // Keyed mode.
 pub fn keyed_mode(key: [u8; 32]) -> Mode
     ensures { result ≡ keyed_mode key }
 {
-    let key = key_words(&key);
-    Mode { key, flags: KEYED }
+    Mode {
+        key: key_words(&key),
+        flags: KEYED,
+    }
 }
 
 // The mode for the key material of a context.
@@ -50,71 +55,64 @@ pub fn material_mode(context: &[u8]) -> Mode
     requires { length context.now ≤ 16777216 }
     ensures { result ≡ material_mode context.now }
 {
-    let from = iv();
-    let d = digest_of(from, CONTEXT, context);
-    let key = key_words(&d);
+    let d = digest_of(
+        Mode {
+            key: iv(),
+            flags: CONTEXT,
+        },
+        context,
+    );
     Mode {
-        key,
+        key: key_words(&d),
         flags: MATERIAL,
     }
 }
 
 // The digest of a slice in keyed mode: 5 where the key is not 32 bytes, 13 for more than 2^24 bytes.
-pub fn keyed_digest(key: &[u8], input: &[u8]) -> Digested
-    ensures { result ≡ keyed_digest_of key.now input.now }
+pub fn keyed_digest(key: &[u8], input: &[u8]) -> Result<[u8; 32], Refusal>
+    ensures { digested result ≡ keyed_digest_of key.now input.now }
 {
     if key.len() != 32 {
-        return Digested {
-            number: 5,
-            bytes: [0; 32],
-        };
+        return Err(Refusal::Length);
     }
-    let words = key_words(key);
-    digest_with(words, KEYED, input)
+    digest_with(
+        Mode {
+            key: key_words(key),
+            flags: KEYED,
+        },
+        input,
+    )
 }
 
 // The key of 32 bytes that a context and key material give: 13 for more than 2^24 bytes of either, the context asked first.
-pub fn derive_key(context: &[u8], material: &[u8]) -> Digested
-    ensures { result ≡ derived_key_of context.now material.now }
+pub fn derive_key(context: &[u8], material: &[u8]) -> Result<[u8; 32], Refusal>
+    ensures { digested result ≡ derived_key_of context.now material.now }
 {
-    if context.len() > 16777216 {
-        return Digested {
-            number: 13,
-            bytes: [0; 32],
-        };
+    if context.len() > MOST_BYTES {
+        return Err(Refusal::HashedBytes);
     }
-    let mode = material_mode(context);
-    let key = mode.key;
-    digest_with(key, mode.flags, material)
+    digest_with(material_mode(context), material)
 }
 
-// A hasher before its first byte, of key words and flags, with the number of the question that refused it.
-fn started(number: u32, key: [u32; 8], flags: u32) -> Updated
-    ensures { result ≡ begun number key flags }
-{
-    let state = new_with(key, flags);
-    Updated { number, state }
-}
-
-// A hasher that is started with a key: 5, and a state of zeros, where it is not 32 bytes.
-pub fn keyed_hasher(key: &[u8]) -> Updated
-    ensures { result ≡ keyed_hasher_of key.now }
+// A hasher that is started with a key: 5 where it is not 32 bytes.
+pub fn keyed_hasher(key: &[u8]) -> Result<Hasher, Refusal>
+    ensures { started result ≡ keyed_hasher_of key.now }
 {
     if key.len() != 32 {
-        return started(5, [0; 8], 0);
+        return Err(Refusal::Length);
     }
-    let words = key_words(key);
-    started(0, words, KEYED)
+    Ok(Hasher::new_with(Mode {
+        key: key_words(key),
+        flags: KEYED,
+    }))
 }
 
-// A hasher for the key material of a context: 13, and a state of zeros, where the context is more than 2^24 bytes.
-pub fn context_hasher(context: &[u8]) -> Updated
-    ensures { result ≡ context_hasher_of context.now }
+// A hasher for the key material of a context: 13 where the context is more than 2^24 bytes.
+pub fn context_hasher(context: &[u8]) -> Result<Hasher, Refusal>
+    ensures { started result ≡ context_hasher_of context.now }
 {
-    if context.len() > 16777216 {
-        return started(13, [0; 8], 0);
+    if context.len() > MOST_BYTES {
+        return Err(Refusal::HashedBytes);
     }
-    let mode = material_mode(context);
-    let key = mode.key;
-    started(0, key, mode.flags)
+    Ok(Hasher::new_with(material_mode(context)))
 }

@@ -9,7 +9,6 @@ use borrow.Author.Tests.{eqb-true, ne_eqb}
 use lib.Dec.{eqb}
 use lib.ListN.{length, take, drop, length-append, length-drop, drop_of_length-le}
 use lib.Seq.{drop-cons, drop-drop, length-take-le}
-use Rattle.theory_laws.specs.Questions.{on_done}
 use Rattle.theory_laws.specs.Table.{at}
 use Rattle.theory_laws.specs.Lists.{part, stored, le_bytes, flat}
 use Rattle.theory_laws.proofs.Lists.{stored-nil, stored-all, then_stored, length-stored, lent-part, length-lent}
@@ -141,9 +140,3 @@ unfolding number_of
 sized ls n out q e h =
     let y = all_yes (questions ls n out) tt (sym e ∙ h) in
     record { sum = eqb-true (total ls) n y.0; size = eqb-true out (8 + 8 * length ls + n) y.1.0 }
-
-pub out_refused : (v q : ℕ) (done out : List ℕ) → q ≡ v → (q ≡ 0 → ⊥) → out ≡ on_done v done out
-out_refused v q done out e h = rw (← e, ne_eqb q 0 h)
-
-pub out_done : (v q : ℕ) {o : List ℕ} (done out : List ℕ) → q ≡ v → q ≡ 0 → o ≡ done → o ≡ on_done v done out
-out_done v q done out e h f = rw (← e, h) f

@@ -1,15 +1,18 @@
 -- The flat array of the stack: what its loops leave, and that pushing is merging.
-use mathlib.Core.Path.{◌≡◌, refl, ap, ap₂, ◌∙◌, fun_ext}
+use mathlib.Core.Path.{◌≡◌, refl, sym, ap, ap₂, ◌∙◌, fun_ext}
 use mathlib.Core.List.{List, ◌∷◌, ◌++◌, append_assoc}
 use Prim.Native.Nat.{ℕ, zero, suc, ◌+◌, ◌*◌, ◌-◌, ◌<◌, ◌≤◌}
 use native.Mathlib.Nat.{not-suc-le-zero}
 use native.Mathlib.Omega.{arith}
 use native.Mathlib.Numerals.{add-one}
-use lib.ListN.{length, take, drop, get_or-append}
+use borrow.Rule.Slice.PartMut.{put_mid}
+use lib.ListN.{length, take, drop, get_or-append, length-take, length-drop}
 use lib.Seq.{get_or-take, length-take-le, get_or-append-add, sets-eq}
 use Rattle.theory_laws.specs.Table.{at}
-use Rattle.theory_laws.specs.Lists.{stored}
-use Rattle.theory_laws.proofs.Table.{tab-ext, length-tab}
+use Rattle.theory_laws.specs.Lists.{part, stored}
+use Rattle.theory_laws.proofs.Table.{tab-ext, length-tab, is-tab}
+use Rattle.theory_laws.proofs.Lists.{length_part, get_d_part, lent-part}
+use Rattle.bytes_numbers.proofs.Stores.{put_mid-stored}
 use Rattle.theory_blake3.specs.Compression.{cv}
 use Rattle.theory_blake3.specs.Tree.{pair, parent}
 use Rattle.theory_blake3.specs.Stack.{entry, entries, merge, fold, joined, pushed, pushed_depth}
@@ -42,6 +45,26 @@ fold-turn key d a (suc n) e v o p x h f g k =
 pub fold_end : (key : List ℕ) (d : ℕ) (a : List ℕ) (top : ℕ) (o : ℕ → List ℕ) (x : ℕ) → top ≡ 0 → o x ≡ fold key d (entries a top) o x
 unfolding fold entries
 fold_end key d a top o x e = rw e
+
+-- where eight words can be lent, the array has them
+lent_within : (a : List ℕ) (i : ℕ) → length (take (8 * i + 8 - 8 * i) (drop (8 * i) a)) ≡ 8 → 8 * i + 8 ≤ length a
+lent_within a i e = omega (arith, e, length-take (8 * i + 8 - 8 * i) (drop (8 * i) a), length-drop (8 * i) a)
+
+-- value i, read as a part of the array
+pub entry_read : (a r : List ℕ) (i : ℕ) → length r ≡ 8 → r ≡ take (8 * i + 8 - 8 * i) (drop (8 * i) a) → r ≡ entry a i
+unfolding entry
+entry_read a r i n e =
+    e ∙ lent-part 8 (8 * i) a
+    ∙ is-tab (part 8 (8 * i) a) 8 (λ j. at a (8 * i + j)) (length_part 8 (8 * i) a (lent_within a i (ap length (sym e) ∙ n)))
+    (λ j l. get_d_part 8 (8 * i) j a l)
+
+-- value i, written as a part of the array
+pub entry_put : (a v ys : List ℕ) (i : ℕ) → length v ≡ 8 → length ys ≡ length (take (8 * i + 8 - 8 * i) (drop (8 * i) a)) → ys ≡ v
+    → put_mid (8 * i) (8 * i + 8 - 8 * i) a ys ≡ stored a (8 * i) v
+entry_put a v ys i n l e =
+    let h = lent_within a i (sym l ∙ ap length e ∙ n) in
+    let z : 8 * i + 8 - 8 * i ≡ 8 = omega arith in
+    rw (z, e) (put_mid-stored a (8 * i) 8 v h n)
 
 -- ---- pushing is merging
 

@@ -2,6 +2,7 @@
 use Prim.Native.Nat.{ℕ, ◌*◌, ◌^◌, ◌≤◌, ◌<◌}
 use mathlib.Core.Path.{◌≡◌, ◌∙◌, ap, ap₂}
 use mathlib.Core.List.{List}
+use Rattle.std.specs.Prelude.{Option}
 use native.Mathlib.Nat.{mul-le-mul_right}
 use native.Mathlib.Omega.{arith}
 use Rattle.theory_laws.specs.Lists.{part}
@@ -10,9 +11,9 @@ use Rattle.theory_record.specs.declared.WidthSet.{WidthSet}
 use Rattle.theory_record.specs.Widths.{widths_of, level_width}
 use Rattle.theory_record.specs.Scheme.{Scheme}
 use Rattle.theory_record.proofs.Widths.{width-most}
-use Rattle.record_known.specs.declared.Lane.{Lane}
+use Rattle.tree_four_ways.specs.declared.Lane.{Lane}
 use Rattle.record_known.specs.helpers.Domains.{level_in, DomainsStand}
-use Rattle.record_known.specs.helpers.Lanes.{LaneOf}
+use Rattle.record_known.specs.helpers.Lanes.{MaybeLaneOf}
 use Rattle.record_known.proofs.LevelDomains.{level-between}
 
 -- the first place of group g
@@ -25,7 +26,7 @@ first_fits set n k named g {w} h en ew =
     let m : g * w ≤ 20 * w = mul-le-mul_right w (omega arith) in
     rw en (omega arith)
 
-pub lane-placed : (S : Scheme) (l p q : ℕ) (s : List ℕ) (group path : ℕ) (lane : Lane) → p ≡ q → LaneOf S l p s group path lane → LaneOf S l q s group path lane
+pub lane-placed : (S : Scheme) (l p q : ℕ) (s : List ℕ) (group path : ℕ) (lane : Option Lane) → p ≡ q → MaybeLaneOf S l p s group path lane → MaybeLaneOf S l q s group path lane
 lane-placed S l p q s group path lane e z = rw (← e) z
 
 -- four lanes of one level are under its domain

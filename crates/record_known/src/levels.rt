@@ -1,47 +1,35 @@
 // The first pass over a query record: what is known of the openings of its levels. The functions require.
-ghost use Rattle.std.specs.Prelude.{◌≡◌, ◌+◌, ◌*◌, ◌<◌, ◌≤◌, length};
-ghost use Rattle.theory_record.specs.Query.{root_at};
-ghost use Rattle.theory_record.specs.Scheme.{scheme};
-ghost use Rattle.theory_record.specs.Lent.{scheme_of};
+ghost use Rattle.std.specs.Prelude.{◌≡◌, ◌+◌, ◌<◌, ◌≤◌, length};
+ghost use Rattle.theory_record.specs.Lent.{fixed_by};
 ghost use Rattle.tree_place.specs.Place.{index};
-ghost use Rattle.tree_four_ways.specs.helpers.Ways.{digest_of};
 ghost use Rattle.record_known.specs.helpers.Domains.{level_in, OneDigitCount};
 ghost use Rattle.record_known.specs.helpers.Lanes.{InRange};
-ghost use Rattle.record_known.specs.helpers.Known.{opening_of, settled, NoneKnown, LaneAt, EndsAt};
-ghost use Rattle.record_known.specs.helpers.Known.{levels, LevelsLent, FourLevels, LevelsKnown, four_known};
+ghost use Rattle.record_known.specs.helpers.Known.{LaneAt, EndsAt, levels, LevelsLent, FourLevels, LevelsKnown};
 
-use crate::{Ends, Lane, OPENINGS, four_ends, lane_of, level_in, no_openings, put_domains, settle};
+use crate::{NO_OPENING, OPENINGS, four_ends, lane_of, level_in, put_domains, settle};
 use bytes_numbers::load;
-use record_opening::Opened;
-use record_reader::level_at;
-use theory_record::Trees;
+use record_reader::{Opening, level_at};
+use theory_record::Deposit;
+use tree_four_ways::Lane;
 use tree_place::Place;
 
-// The openings of levels 0 to n, of which none is known yet: that of the first pair, and that of each value that a pair folds to.
-fn level_openings(n: usize, s: &[u8]) -> [Opened; OPENINGS]
+// The openings of levels 0 to n: that of the first pair, and that of each value that a pair folds to.
+fn level_openings(n: usize, s: &[u8]) -> [Opening; OPENINGS]
     requires { (n ≤ 20) × (4 ≤ length s.now) }
-    ensures { NoneKnown result }
 {
-    let mut ways = no_openings();
-    let first = level_at(s, 4);
-    ways[0] = Opened {
-        known: false,
-        group_at: first.a_group_at,
-        path_at: first.a_path_at,
-    };
+    let mut openings = [NO_OPENING; OPENINGS];
     let mut at: usize = 4;
-    let mut l: usize = 0;
-    while l < n {
-        let v = level_at(s, at);
-        ways[l + 1] = Opened {
-            known: false,
-            group_at: v.c_group_at,
-            path_at: v.c_path_at,
+    for l in 0..n {
+        let Some(v) = level_at(s, at) else {
+            return openings;
         };
+        if l == 0 {
+            openings[0] = v.a;
+        }
+        openings[l + 1] = v.c;
         at = v.next;
-        l += 1;
     }
-    ways
+    openings
 }
 
 // Where the next four begin.
@@ -71,158 +59,99 @@ fn last_beside(e: usize, n: usize) -> usize
 
 // The lane of the opening of lane j's level in a query record for a position.
 fn level_lane(
-    base: &[u8],
-    how: Trees,
-    n: usize,
-    k: usize,
+    deposit: Deposit<'_>,
     position: Place,
     s: &[u8],
-    openings: [Opened; OPENINGS],
+    openings: [Opening; OPENINGS],
     e: usize,
     last: usize,
     j: usize,
-) -> Lane
-    requires { (InRange (scheme how base.now n k) last) × (e ≤ last) × (j < 4) }
-    ensures { LaneAt (scheme_of how base n k) (levels (index position)) s.now openings (level_in e last j) result }
+) -> Option<Lane>
+    requires { (InRange (fixed_by deposit) last) × (e ≤ last) × (j < 4) }
+    ensures { LaneAt (fixed_by deposit.entry) (levels (index position)) s.now openings (level_in e last j) result }
 {
     let l = level_in(e, last, j);
-    let way = openings[l];
-    lane_of(
-        base,
-        how,
-        n,
-        k,
-        l,
-        position.folded(l),
-        s,
-        way.group_at,
-        way.path_at,
-    )
+    lane_of(deposit, l, position.folded(l), s, openings[l])
 }
 
-// What the lanes of four levels from e on come to.
+// Where the openings of four levels from e on lead to.
 fn level_ends(
-    base: &[u8],
-    how: Trees,
-    n: usize,
-    k: usize,
+    deposit: Deposit<'_>,
     position: Place,
     s: &[u8],
-    openings: [Opened; OPENINGS],
+    openings: [Opening; OPENINGS],
     e: usize,
     last: usize,
-) -> Ends
-    requires { (InRange (scheme how base.now n k) last) × (e ≤ last) × (OneDigitCount e last) }
-    ensures { EndsAt (scheme_of how base n k) (levels (index position)) s.now openings (level_in e last 0) (level_in e last 1)
-        (level_in e last 2) (level_in e last 3) result }
+) -> [Option<[u8; 32]>; 4]
+    requires { (InRange (fixed_by deposit) last) × (e ≤ last) × (OneDigitCount e last) }
+    ensures { EndsAt (fixed_by deposit.entry) (levels (index position)) s.now openings (level_in e last) result }
 {
     let mut domains = [0u8; 1024];
-    let size = put_domains(&mut domains, base, e, last);
-    let a = level_lane(base, how, n, k, position, s, openings, e, last, 0);
-    let b = level_lane(base, how, n, k, position, s, openings, e, last, 1);
-    let c = level_lane(base, how, n, k, position, s, openings, e, last, 2);
-    let d = level_lane(base, how, n, k, position, s, openings, e, last, 3);
-    let mode = how.mode;
-    let digests = four_ends(mode, &domains, size, s, a, b, c, d);
-    Ends {
-        a: a.sized,
-        b: b.sized,
-        c: c.sized,
-        d: d.sized,
-        digests: digests,
-    }
-}
-
-// What is known once the lane of lane j's level has come to its end.
-fn settle_level(
-    ways: [Opened; OPENINGS],
-    openings: [Opened; OPENINGS],
-    e: usize,
-    last: usize,
-    j: usize,
-    sized: bool,
-    digests: [u8; 128],
-    roots: &[u8],
-) -> [Opened; OPENINGS]
-    requires { (e ≤ last) × (last ≤ 20) × (j < 4) × (32 * last + 32 ≤ length roots.now) }
-    ensures { result ≡ settled ways openings (level_in e last j) sized (digest_of digests j) (root_at roots.now (level_in e last j)) }
-{
-    let l = level_in(e, last, j);
-    let root = load(roots, 32 * l);
-    settle(ways, openings, l, sized, digests, j, root)
+    let size = put_domains(&mut domains, deposit.base, e, last);
+    let a = level_lane(deposit, position, s, openings, e, last, 0);
+    let b = level_lane(deposit, position, s, openings, e, last, 1);
+    let c = level_lane(deposit, position, s, openings, e, last, 2);
+    let d = level_lane(deposit, position, s, openings, e, last, 3);
+    four_ends(deposit.how.mode, &domains, size, s, [a, b, c, d])
 }
 
 // What is known after four levels from e on.
 fn four_levels(
-    base: &[u8],
-    how: Trees,
-    n: usize,
-    k: usize,
+    deposit: Deposit<'_>,
     position: Place,
     roots: &[u8],
     s: &[u8],
-    openings: [Opened; OPENINGS],
+    openings: [Opening; OPENINGS],
     e: usize,
     last: usize,
-    ways: [Opened; OPENINGS],
-) -> [Opened; OPENINGS]
-    requires { FourLevels (scheme how base.now n k) (index position) roots.now s.now e last ways }
-    ensures { LevelsKnown (scheme_of how base n k) (index position) roots.now s.now result }
+    known: [Option<Opening>; OPENINGS],
+) -> [Option<Opening>; OPENINGS]
+    requires { FourLevels (fixed_by deposit) (index position) roots.now s.now e last known }
+    ensures { LevelsKnown (fixed_by deposit.entry) (index position) roots.now s.now result }
 {
-    let ends = level_ends(base, how, n, k, position, s, openings, e, last);
-    let d = ends.digests;
-    let one = settle_level(ways, openings, e, last, 0, ends.a, d, roots);
-    let two = settle_level(one, openings, e, last, 1, ends.b, d, roots);
-    let three = settle_level(two, openings, e, last, 2, ends.c, d, roots);
-    settle_level(three, openings, e, last, 3, ends.d, d, roots)
-}
-
-// Is the opening of lane j's level known?
-fn known_in(ways: [Opened; OPENINGS], e: usize, last: usize, j: usize) -> bool
-    requires { (e ≤ last) × (last ≤ 20) × (j < 4) }
-    ensures { result ≡ (opening_of ways (level_in e last j)).known }
-{
-    let way = ways[level_in(e, last, j)];
-    way.known
+    let ends = level_ends(deposit, position, s, openings, e, last);
+    let mut ways = known;
+    for j in 0..4 {
+        let l = level_in(e, last, j);
+        let root = load(roots, 32 * l);
+        // a variable first: the borrow checker does not cover a call's result laid straight in a local that holds an array
+        let more = settle(ways, openings, l, ends[j], root);
+        ways = more;
+    }
+    ways
 }
 
 // Are all openings of four levels from e on known?
-fn four_known(ways: [Opened; OPENINGS], e: usize, last: usize) -> bool
+fn four_known(ways: [Option<Opening>; OPENINGS], e: usize, last: usize) -> bool
     requires { (e ≤ last) × (last ≤ 20) }
-    ensures { result ≡ four_known ways e last }
 {
-    if !known_in(ways, e, last, 0) {
-        return false;
+    for j in 0..4 {
+        if ways[level_in(e, last, j)].is_none() {
+            return false;
+        }
     }
-    if !known_in(ways, e, last, 1) {
-        return false;
-    }
-    if !known_in(ways, e, last, 2) {
-        return false;
-    }
-    known_in(ways, e, last, 3)
+    true
 }
 
 // What is known of the openings of levels 0 to n of a query record for a position. After four of which one is not known, none is looked at: the
 // check ends there.
 pub fn known_levels(
-    base: &[u8],
-    how: Trees,
-    n: usize,
-    k: usize,
+    deposit: Deposit<'_>,
     position: Place,
     roots: &[u8],
     s: &[u8],
-) -> [Opened; OPENINGS]
-    requires { LevelsLent (scheme how base.now n k) roots.now s.now }
-    ensures { LevelsKnown (scheme_of how base n k) (index position) roots.now s.now result }
+) -> [Option<Opening>; OPENINGS]
+    requires { LevelsLent (fixed_by deposit) roots.now s.now }
+    ensures { LevelsKnown (fixed_by deposit.entry) (index position) roots.now s.now result }
 {
-    let openings = level_openings(n, s);
-    let mut ways = openings;
+    let openings = level_openings(deposit.n, s);
+    let mut ways = [None; OPENINGS];
     let mut e: usize = 0;
-    while e <= n {
-        let last = last_beside(e, n);
-        let more = four_levels(base, how, n, k, position, roots, s, openings, e, last, ways);
+    // A `while`: four levels at a time, but fewer where the numbers of the next have one digit more.
+    while e <= deposit.n {
+        let last = last_beside(e, deposit.n);
+        // a variable first, as above
+        let more = four_levels(deposit, position, roots, s, openings, e, last, ways);
         ways = more;
         if !four_known(ways, e, last) {
             return ways;

@@ -6,28 +6,26 @@
 pub mod groups;
 pub mod levels;
 
-ghost use Rattle.std.specs.Prelude.{◌≡◌, true, ◌+◌, ◌*◌, ◌<◌, ◌≤◌, length, replicate};
-ghost use Rattle.theory_laws.specs.Questions.{both};
-ghost use Rattle.theory_laws.specs.Lists.{same};
+ghost use Rattle.std.specs.Prelude.{◌≡◌, true, ◌≤◌, ◌<◌, length};
 ghost use Rattle.theory_blake3.specs.Modes.{under};
-ghost use Rattle.theory_record.specs.Scheme.{scheme};
-ghost use Rattle.theory_record.specs.Lent.{scheme_of};
+ghost use Rattle.theory_record.specs.Lent.{fixed_by};
 ghost use Rattle.tree_place.specs.Place.{index};
 ghost use Rattle.record_opening.specs.helpers.Opening.{Sized};
 ghost use Rattle.record_known.specs.helpers.Domains.{level_in, domain_size, DomainsFit, DomainsStand};
 ghost use Rattle.tree_four_ways.specs.helpers.Ways.{digest_of};
-ghost use Rattle.record_known.specs.helpers.Lanes.{InRange, farthest, RunSized, no_lane, LaneThere, LaneOf};
-ghost use Rattle.record_known.specs.helpers.Lanes.{leaf_in, OneWidth, FourThere, FourDigests, FourLeaves, FourEnds};
-ghost use Rattle.record_known.specs.helpers.Known.{unknown, opened_by, settled};
+ghost use Rattle.record_known.specs.helpers.Lanes.{InRange, farthest, RunSized, or_nowhere, LaneThere, LaneOf, MaybeLaneOf};
+ghost use Rattle.record_known.specs.helpers.Lanes.{leaf_in, OneWidth, FourThere, AllThere, FourDigests, FourLeaves, FourClimbed, FourEnds, end_read};
+ghost use Rattle.record_known.specs.helpers.Known.{opened_by, settled};
 
 use bytes_numbers::{load, put};
 use code_level::{DOMAIN, level_depth, level_domain, level_length, level_width};
-use record_opening::{Opened, leaf_at, same_digest};
-use record_reader::run_at;
+use record_opening::{leaf_at, same_digest};
+use record_reader::{Opening, run_at};
 use theory_blake3::Mode;
-use theory_record::Trees;
-use tree_four_ways::{climb_four, leaves_four};
-use tree_place::{Group, Place, group_of};
+use theory_record::Deposit;
+use tree_digest::Hashing;
+use tree_four_ways::{Lane, climb_four, leaves_four};
+use tree_place::{Group, Place, Shape, group_of};
 
 // How many openings a first pass has room for: those of levels 0 to 20.
 pub const OPENINGS: usize = 21;
@@ -61,14 +59,10 @@ pub fn put_domains(out: &mut [u8], base: &[u8], e: usize, last: usize) -> usize
 {
     let size = domain_size(base.len(), e);
     let mut domain = [0u8; DOMAIN];
-    let mut at: usize = 0;
-    let mut k: usize = 0;
-    while k < 4 {
+    for k in 0..4 {
         let l = level_in(e, last, k);
         level_domain(&mut domain, base, l);
-        put(out, at, &domain[..size]);
-        at += 256;
-        k += 1;
+        put(out, 256 * k, &domain[..size]);
     }
     size
 }
@@ -87,98 +81,58 @@ fn has_run(s: &[u8], at: usize, size: usize, count: usize) -> bool
     if s.len() < at {
         return false;
     }
-    let v = run_at(s, at, size);
-    if !v.fits {
+    let Some(v) = run_at(s, at, size) else {
         return false;
-    }
-    if v.count != count {
-        return false;
-    }
-    true
+    };
+    v.count == count
 }
 
-// What a lane starts from: whether group and path have their level's width and depth, how many values the level has, the width, the group's
-// number, where its values begin, where the path's digests begin, and how many they are.
-#[derive(Clone, Copy)]
-pub struct Lane {
-    pub sized: bool,
-    pub count: usize,
-    pub width: usize,
-    pub group: usize,
-    pub values: usize,
-    pub from: usize,
-    pub depth: usize,
-}
+// What a lane that is not sized stands for among four: it goes nowhere.
+const NOWHERE: Lane = Lane {
+    count: 0,
+    width: 0,
+    group: 0,
+    values: 0,
+    from: 0,
+    depth: 0,
+};
 
-// A lane that goes nowhere.
-fn no_lane() -> Lane
-    ensures { result ≡ no_lane }
+// The lane of an opening of a record that is sized, for a place of level l.
+fn sized_lane(deposit: Deposit<'_>, l: usize, place: Place, s: &[u8], at: Opening) -> Lane
+    requires { (Sized (fixed_by deposit) l s.now at.group_at at.path_at) × (at.path_at ≤ farthest) }
+    ensures { LaneOf (fixed_by deposit.entry) l (index place) s.now at.group_at at.path_at result }
 {
-    Lane {
-        sized: false,
-        count: 0,
-        width: 0,
-        group: 0,
-        values: 0,
-        from: 0,
-        depth: 0,
-    }
-}
-
-// The lane of a group and a path that begin at these bytes of a record and are sized, for a place of level l.
-fn sized_lane(
-    base: &[u8],
-    how: Trees,
-    n: usize,
-    k: usize,
-    l: usize,
-    place: Place,
-    s: &[u8],
-    group_at: usize,
-    path_at: usize,
-) -> Lane
-    requires { (Sized (scheme how base.now n k) l s.now group_at path_at) × (path_at ≤ farthest) }
-    ensures { LaneOf (scheme_of how base n k) l (index place) s.now group_at path_at result }
-{
-    let count = level_length(n, k, l);
-    let set = how.set;
-    let width = level_width(set, n, k, l);
-    let depth = level_depth(set, n, k, l);
+    let set = deposit.how.set;
+    let width = level_width(set, deposit.n, deposit.k, l);
     let g = group_of(place, width);
     Lane {
-        sized: true,
-        count: count,
-        width: width,
+        count: level_length(deposit.n, deposit.k, l),
+        width,
         group: g.number(),
-        values: group_at + 4,
-        from: path_at + 4,
-        depth: depth,
+        values: at.group_at + 4,
+        from: at.path_at + 4,
+        depth: level_depth(set, deposit.n, deposit.k, l),
     }
 }
 
-// The same where it is not known whether they are sized.
-pub fn lane_of(
-    base: &[u8],
-    how: Trees,
-    n: usize,
-    k: usize,
-    l: usize,
-    place: Place,
-    s: &[u8],
-    group_at: usize,
-    path_at: usize,
-) -> Lane
-    requires { InRange (scheme how base.now n k) l }
-    ensures { LaneOf (scheme_of how base n k) l (index place) s.now group_at path_at result }
+// The same where it is not known whether it is sized.
+pub fn lane_of(deposit: Deposit<'_>, l: usize, place: Place, s: &[u8], at: Opening) -> Option<Lane>
+    requires { InRange (fixed_by deposit) l }
+    ensures { MaybeLaneOf (fixed_by deposit.entry) l (index place) s.now at.group_at at.path_at result }
 {
-    let set = how.set;
-    if !has_run(s, group_at, 16, level_width(set, n, k, l)) {
-        return no_lane();
+    let set = deposit.how.set;
+    if !has_run(
+        s,
+        at.group_at,
+        16,
+        level_width(set, deposit.n, deposit.k, l),
+    ) {
+        return None;
     }
-    if !has_run(s, path_at, 32, level_depth(set, n, k, l)) {
-        return no_lane();
+    if !has_run(s, at.path_at, 32, level_depth(set, deposit.n, deposit.k, l)) {
+        return None;
     }
-    sized_lane(base, how, n, k, l, place, s, group_at, path_at)
+    Some(sized_lane(deposit, l, place, s, at))
 }
 
 // The larger of two depths.
@@ -186,10 +140,7 @@ fn larger(a: usize, b: usize) -> usize
     requires { (a ≤ 24) × (b ≤ 24) }
     ensures { (a ≤ result) × (b ≤ result) × (result ≤ 24) }
 {
-    if a < b {
-        return b;
-    }
-    a
+    a.max(b)
 }
 
 // Four digests one after the other.
@@ -204,78 +155,40 @@ fn end_to_end(a: [u8; 32], b: [u8; 32], c: [u8; 32], d: [u8; 32]) -> [u8; 128]
     r
 }
 
-// Are four lanes sized, and their groups of one width?
-fn one_width(a: Lane, b: Lane, c: Lane, d: Lane) -> bool
-    ensures { result ≡ true → OneWidth a b c d }
+// Are the groups of four lanes of one width?
+fn one_width(lanes: [Lane; 4]) -> bool
+    ensures { result ≡ true → OneWidth lanes }
 {
-    if !a.sized {
-        return false;
-    }
-    if !b.sized {
-        return false;
-    }
-    if !c.sized {
-        return false;
-    }
-    if !d.sized {
-        return false;
-    }
-    if b.width != a.width {
-        return false;
-    }
-    if c.width != a.width {
-        return false;
-    }
-    if d.width != a.width {
-        return false;
-    }
-    true
+    lanes[1].width == lanes[0].width
+        && lanes[2].width == lanes[0].width
+        && lanes[3].width == lanes[0].width
 }
 
-// The digest of a lane's group, where it is sized.
+// The digest of a lane's group.
 fn lane_leaf(mode: Mode, domain: &[u8], s: &[u8], lane: Lane) -> [u8; 32]
     requires { (length domain.now ≤ 255) × (LaneThere (length s.now) lane) }
-    ensures { lane.sized ≡ true → result ≡ leaf_in (under mode) domain.now s.now lane }
+    ensures { result ≡ leaf_in (under mode) domain.now s.now lane }
 {
-    if !lane.sized {
-        return [0u8; 32];
-    }
-    leaf_at(
-        mode,
-        domain,
-        lane.count,
-        lane.width,
-        Group::numbered(lane.group),
-        s,
-        lane.values,
-    )
+    let group = Group::numbered(lane.group);
+    let hashing = Hashing { mode, domain };
+    let shape = Shape {
+        count: lane.count,
+        width: lane.width,
+    };
+    leaf_at(hashing, shape, group, s, lane.values)
 }
 
-// The digests of four lanes' groups, where they are sized: at once where they are of one width.
-fn four_leaves(
-    mode: Mode,
-    domains: &[u8],
-    size: usize,
-    s: &[u8],
-    a: Lane,
-    b: Lane,
-    c: Lane,
-    d: Lane,
-) -> [u8; 128]
-    requires { (size ≤ 255) × (1024 ≤ length domains.now) × (FourThere (length s.now) a b c d) }
-    ensures { FourLeaves (under mode) domains.now size s.now a b c d result }
+// The digests of four lanes' groups: at once where they are of one width.
+fn four_leaves(mode: Mode, domains: &[u8], size: usize, s: &[u8], lanes: [Lane; 4]) -> [u8; 128]
+    requires { (size ≤ 255) × (1024 ≤ length domains.now) × (FourThere (length s.now) lanes) }
+    ensures { FourLeaves (under mode) domains.now size s.now lanes result }
 {
-    if one_width(a, b, c, d) {
-        return leaves_four(
-            mode,
-            domains,
-            size,
-            [a.count, b.count, c.count, d.count],
-            a.width,
-            [a.group, b.group, c.group, d.group],
-            s,
-            [a.values, b.values, c.values, d.values],
-        );
+    let a = lanes[0];
+    let b = lanes[1];
+    let c = lanes[2];
+    let d = lanes[3];
+    if one_width(lanes) {
+        return leaves_four(mode, domains, size, a.width, lanes, s);
     }
     let i = lane_leaf(mode, &domains[0..size], s, a);
     let j = lane_leaf(mode, &domains[256..256 + size], s, b);
@@ -284,90 +197,91 @@ fn four_leaves(
     end_to_end(i, j, l, m)
 }
 
-// Where four lanes lead to, under the domains that stand in strides of 256 bytes, from the digests of their groups.
+// Where four lanes lead to, under the domains that stand in strides of 256 bytes.
+fn climb_lanes(mode: Mode, domains: &[u8], size: usize, s: &[u8], lanes: [Lane; 4]) -> [u8; 128]
+    requires { (size ≤ 255) × (1024 ≤ length domains.now) × (FourThere (length s.now) lanes) }
+    ensures { FourClimbed (under mode) domains.now size s.now lanes result }
+{
+    let leaves = four_leaves(mode, domains, size, s, lanes);
+    let a = lanes[0];
+    let b = lanes[1];
+    let c = lanes[2];
+    let d = lanes[3];
+    let deepest = larger(larger(a.depth, b.depth), larger(c.depth, d.depth));
+    climb_four(mode, domains, size, lanes, leaves, s, deepest)
+}
+
+// A lane, or one that goes nowhere.
+fn or_nowhere(lane: Option<Lane>) -> Lane
+    ensures { result ≡ or_nowhere lane }
+{
+    match lane {
+        Some(lane) => lane,
+        None => NOWHERE,
+    }
+}
+
+// Where a lane led to, if there is one: its digest is number j of four.
+fn end_in(lane: Option<Lane>, digests: [u8; 128], j: usize) -> Option<[u8; 32]>
+    requires { j < 4 }
+    ensures { result ≡ end_read lane (digest_of digests j) }
+{
+    lane?;
+    Some(load(&digests, 32 * j))
+}
+
+// Where four openings lead to that have a lane.
 pub fn four_ends(
     mode: Mode,
     domains: &[u8],
     size: usize,
     s: &[u8],
-    a: Lane,
-    b: Lane,
-    c: Lane,
-    d: Lane,
-) -> [u8; 128]
-    requires { (size ≤ 255) × (1024 ≤ length domains.now) × (FourThere (length s.now) a b c d) }
-    ensures { FourEnds (under mode) domains.now size s.now a b c d result }
+    lanes: [Option<Lane>; 4],
+) -> [Option<[u8; 32]>; 4]
+    requires { (size ≤ 255) × (1024 ≤ length domains.now) × (AllThere (length s.now) lanes) }
+    ensures { FourEnds (under mode) domains.now size s.now lanes result }
 {
-    let leaves = four_leaves(mode, domains, size, s, a, b, c, d);
-    let deepest = larger(larger(a.depth, b.depth), larger(c.depth, d.depth));
-    climb_four(
-        mode,
-        domains,
-        size,
-        [a.group, b.group, c.group, d.group],
-        leaves,
-        s,
-        [a.from, b.from, c.from, d.from],
-        [a.depth, b.depth, c.depth, d.depth],
-        deepest,
-    )
+    let a = or_nowhere(lanes[0]);
+    let b = or_nowhere(lanes[1]);
+    let c = or_nowhere(lanes[2]);
+    let d = or_nowhere(lanes[3]);
+    let digests = climb_lanes(mode, domains, size, s, [a, b, c, d]);
+    let first = end_in(lanes[0], digests, 0);
+    let second = end_in(lanes[1], digests, 1);
+    let third = end_in(lanes[2], digests, 2);
+    let fourth = end_in(lanes[3], digests, 3);
+    [first, second, third, fourth]
 }
 
-// What four lanes came to: which of them are sized, and their digests.
-#[derive(Clone, Copy)]
-pub struct Ends {
-    pub a: bool,
-    pub b: bool,
-    pub c: bool,
-    pub d: bool,
-    pub digests: [u8; 128],
-}
-
-// An opening, known where its lane is sized and leads to the root.
-fn opened(way: Opened, sized: bool, end: [u8; 32], root: [u8; 32]) -> Opened
-    ensures { result ≡ opened_by way (both sized (same end root)) }
+// An opening, where it is known: where it has a lane, which led to the root.
+fn opened(at: Opening, end: Option<[u8; 32]>, root: [u8; 32]) -> Option<Opening>
+    ensures { result ≡ opened_by at end root }
 {
-    if !sized {
-        return Opened {
-            known: false,
-            group_at: way.group_at,
-            path_at: way.path_at,
-        };
+    let end = end?;
+    if same_digest(end, root) {
+        return Some(at);
     }
-    Opened {
-        known: same_digest(end, root),
-        group_at: way.group_at,
-        path_at: way.path_at,
-    }
+    None
 }
 
-// What is known once the lane of opening i, which is lane j of four, has come to its end.
+// What is known once it is known where opening i leads to.
 pub fn settle(
-    ways: [Opened; OPENINGS],
-    openings: [Opened; OPENINGS],
+    ways: [Option<Opening>; OPENINGS],
+    openings: [Opening; OPENINGS],
     i: usize,
-    sized: bool,
-    digests: [u8; 128],
-    j: usize,
+    end: Option<[u8; 32]>,
     root: [u8; 32],
-) -> [Opened; OPENINGS]
-    requires { (i < 21) × (j < 4) }
-    ensures { result ≡ settled ways openings i sized (digest_of digests j) root }
+) -> [Option<Opening>; OPENINGS]
+    requires { i < 21 }
+    ensures { result ≡ settled ways openings i end root }
 {
-    let end = load(&digests, 32 * j);
     let mut r = ways;
-    r[i] = opened(openings[i], sized, end, root);
+    r[i] = opened(openings[i], end, root);
     r
 }
 
-// Openings of which nothing is known.
-pub fn no_openings() -> [Opened; OPENINGS]
-    ensures { result ≡ replicate 21 unknown }
-{
-    let none = Opened {
-        known: false,
-        group_at: 0,
-        path_at: 0,
-    };
-    [none; OPENINGS]
-}
+// No opening: what a list of them holds before any is found.
+pub const NO_OPENING: Opening = Opening {
+    group_at: 0,
+    path_at: 0,
+};

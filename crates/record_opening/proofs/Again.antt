@@ -1,19 +1,21 @@
 -- Two openings of one record with the same bytes: what is known of the one holds of the other.
 use Prim.Native.Nat.{ℕ, ◌+◌, ◌*◌, ◌/◌, ◌<◌, ◌≤◌}
 use mathlib.Core.Path.{◌≡◌, refl, sym, ◌∙◌, ap, ap₂}
-use mathlib.Core.Bool.{Bool, true, false, not}
+use mathlib.Core.Bool.{Bool, true, false, ◌&&◌}
 use mathlib.Core.List.{List, ◌++◌, map}
 use native.Mathlib.Omega.{arith}
-use borrow.Author.Tests.{eq-eqb, not-false}
+use borrow.Author.Tests.{eq-eqb, eqb-true}
+use lib.Dec.{eqb}
+use Rattle.std.specs.Prelude.{Option, Some}
 use lib.ListN.{length, drop}
 use Rattle.theory_laws.specs.Lists.{part, runs, same, le_value}
 use Rattle.theory_laws.proofs.Lists.{part-add, same_true, same_refl}
 use Rattle.theory_record.specs.Format.{run_count, run_fits, run_items}
 use Rattle.theory_record.proofs.Runs.{items-there}
 use Rattle.theory_record.proofs.Widths.{PowersOfTwo, level-shape, width-even}
-use Rattle.record_opening.specs.declared.Opened.{Opened}
-use Rattle.record_opening.specs.helpers.Opening.{values_at, digests_at, opening_number, Leads}
-use Rattle.record_opening.specs.helpers.Again.{SizedOld, Same, SamePlace}
+use Rattle.record_reader.specs.declared.Opening.{Opening}
+use Rattle.record_opening.specs.helpers.Opening.{values_at, digests_at, opening_number, Leads, Known}
+use Rattle.record_opening.specs.helpers.Again.{SizedOld, Same}
 use Rattle.record_opening.proofs.Levels.{run_room}
 use Rattle.record_opening.proofs.Numbers.{length-values, length-digests}
 use Rattle.theory_record.specs.Widths.{Widths, level_width}
@@ -49,13 +51,13 @@ items-same : (size c : ℕ) (s : List ℕ) (i j : ℕ) → run_count (drop i s) 
     → part (size * c) (i + 4) s ≡ part (size * c) (j + 4) s → run_items size (drop i s) ≡ run_items size (drop j s)
 items-same size c s i j a b e = items-there size s i c a ∙ ap (runs size c) e ∙ sym (items-there size s j c b)
 
-pub record BothRoom (len group path : ℕ) (old : Opened) (width depth : ℕ) : Type 0 where
+pub record BothRoom (len group path : ℕ) (old : Opening) (width depth : ℕ) : Type 0 where
   pub group_room : group + 4 + 32 * (width / 2) ≤ len
   pub old_group_room : old.group_at + 4 + 32 * (width / 2) ≤ len
   pub path_room : path + 4 + 32 * depth ≤ len
   pub old_path_room : old.path_at + 4 + 32 * depth ≤ len
 
-pub both-room : (s : List ℕ) (group path : ℕ) (old : Opened) (width depth x y : ℕ) → run_fits 16 (drop group s) ≡ true
+pub both-room : (s : List ℕ) (group path : ℕ) (old : Opening) (width depth x y : ℕ) → run_fits 16 (drop group s) ≡ true
     → run_fits 32 (drop path s) ≡ true → width ≡ 2 * (width / 2) → SizedOld s old width depth
     → x ≡ run_count (drop group s) → x ≡ width → y ≡ run_count (drop path s) → y ≡ depth → BothRoom (length s) group path old width depth
 both-room s group path old width depth x y fg fp even o ex zx ey zy =
@@ -70,21 +72,25 @@ both-room s group path old width depth x y fg fp even o ex zx ey zy =
       old_path_room = omega (arith, o.depth_is);
     }
 
-pub openings_same : (s : List ℕ) (group path : ℕ) (old : Opened) (width depth x y : ℕ) → not old.known ≡ false → x ≡ run_count (drop group s)
+pub openings_same : (s : List ℕ) (group path : ℕ) (old : Opening) (width depth x y : ℕ) → x ≡ run_count (drop group s)
     → x ≡ width → y ≡ run_count (drop path s) → y ≡ depth → SizedOld s old width depth → width ≡ 2 * (width / 2)
     → part (32 * (width / 2)) (group + 4) s ≡ part (32 * (width / 2)) (old.group_at + 4) s
     → part (32 * depth) (path + 4) s ≡ part (32 * depth) (old.path_at + 4) s
     → Same s group path old
 unfolding values_at digests_at
-openings_same s group path old width depth x y kn ex zx ey zy o even g p =
+openings_same s group path old width depth x y ex zx ey zy o even g p =
     let m : 32 * (width / 2) ≡ 16 * width = omega arith in
     record {
-      known = not-false old.known kn;
       values_same = ap (map le_value) (items-same 16 width s group old.group_at (sym ex ∙ zx) o.width_is (rw m at g));
       digests_same = items-same 32 depth s path old.path_at (sym ey ∙ zy) o.depth_is p;
     }
 
-module _ (S : Scheme) (l place : ℕ) (s : List ℕ) (old : Opened) (root : List ℕ) (z : Leads S l place s old.group_at old.path_at root) where
+-- what is known leads to the root
+pub known-leads : (S : Scheme) (l place : ℕ) (s : List ℕ) (known : Option Opening) (old : Opening) (root : List ℕ) → known ≡ Some old
+    → Known S l place s known root → Leads S l place s old.group_at old.path_at root
+known-leads S l place s known old root e z = rw e at z
+
+module _ (S : Scheme) (l place : ℕ) (s : List ℕ) (old : Opening) (root : List ℕ) (z : Leads S l place s old.group_at old.path_at root) where
   pub sized-old : (width depth : ℕ) → width ≡ width_at S l → depth ≡ depth_at S l → SizedOld s old width depth
   sized-old width depth ew ed =
       record {
@@ -110,6 +116,16 @@ module _ (S : Scheme) (l place : ℕ) (s : List ℕ) (old : Opened) (root : List
 pub even-width : (s : Widths) (p : PowersOfTwo s) (n k l width : ℕ) → l < n → width ≡ level_width s n k l → width ≡ 2 * (width / 2)
 even-width s p n k l width h e = rw e (width-even s n k l (level-shape s n k l p) (omega arith))
 
--- the same bytes are at the same place
-pub place_same : (s : List ℕ) (old : Opened) (group path : ℕ) → SamePlace old group path → Same s group path old
-place_same s old group path e = record { known = e.known; values_same = ap (values_at s) e.group_is; digests_same = ap (digests_at s) e.path-is }
+both_yes : (x y : Bool) → true ≡ x && y → (x ≡ true) × (y ≡ true)
+both_yes true true e = (refl, refl)
+both_yes true false e = no_claim (sym e)
+both_yes false y e = no_claim (sym e)
+
+-- an opening that is another has its bytes
+pub same_at : (s : List ℕ) (old at : Opening) → true ≡ eqb old.group_at at.group_at && eqb old.path_at at.path_at → Same s at.group_at at.path_at old
+same_at s old at e =
+    let b = both_yes _ _ e in
+    record {
+      values_same = ap (values_at s) (sym (eqb-true old.group_at at.group_at b.0));
+      digests_same = ap (digests_at s) (sym (eqb-true old.path_at at.path_at b.1));
+    }

@@ -70,9 +70,6 @@ module _ (s : Widths) (n k : ℕ) (levels trees : List ℕ) (position : ℕ) (ou
   pub allowed : q ≡ 0 → QueryBuild s n k levels trees position out
   allowed z = query_build s n k levels trees position out (sym number_is ∙ z)
 
-  pub zero_is : q ≡ 0 → 0 ≡ build_query_number s n k levels trees position out
-  zero_is z = sym z ∙ number_is
-
   pub done : (o : List ℕ) → q ≡ 0 → o ≡ query_bytes s n k (words levels) trees position → o ≡ build_query s n k levels trees position out
   unfolding build_query
   done o z f = rw (← number_is, eq-eqb q 0 z) f

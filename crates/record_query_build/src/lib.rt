@@ -2,6 +2,7 @@
 #![tactic(auto)]
 
 ghost use Rattle.std.specs.Prelude.{◌≡◌, ◌+◌, ◌*◌, ◌≤◌, ◌<◌, length};
+ghost use Rattle.theory_laws.specs.Refusals.{answered};
 ghost use Rattle.theory_field.specs.Words.{words};
 ghost use Rattle.bytes_numbers.specs.helpers.Put.{Put};
 ghost use Rattle.theory_record.specs.Widths.{widths_of};
@@ -17,15 +18,16 @@ ghost use Rattle.record_query_build.specs.helpers.Numbers.{build_number};
 
 use bytes_numbers::put_number;
 use code_level::{
-    level_depth, level_groups, level_length, level_width, levels_length, size_number, trees_size,
+    level_depth, level_groups, level_length, level_width, levels_length, size_questions, trees_size,
 };
 use field_bytes::put_words;
 use record_writer::{put_digests, put_values};
+use theory_laws::Refusal;
 use theory_record::WidthSet;
 use tree_place::{Place, group_of};
 
 // A level as it is lent: the word and the byte at which its values and its tree begin, and its sizes.
-#[derive(Clone, Copy)]
+#[derive(Clone, Copy, Debug, PartialEq, Eq)]
 pub struct Level {
     pub words_at: usize,
     pub tree_at: usize,
@@ -40,8 +42,8 @@ fn lent_level(set: WidthSet, n: usize, k: usize, l: usize, words_at: usize, tree
     ensures { result ≡ lent_level (widths_of set) n k l }
 {
     Level {
-        words_at: words_at,
-        tree_at: tree_at,
+        words_at,
+        tree_at,
         width: level_width(set, n, k, l),
         depth: level_depth(set, n, k, l),
         groups: level_groups(set, n, k, l),
@@ -130,13 +132,11 @@ fn put_levels(
 {
     let mut at = put_number(out, 0, n as u64, 4);
     let mut x = lent_level(set, n, k, 0, 0, 0);
-    let mut l: usize = 0;
-    while l < n {
+    for l in 0..n {
         let y = next_level(set, n, k, l, x);
         let q = position.folded(l + 1);
         at = put_level(out, at, levels, trees, x, y, q);
         x = y;
-        l += 1;
     }
     at
 }
@@ -155,16 +155,14 @@ pub fn query_size(set: WidthSet, n: usize, k: usize) -> usize
     ensures { result ≡ query_size (widths_of set) n k }
 {
     let mut size: usize = 4;
-    let mut l: usize = 0;
-    while l < n {
+    for l in 0..n {
         size += 48 + group_size(set, n, k, l) + group_size(set, n, k, l + 1);
-        l += 1;
     }
     size
 }
 
 // 4, 5 and 11.
-fn query_number(
+fn questions(
     levels: usize,
     trees: usize,
     out: usize,
@@ -172,26 +170,23 @@ fn query_number(
     n: usize,
     k: usize,
     position: Place,
-) -> u32
-    ensures { result ≡ build_number (widths_of set) n k levels trees out (index position) }
+) -> Result<(), Refusal>
+    ensures { answered result ≡ build_number (widths_of set) n k levels trees out (index position) }
 {
-    let x = size_number(n, k);
-    if x != 0 {
-        return x;
-    }
+    size_questions(n, k)?;
     if levels != 2 * levels_length(n, k) {
-        return 5;
+        return Err(Refusal::Length);
     }
     if trees != trees_size(set, n, k) {
-        return 5;
+        return Err(Refusal::Length);
     }
     if out != query_size(set, n, k) {
-        return 5;
+        return Err(Refusal::Length);
     }
     if position.index() >= level_length(n, k, 0) {
-        return 11;
+        return Err(Refusal::Place);
     }
-    0
+    Ok(())
 }
 
 // Build the query record of a position from the levels and their trees, lent end to end, level 0 first, into a buffer of its size: 4, 5, 11.
@@ -203,14 +198,11 @@ pub fn build_query(
     n: usize,
     k: usize,
     position: Place,
-) -> u32
-    ensures value { result ≡ build_query_number (widths_of set) n k levels.now trees.now (index position) out.old }
+) -> Result<(), Refusal>
+    ensures value { answered result ≡ build_query_number (widths_of set) n k levels.now trees.now (index position) out.old }
     ensures out_after { out.new ≡ build_query (widths_of set) n k levels.now trees.now (index position) out.old }
 {
-    let number = query_number(levels.len(), trees.len(), out.len(), set, n, k, position);
-    if number != 0 {
-        return number;
-    }
+    questions(levels.len(), trees.len(), out.len(), set, n, k, position)?;
     put_levels(out, levels, trees, set, n, k, position);
-    0
+    Ok(())
 }

@@ -1,7 +1,6 @@
 -- What a level that passed makes known of the next: its c opens the group of the next level's a.
-use Prim.Native.Nat.{ℕ, zero, suc, ◌+◌, ◌*◌, ◌/◌, ◌%◌, ◌<◌, ◌≤◌}
+use Prim.Native.Nat.{ℕ, zero, suc, ◌+◌, ◌*◌, ◌/◌, ◌%◌, ◌^◌, ◌<◌, ◌≤◌}
 use mathlib.Core.Path.{◌≡◌, sym, ◌∙◌, ap}
-use mathlib.Core.Bool.{true}
 use mathlib.Core.List.{List}
 use native.Mathlib.Omega.{arith}
 use native.Mathlib.Nat.{mod-lt, div-add-mod, div-one}
@@ -20,21 +19,22 @@ use Rattle.theory_record.specs.Query.{pair_of, root_at, level_number}
 use Rattle.theory_record.proofs.Query.{level_holds}
 use Rattle.theory_record.proofs.Offsets.{pair-next}
 use Rattle.theory_record.proofs.Widths.{PowersOfTwo, level-shape, width-pos, width-even, pair_group}
-use Rattle.record_opening.specs.declared.Opened.{Opened}
+use Rattle.std.specs.Prelude.{Option, Some, None}
+use Rattle.record_reader.specs.declared.Opening.{Opening}
 use Rattle.record_opening.specs.helpers.Opening.{values_at, digests_at, Leads, Known}
-use Rattle.record_known.specs.helpers.Known.{opening_of, LevelsLent, LevelsKnown}
+use Rattle.record_known.specs.helpers.Known.{known_of, LevelsLent, LevelsKnown}
 use Rattle.record_query_check.specs.helpers.Level.{Allowed}
 use Rattle.record_query_check.proofs.Level.{level-room}
 use Rattle.theory_record.specs.Scheme.{Scheme, width_at, length_at, domain_at}
 
 -- for the roots as they are read
-pub known_read : (S : Scheme) (position : ℕ) (roots : List ℕ) (l q : ℕ) (s : List ℕ) (old : Opened) (ra : List ℕ) → q ≡ pair_of position l
+pub known_read : (S : Scheme) (position : ℕ) (roots : List ℕ) (l q : ℕ) (s : List ℕ) (old : Option Opening) (ra : List ℕ) → q ≡ pair_of position l
     → ra ≡ part 32 (32 * l) roots
     → Known S l (2 * pair_of position l) s old (root_at roots l) → Known S l (2 * q) s old ra
 unfolding root_at
 known_read S position roots l q s old ra eq er z = rw (eq, er) z
 
-pub c-known-read : (S : Scheme) (position : ℕ) (roots : List ℕ) (l q : ℕ) (s : List ℕ) (old : Opened) (rc : List ℕ) → q ≡ pair_of position l
+pub c-known-read : (S : Scheme) (position : ℕ) (roots : List ℕ) (l q : ℕ) (s : List ℕ) (old : Option Opening) (rc : List ℕ) → q ≡ pair_of position l
     → rc ≡ part 32 (32 * (l + 1)) roots
     → Known S (l + 1) (pair_of position l) s old (root_at roots (l + 1)) → Known S (l + 1) q s old rc
 unfolding root_at
@@ -72,17 +72,17 @@ even_leads S pw l q s group path root h z =
     }
 
 pub leads_next : (S : Scheme) (pw : PowersOfTwo S.widths) (position : ℕ) (challenges roots : List ℕ) (l : ℕ) (s : List ℕ) (i : ℕ) (v : Level) (x : ℕ)
-    → Allowed S position challenges roots → l + 1 < S.n → v ≡ level_at s i
-    → v.fits ≡ true → x ≡ level_number S position challenges roots l (level_read (drop i s)) → x ≡ 0
-    → Leads S (l + 1) (2 * pair_of position (l + 1)) s v.c_group_at v.c_path_at (root_at roots (l + 1))
+    → Allowed S position challenges roots → l + 1 < S.n → Some v ≡ level_at s i
+    → x ≡ level_number S position challenges roots l (level_read (drop i s)) → x ≡ 0
+    → Leads S (l + 1) (2 * pair_of position (l + 1)) s v.c.group_at v.c.path_at (root_at roots (l + 1))
 unfolding level_number level_read values_at digests_at
-leads_next S pw position challenges roots l s i v x a h ev fits ex z =
+leads_next S pw position challenges roots l s i v x a h ev ex z =
     let q : ℕ = pair_of position l in
     let p = level-places s i v ev in
-    let room = level-room l s i v a (omega arith) ev fits in
+    let room = level-room l s i v a (omega arith) ev in
     let y = level_holds S l q (at (words challenges) l) (root_at roots l) (root_at roots (suc l)) (level_read (drop i s)) (sym ex ∙ z) in
     rw (add-one, pair-next position l)
-    (even_leads S pw (suc l) q s v.c_group_at v.c_path_at (root_at roots (suc l)) (omega arith)
+    (even_leads S pw (suc l) q s v.c.group_at v.c.path_at (root_at roots (suc l)) (omega arith)
     (record {
       group_fits = room.c_readable.group_fits;
       path_fits = room.c_readable.path_fits;
@@ -100,11 +100,15 @@ levels-lent a h = record {
 }
 
 -- what the first pass knows: of level 0 for the first pair, and of each level for the value that a pair folds to
-module _ (S : Scheme) (position : ℕ) (roots s : List ℕ) (ways : List Opened) (z : LevelsKnown S position roots s ways) where
-  pub first-known : PowersOfTwo S.widths → 0 < S.n → Known S 0 (2 * pair_of position 0) s (opening_of ways 0) (root_at roots 0)
+module _ (S : Scheme) (position : ℕ) (roots s : List ℕ) (ways : List (Option Opening)) (z : LevelsKnown S position roots s ways) where
+  pub first-known : PowersOfTwo S.widths → 0 < S.n → Known S 0 (2 * pair_of position 0) s (known_of ways 0) (root_at roots 0)
   unfolding pair_of
-  first-known pw h e = even_leads S pw 0 position s _ _ (root_at roots 0) h (rw (div-one position) at (z.known_at 0 e))
+  first-known pw h = go (known_of ways 0) (z.known_at 0)
+    where
+      go : (known : Option Opening) → Known S 0 (position / 2 ^ 0) s known (root_at roots 0) → Known S 0 (2 * pair_of position 0) s known (root_at roots 0)
+      go None y = tt
+      go (Some old) y = even_leads S pw 0 position s _ _ (root_at roots 0) h (rw (div-one position) at y)
 
-  pub next_known : (l : ℕ) → Known S (l + 1) (pair_of position l) s (opening_of ways (l + 1)) (root_at roots (l + 1))
+  pub next_known : (l : ℕ) → Known S (l + 1) (pair_of position l) s (known_of ways (l + 1)) (root_at roots (l + 1))
   unfolding pair_of
   next_known l = rw (add-one l) (rw (add-one l) at (z.known_at (l + 1)))

@@ -25,7 +25,8 @@ use Rattle.theory_record.specs.Query.{pair_of, root_at, pair_questions, level_nu
 use Rattle.theory_record.proofs.Reading.{word-at}
 use Rattle.theory_record.proofs.Offsets.{pair_lt, level-le}
 use Rattle.record_opening.specs.helpers.Opening.{values_at, digests_at, Readable, opening_questions}
-use Rattle.record_opening.specs.declared.Opened.{Opened}
+use Rattle.std.specs.Prelude.{Option, Some}
+use Rattle.record_reader.specs.declared.Opening.{Opening}
 use Rattle.record_query_check.specs.helpers.Level.{pair_held, held, a_number, c_number, Allowed, LevelThere}
 use Rattle.theory_record.specs.Scheme.{Scheme, width_at}
 
@@ -41,17 +42,17 @@ pair_small {S} {position} l q z h e =
 
 pub record LevelRoom (S : Scheme) (l : ℕ) (s : List ℕ) (i : ℕ) (v : Level) : Type 0 where
   pub words_room : i + 48 ≤ length s
-  pub a_readable : Readable S l s v.a_group_at v.a_path_at
-  pub c_readable : Readable S (l + 1) s v.c_group_at v.c_path_at
+  pub a_readable : Readable S l s v.a.group_at v.a.path_at
+  pub c_readable : Readable S (l + 1) s v.c.group_at v.c.path_at
 
 pub level-room : {S : Scheme} {position : ℕ} {challenges roots : List ℕ} (l : ℕ) (s : List ℕ) (i : ℕ) (v : Level) → Allowed S position challenges roots
     → l < S.n
-    → v ≡ level_at s i → v.fits ≡ true → LevelRoom S l s i v
+    → Some v ≡ level_at s i → LevelRoom S l s i v
 unfolding level_fits
-level-room l s i v z h e f =
+level-room l s i v z h e =
     let t : List ℕ = drop i s in
     let p = level-places s i v e in
-    let b0 = both_true (leb 48 (length t)) _ (sym p.fits_is ∙ f) in
+    let b0 = both_true (leb 48 (length t)) _ p.fits in
     let b1 = both_true (run_fits 16 (from_aGroup t)) _ b0.1 in
     let b2 = both_true (run_fits 16 (from_cGroup t)) _ b1.1 in
     let b3 = both_true (run_fits 32 (from_aPath t)) (run_fits 32 (from_cPath t)) b2.1 in
@@ -77,9 +78,9 @@ level-room l s i v z h e f =
       };
     }
 
-pub room-there : {S : Scheme} {position : ℕ} {challenges roots : List ℕ} {l : ℕ} {s : List ℕ} {i : ℕ} {v : Level} {old c-old : Opened}
+pub room-there : {S : Scheme} {position : ℕ} {challenges roots : List ℕ} {l : ℕ} {s : List ℕ} {i : ℕ} {v : Level} {old c-old : Option Opening}
     → LevelThere S position challenges roots l s i v old c-old → LevelRoom S l s i v
-room-there {l = l} {s = s} {i = i} {v = v} z = level-room l s i v z.allowed z.level_low z.read z.fits
+room-there {l = l} {s = s} {i = i} {v = v} z = level-room l s i v z.allowed z.level_low z.read
 
 -- ---- the level that was read
 
@@ -89,13 +90,13 @@ as_read s v a b c =
       a = a;
       b = b;
       c = c;
-      a_group = values_at s v.a_group_at;
-      c_group = values_at s v.c_group_at;
-      a_path = digests_at s v.a_path_at;
-      c_path = digests_at s v.c_path_at;
+      a_group = values_at s v.a.group_at;
+      c_group = values_at s v.c.group_at;
+      a_path = digests_at s v.a.path_at;
+      c_path = digests_at s v.c.path_at;
     }
 
-read_is : (s : List ℕ) (i : ℕ) (v : Level) (a b c : ℕ) → v ≡ level_at s i → a ≡ le_value (part 16 i s) → b ≡ le_value (part 16 (i + 16) s)
+read_is : (s : List ℕ) (i : ℕ) (v : Level) (a b c : ℕ) → Some v ≡ level_at s i → a ≡ le_value (part 16 i s) → b ≡ le_value (part 16 (i + 16) s)
     → c ≡ le_value (part 16 (i + 32) s) → level_read (drop i s) ≡ as_read s v a b c
 unfolding level_read values_at digests_at
 read_is s i v a b c e ea eb ec =
@@ -130,15 +131,15 @@ pub record FoldDecides (t : Bool) (number : ℕ) : Type 0 where
   pub not_folded : t ≡ false → 26 ≡ number
   pub all_hold : t ≡ true → 0 ≡ number
 
-module _ (S : Scheme) (position : ℕ) (challenges roots : List ℕ) (l : ℕ) (s : List ℕ) (i : ℕ) (v : Level) (a b c q : ℕ) (ev : v ≡ level_at s i)
+module _ (S : Scheme) (position : ℕ) (challenges roots : List ℕ) (l : ℕ) (s : List ℕ) (i : ℕ) (v : Level) (a b c q : ℕ) (ev : Some v ≡ level_at s i)
     (ea : a ≡ le_value (part 16 i s)) (eb : b ≡ le_value (part 16 (i + 16) s)) (ec : c ≡ le_value (part 16 (i + 32) s)) (eq : q ≡ pair_of position l)
     (ra : List ℕ) (era : ra ≡ part 32 (32 * l) roots) (x : ℕ)
-    (ex : x ≡ a_number S l q (values_at s v.a_group_at) (digests_at s v.a_path_at) ra a b) where
+    (ex : x ≡ a_number S l q (values_at s v.a.group_at) (digests_at s v.a.path_at) ra a b) where
   number : ℕ
   number = level_number S position challenges roots l (level_read (drop i s))
 
   parts : (r : ℕ) (rc : List ℕ) → r ≡ at (words challenges) l → rc ≡ part 32 (32 * (l + 1)) roots
-      → let y = c_number S (l + 1) q (values_at s v.c_group_at) (digests_at s v.c_path_at) rc c in
+      → let y = c_number S (l + 1) q (values_at s v.c.group_at) (digests_at s v.c.path_at) rc c in
       number ≡ on_done x (on_done y (first_no (folded r a b c)) y) x
   unfolding level_number root_at number
   parts r rc er erc =
@@ -151,7 +152,7 @@ module _ (S : Scheme) (position : ℕ) (challenges roots : List ℕ) (l : ℕ) (
   a_says_no z = sym (parts (at (words challenges) l) (part 32 (32 * (l + 1)) roots) refl refl ∙ rw (ne_eqb x 0 z))
 
   module _ (z : x ≡ 0) (rc : List ℕ) (erc : rc ≡ part 32 (32 * (l + 1)) roots) (y : ℕ)
-      (ey : y ≡ c_number S (l + 1) q (values_at s v.c_group_at) (digests_at s v.c_path_at) rc c) where
+      (ey : y ≡ c_number S (l + 1) q (values_at s v.c.group_at) (digests_at s v.c.path_at) rc c) where
     pub c_says_no : (y ≡ 0 → ⊥) → y ≡ level_number S position challenges roots l (level_read (drop i s))
     unfolding number
     c_says_no u = sym (parts (at (words challenges) l) rc refl erc ∙ rw (eq-eqb x 0 z, ← ey, ne_eqb y 0 u))

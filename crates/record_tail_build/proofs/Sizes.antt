@@ -182,9 +182,6 @@ module _ (s : Widths) (n k : ℕ) (level tree out : List ℕ) (q : ℕ) (e : q �
   pub allowed : q ≡ 0 → TailBuild s n k level tree out
   allowed z = tail_build s n k level tree out (sym number_is ∙ z)
 
-  pub zero_is : q ≡ 0 → 0 ≡ build_tail_number s n k level tree out
-  zero_is z = sym z ∙ number_is
-
   pub done : (o : List ℕ) → q ≡ 0 → o ≡ tail_bytes s n k (words level) tree → o ≡ build_tail s n k level tree out
   unfolding build_tail
   done o z f = rw (← number_is, eq-eqb q 0 z) f

@@ -2,6 +2,7 @@
 #![tactic(auto)]
 
 ghost use Rattle.std.specs.Prelude.{◌≡◌, length};
+ghost use Rattle.theory_laws.specs.Refusals.{answered};
 ghost use Rattle.theory_field.specs.Words.{words};
 ghost use Rattle.theory_record.specs.Widths.{widths_of};
 ghost use Rattle.theory_record.specs.Sizes.{tail_size};
@@ -13,8 +14,9 @@ ghost use Rattle.record_tail_build.specs.helpers.Groups.{GroupPut, Room};
 ghost use Rattle.record_tail_build.specs.helpers.Numbers.{build_number};
 
 use bytes_numbers::put_number;
-use code_level::{level_depth, level_groups, level_length, level_width, size_number};
+use code_level::{level_depth, level_groups, level_length, level_width, size_questions};
 use field_bytes::put_words;
+use theory_laws::Refusal;
 use theory_record::WidthSet;
 use tree_place::Group;
 use tree_walk::put_path;
@@ -56,11 +58,9 @@ fn put_groups(
     let width = level_width(set, n, k, n);
     let depth = level_depth(set, n, k, n);
     let mut at = put_number(out, 0, groups as u64, 4);
-    let mut g: usize = 0;
-    while g < groups {
+    for g in 0..groups {
         let group = Group::numbered(g);
         at = put_group(out, at, level, tree, width, depth, groups, group);
-        g += 1;
     }
     at
 }
@@ -77,23 +77,27 @@ pub fn tail_size(set: WidthSet, n: usize, k: usize) -> usize
 }
 
 // 4 and 5.
-fn tail_number(level: usize, tree: usize, out: usize, set: WidthSet, n: usize, k: usize) -> u32
-    ensures { result ≡ build_number (widths_of set) n k level tree out }
+fn questions(
+    level: usize,
+    tree: usize,
+    out: usize,
+    set: WidthSet,
+    n: usize,
+    k: usize,
+) -> Result<(), Refusal>
+    ensures { answered result ≡ build_number (widths_of set) n k level tree out }
 {
-    let x = size_number(n, k);
-    if x != 0 {
-        return x;
-    }
+    size_questions(n, k)?;
     if level != 2 * level_length(n, k, n) {
-        return 5;
+        return Err(Refusal::Length);
     }
     if tree != 32 * (2 * level_groups(set, n, k, n) - 1) {
-        return 5;
+        return Err(Refusal::Length);
     }
     if out != tail_size(set, n, k) {
-        return 5;
+        return Err(Refusal::Length);
     }
-    0
+    Ok(())
 }
 
 // Build a tail record from the last level and its tree, into a buffer of its size: 4, 5.
@@ -104,14 +108,11 @@ pub fn build_tail(
     set: WidthSet,
     n: usize,
     k: usize,
-) -> u32
-    ensures value { result ≡ build_tail_number (widths_of set) n k level.now tree.now out.old }
+) -> Result<(), Refusal>
+    ensures value { answered result ≡ build_tail_number (widths_of set) n k level.now tree.now out.old }
     ensures out_after { out.new ≡ build_tail (widths_of set) n k level.now tree.now out.old }
 {
-    let q = tail_number(level.len(), tree.len(), out.len(), set, n, k);
-    if q != 0 {
-        return q;
-    }
+    questions(level.len(), tree.len(), out.len(), set, n, k)?;
     put_groups(out, level, tree, set, n, k);
-    0
+    Ok(())
 }

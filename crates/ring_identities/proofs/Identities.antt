@@ -38,11 +38,11 @@ identities =
     }
 
 -- each word under the coefficients of a row point, times its entry of the point's table
-pub rows_extension : (n : ℕ) (packed point e : List ℕ) (row c : List Word) → length point ≡ 2 * n → words e ≡ eq_table (words point)
+pub rows_extension : (n m : ℕ) (packed point e : List ℕ) (row c : List Word) → m ≡ 2 ^ n → length point ≡ 2 * n → words e ≡ eq_table (words point)
     → length row ≡ 7 → numbers c ≡ eq_table (numbers row)
-    → sum (2 ^ n) (λ v. phi (coefficients c) (at (words packed) v) ⊗ at (words e) v) ≡ extension_of_bits packed point row
-rows_extension n packed point e row c p f h k =
-    ap (λ m. sum (2 ^ m) (λ v. phi (coefficients c) (at (words packed) v) ⊗ at (words e) v)) (sym (length-words-even point n p))
+    → sum m (λ v. phi (coefficients c) (at (words packed) v) ⊗ at (words e) v) ≡ extension_of_bits packed point row
+rows_extension n m packed point e row c q p f h k =
+    ap (λ i. sum i (λ v. phi (coefficients c) (at (words packed) v) ⊗ at (words e) v)) (q ∙ ap (λ i. 2 ^ i) (sym (length-words-even point n p)))
     ∙ sum-ext (2 ^ length (words point)) (λ v j.
     ap₂ ◌⊗◌ (ap (λ (l : List ℕ). phi (at l) (at (words packed) v)) k) (ap (λ (l : List ℕ). at l v) f ∙ eq_table-at (words point) v j))
     ∙ mle_by_words (numbers row) (words point) (at (words packed)) (length-numbers row ∙ h)

@@ -1,13 +1,10 @@
 -- What the questions leave known where none says no, and that none of the entries behind them then refuses.
-use mathlib.Core.Path.{◌≡◌, sym, ap, ◌∙◌}
+use mathlib.Core.Path.{◌≡◌, refl, sym, ◌∙◌}
 use Prim.Native.Nat.{ℕ, ◌*◌, ◌^◌}
 use borrow.Author.Tests.{leb-true, eqb-true, le-leb, eq-eqb}
-use Rattle.theory_laws.specs.Questions.{on_done}
-use Rattle.theory_laws.proofs.Questions.{all_yes, yes_all, on_refused}
-use Rattle.field_gf128.specs.Word.{word}
+use Rattle.theory_laws.proofs.Questions.{all_yes, yes_all}
 use Rattle.field_equality.specs.Eq.{eq_questions, eq_number}
 use Rattle.ring_partials.specs.Numbers.{partial_questions, partial_number, fold_questions, fold_number}
-use Rattle.ring_identities.specs.declared.Sides.{Sides}
 use Rattle.ring_identities.specs.Numbers.{sides_questions, sides_number}
 use Rattle.ring_identities.specs.helpers.Sizes.{Sizes}
 
@@ -44,24 +41,3 @@ partial-passes n packed point table e s k f h =
 pub fold-passes : (s : ℕ) → s ≡ 256 → fold_number s ≡ 0
 unfolding fold_number
 fold-passes s h = yes_all (fold_questions s) (eq-eqb s 256 h, tt)
-
--- ---- where one says no
-
--- what `refused` answers is what either entry has to, whatever its sides x and y and its table would be, and the room is as it was
-pub refused-sides : {A : Type 0} (r : Sides) (number asked x y : ℕ) (table room : A) → number ≡ asked → (number ≡ 0 → ⊥)
-    → (r.number ≡ number) × (word r.left ≡ 0) × (r.left ≡ r.right)
-    → (r.number ≡ asked)
-    × ((word r.left ≡ on_done r.number x 0)
-    × ((word r.right ≡ on_done r.number y 0)
-    × ((r.left ≡ r.right)
-    × (room ≡ on_done r.number table room))))
-refused-sides r number asked x y table room e refusal (n, zero, same) = (
-  n ∙ e,
-  (
-    zero ∙ sym (on_refused r.number x 0 not_done),
-    (ap word (sym same) ∙ zero ∙ sym (on_refused r.number y 0 not_done), (same, sym (on_refused r.number table room not_done))),
-  ),
-)
-  where
-    not_done : r.number ≡ 0 → ⊥
-    not_done z = refusal (sym n ∙ z)

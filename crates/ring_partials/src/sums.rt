@@ -10,24 +10,22 @@ ghost use Rattle.ring_partials.specs.helpers.Buckets.{gathered, Gathered};
 
 use field_gf128::Word;
 use field_pack::bits::{nibble, select};
+use field_pack::sums::sum_of;
 
 // Adds e to a bucket for each nibble of a half, the lowest nibble in row `from`.
-fn gather_half(buckets: &mut [u64], from: usize, half: u64, e: Word)
-    requires { (from ≤ 16) × (length buckets.old ≡ 1024) }
+fn gather_half(buckets: &mut [u64; 1024], from: usize, half: u64, e: Word)
+    requires { from ≤ 16 }
     ensures { Gathered (half * 2 ^ (4 * from)) (word e) (words buckets.old) (words buckets.new) }
 {
-    let mut i: usize = 0;
-    while i < 16 {
+    for i in 0..16 {
         let k = (from + i) * 16 + nibble(half, i);
         let sum = field_gf128::add(field_words::get(buckets, k), e);
         field_words::put(buckets, k, sum);
-        i += 1;
     }
 }
 
 // Adds e to a bucket for each nibble of w.
-fn gather(buckets: &mut [u64], w: Word, e: Word)
-    requires { length buckets.old ≡ 1024 }
+fn gather(buckets: &mut [u64; 1024], w: Word, e: Word)
     ensures { Gathered (word w) (word e) (words buckets.old) (words buckets.new) }
 {
     gather_half(buckets, 0, w.lo, e);
@@ -35,40 +33,32 @@ fn gather(buckets: &mut [u64], w: Word, e: Word)
 }
 
 // What the buckets hold for bit b.
-fn bucket_sum(buckets: &[u64], b: usize) -> Word
-    requires { (b < 128) × (length buckets.now ≡ 1024) }
+fn bucket_sum(buckets: &[u64; 1024], b: usize) -> Word
+    requires { b < 128 }
     ensures { word result ≡ gathered (words buckets.now) b }
 {
-    let mut acc = Word { lo: 0, hi: 0 };
-    let mut x: usize = 0;
-    while x < 16 {
+    sum_of(16, |x| {
         let e = field_words::get(buckets, b / 4 * 16 + x);
-        acc = field_gf128::add(acc, select((x as u64 >> (b % 4)) & 1, e));
-        x += 1;
-    }
-    acc
+        select((x as u64 >> (b % 4)) & 1, e)
+    })
 }
 
-// The 128 partial sums over m words and m entries, by buckets: an entry is added once for each nibble of its word, and not once
-// for each bit.
-pub fn partials(m: usize, ws: &[u64], es: &[u64], out: &mut [u64])
-    requires { (length ws.now ≡ 2 * m) × (length es.now ≡ 2 * m) × (length out.old ≡ 256) }
-    ensures { words out.new ≡ tab 128 (partial m (at (words ws.now)) (at (words es.now))) }
+// The 128 partial sums over words and as many entries, by buckets: an entry is added once for each nibble of its word, and not
+// once for each bit.
+pub fn partials(ws: &[u64], es: &[u64], out: &mut [u64])
+    requires { (length es.now ≡ length ws.now) × (length out.old ≡ 256) }
+    ensures { words out.new ≡ tab 128 (partial (length ws.now / 2) (at (words ws.now)) (at (words es.now))) }
 {
     let mut buckets = [0u64; 1024];
-    let mut v: usize = 0;
-    while v < m {
+    for v in 0..ws.len() / 2 {
         gather(
             &mut buckets,
             field_words::get(ws, v),
             field_words::get(es, v),
         );
-        v += 1;
     }
-    let mut b: usize = 0;
-    while b < 128 {
+    for b in 0..128 {
         field_words::put(out, b, bucket_sum(&buckets, b));
-        b += 1;
     }
 }
 
@@ -80,12 +70,10 @@ pub fn fold(s: &[u64], rb: [Word; 128]) -> Word
 {
     let t = field_pack::phi_tab(rb);
     let mut acc = Word { lo: 0, hi: 0 };
-    let mut left: usize = 128;
-    while 0 < left {
-        left -= 1;
+    for j in (0..128).rev() {
         acc = field_gf128::add(
             field_gf128::double(acc),
-            field_pack::phi_tab_apply(&t, field_words::get(s, left)),
+            field_pack::phi_tab_apply(&t, field_words::get(s, j)),
         );
     }
     acc

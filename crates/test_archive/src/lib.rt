@@ -3,13 +3,17 @@
 // one, which is the Rust's, and trees have no key, as the Rust's have none.
 #![tactic(auto)]
 
-use code_profile::{Parameters, Profile};
-use field_blocks::{Block, Hashed};
-use field_gf128::{Inverse, Word};
-use hash_hasher::whole::Digested;
-use theory_blake3::Mode;
-use theory_record::{Trees, WidthSet};
-use tree_place::Place;
+pub mod numbered;
+
+use code_profile::Profile;
+use field_blocks::Block;
+use field_gf128::Word;
+use numbered::{NumberedBlock, NumberedDigest, NumberedWord, number};
+use ring_identities::Sides;
+use theory_laws::Refusal;
+use theory_record::{Deposit, Trees, WidthSet};
+use tree_digest::Hashing;
+use tree_place::{Place, Shape};
 
 // 7 coordinates by value.
 #[repr(C)]
@@ -41,17 +45,15 @@ pub extern "C" fn dequmlo_test_square_by_table(a: Word) -> Word {
 }
 
 #[unsafe(no_mangle)]
-pub extern "C" fn dequmlo_test_inv(a: Word) -> Inverse {
-    field_gf128::inv(a)
+pub extern "C" fn dequmlo_test_inv(a: Word) -> NumberedWord {
+    NumberedWord::from(field_gf128::inv(a))
 }
 
 // a times b squared n times, each square by masks.
 fn mul_squares(a: Word, b: Word, n: u64) -> Word {
     let mut w = b;
-    let mut i: u64 = 0;
-    while i < n {
+    for _ in 0..n {
         w = field_gf128::square(w);
-        i += 1;
     }
     field_gf128::mul(a, w)
 }
@@ -91,57 +93,58 @@ pub extern "C" fn dequmlo_test_axpy(y: &mut [u64], x: &[u64], r: Word) {
 }
 
 #[unsafe(no_mangle)]
-pub extern "C" fn dequmlo_test_ghash(key: Block, blocks: &[u8]) -> Hashed {
-    field_blocks::ghash(key, blocks)
+pub extern "C" fn dequmlo_test_ghash(key: Block, blocks: &[u8]) -> NumberedBlock {
+    let hashed = field_blocks::ghash(key, blocks);
+    NumberedBlock {
+        number: number(&hashed),
+        block: hashed.unwrap_or(Block {
+            first: 0,
+            second: 0,
+        }),
+    }
 }
 
 #[unsafe(no_mangle)]
 pub extern "C" fn dequmlo_test_pack_table(bytes: &[u8], out: &mut [u64]) -> u32 {
-    field_pack::pack_table(bytes, out)
+    number(&field_pack::pack_table(bytes, out))
 }
 
 #[unsafe(no_mangle)]
 pub extern "C" fn dequmlo_test_phi_c(p: Word, c: Coefficients) -> Word {
-    let words = c.words;
-    field_pack::phi_c(p, words)
+    field_pack::phi_c(p, c.words)
 }
 
 #[unsafe(no_mangle)]
 pub extern "C" fn dequmlo_test_phi_tab(p: Word, c: Coefficients) -> Word {
-    let words = c.words;
-    let t = field_pack::phi_tab(words);
+    let t = field_pack::phi_tab(c.words);
     field_pack::phi_tab_apply(&t, p)
 }
 
 // The sum of phi over the words of a run, by tables that are filled once.
 #[unsafe(no_mangle)]
 pub extern "C" fn dequmlo_test_phi_tab_sum(s: &[u64], c: Coefficients) -> Word {
-    let words = c.words;
-    let t = field_pack::phi_tab(words);
+    let t = field_pack::phi_tab(c.words);
     let mut sum = Word { lo: 0, hi: 0 };
-    let mut v: usize = 0;
-    while v < s.len() / 2 {
+    for v in 0..s.len() / 2 {
         sum = field_gf128::add(sum, field_pack::phi_tab_apply(&t, field_words::get(s, v)));
-        v += 1;
     }
     sum
 }
 
 #[unsafe(no_mangle)]
 pub extern "C" fn dequmlo_test_eq_coefficients(r: Point7) -> Coefficients {
-    let point = r.words;
-    let words = field_pack::eq_coefficients(point);
+    let words = field_pack::eq_coefficients(r.words);
     Coefficients { words }
 }
 
 #[unsafe(no_mangle)]
 pub extern "C" fn dequmlo_test_eq_table(n: usize, point: &[u64], out: &mut [u64]) -> u32 {
-    field_equality::eq_table(n, point, out)
+    number(&field_equality::eq_table(n, point, out))
 }
 
 #[unsafe(no_mangle)]
-pub extern "C" fn dequmlo_test_digest(input: &[u8]) -> Digested {
-    hash_hasher::whole::digest(input)
+pub extern "C" fn dequmlo_test_digest(input: &[u8]) -> NumberedDigest {
+    NumberedDigest::from(hash_hasher::whole::digest(input))
 }
 
 // The digests of four messages of one length, of at most a chunk.
@@ -165,16 +168,8 @@ fn none() -> FourDigests {
 
 #[unsafe(no_mangle)]
 pub extern "C" fn dequmlo_test_four(s0: &[u8], s1: &[u8], s2: &[u8], s3: &[u8]) -> FourDigests {
-    if s0.len() > 1024 {
-        return none();
-    }
-    if s1.len() != s0.len() {
-        return none();
-    }
-    if s2.len() != s0.len() {
-        return none();
-    }
-    if s3.len() != s0.len() {
+    let len = s0.len();
+    if len > 1024 || s1.len() != len || s2.len() != len || s3.len() != len {
         return none();
     }
     let counters = [0u64; 4];
@@ -184,14 +179,6 @@ pub extern "C" fn dequmlo_test_four(s0: &[u8], s1: &[u8], s2: &[u8], s3: &[u8]) 
     let c = hash_four_chunks::lane_bytes(&v, 2);
     let d = hash_four_chunks::lane_bytes(&v, 3);
     FourDigests { a, b, c, d }
-}
-
-// A number, and a word that is 0 where the number is not.
-#[repr(C)]
-#[derive(Clone, Copy)]
-pub struct NumberedWord {
-    pub number: u32,
-    pub word: Word,
 }
 
 // A number, and the n of a folded codeword.
@@ -204,7 +191,7 @@ pub struct NumberedN {
 
 #[unsafe(no_mangle)]
 pub extern "C" fn dequmlo_test_derive(n: usize, k: usize, domain: &[u8], out: &mut [u64]) -> u32 {
-    code_gamma::derive(n, k, domain, out)
+    number(&code_gamma::derive(n, k, domain, out))
 }
 
 #[unsafe(no_mangle)]
@@ -217,7 +204,7 @@ pub extern "C" fn dequmlo_test_l_of(
     gammas: &[u64],
     out: &mut [u64],
 ) -> u32 {
-    code_codeword::l_of(n, k, original, eps, coordinates, gammas, out)
+    number(&code_codeword::l_of(n, k, original, eps, coordinates, gammas, out))
 }
 
 #[unsafe(no_mangle)]
@@ -228,7 +215,7 @@ pub extern "C" fn dequmlo_test_encode(
     gammas: &[u64],
     out: &mut [u64],
 ) -> u32 {
-    code_codeword::encode(n, k, table, gammas, out)
+    number(&code_codeword::encode(n, k, table, gammas, out))
 }
 
 #[unsafe(no_mangle)]
@@ -242,10 +229,10 @@ pub extern "C" fn dequmlo_test_fold(
     src: &[u64],
     out: &mut [u64],
 ) -> NumberedN {
-    let a = code_codeword::fold(n, k, original, var, r, coordinates, src, out);
+    let answer = code_codeword::fold(n, k, original, var, r, coordinates, src, out);
     NumberedN {
-        number: a.number,
-        n: a.n,
+        number: number(&answer),
+        n: answer.unwrap_or(0),
     }
 }
 
@@ -256,7 +243,7 @@ pub extern "C" fn dequmlo_test_earlier_reading(
     original: usize,
     coordinates: &mut [usize],
 ) -> u32 {
-    code_codeword::earlier_reading(n, k, original, coordinates)
+    number(&code_codeword::earlier_reading(n, k, original, coordinates))
 }
 
 #[unsafe(no_mangle)]
@@ -266,18 +253,12 @@ pub extern "C" fn dequmlo_test_partial_evals(
     eq: &[u64],
     out: &mut [u64],
 ) -> u32 {
-    ring_partials::partial_evals(n, packed, eq, out)
+    number(&ring_partials::partial_evals(n, packed, eq, out))
 }
 
 #[unsafe(no_mangle)]
 pub extern "C" fn dequmlo_test_fold_partials(s: &[u64], rb: Coefficients) -> NumberedWord {
-    let words = rb.words;
-    let a = ring_partials::fold_partials(s, words);
-    let word = a.word;
-    NumberedWord {
-        number: a.number,
-        word,
-    }
+    NumberedWord::from(ring_partials::fold_partials(s, rb.words))
 }
 
 #[unsafe(no_mangle)]
@@ -287,8 +268,7 @@ pub extern "C" fn dequmlo_test_materialize(
     rb: Coefficients,
     out: &mut [u64],
 ) -> u32 {
-    let words = rb.words;
-    ring_indicator::materialize(n, z, words, out)
+    number(&ring_indicator::materialize(n, z, rb.words, out))
 }
 
 #[unsafe(no_mangle)]
@@ -298,13 +278,7 @@ pub extern "C" fn dequmlo_test_eval_at(
     rb: Coefficients,
     point: &[u64],
 ) -> NumberedWord {
-    let words = rb.words;
-    let a = ring_indicator::eval_at(n, z, words, point);
-    let word = a.word;
-    NumberedWord {
-        number: a.number,
-        word,
-    }
+    NumberedWord::from(ring_indicator::eval_at(n, z, rb.words, point))
 }
 
 // A number, and both sides of an identity.
@@ -316,13 +290,20 @@ pub struct NumberedSides {
     pub right: Word,
 }
 
-fn numbered(a: ring_identities::Sides) -> NumberedSides {
-    let left = a.left;
-    let right = a.right;
-    NumberedSides {
-        number: a.number,
-        left,
-        right,
+impl From<Result<Sides, Refusal>> for NumberedSides {
+    fn from(answer: Result<Sides, Refusal>) -> NumberedSides {
+        let zero = Word { lo: 0, hi: 0 };
+        let none = Sides {
+            left: zero,
+            right: zero,
+        };
+        let number = number(&answer);
+        let Sides { left, right } = answer.unwrap_or(none);
+        NumberedSides {
+            number,
+            left,
+            right,
+        }
     }
 }
 
@@ -334,8 +315,8 @@ pub extern "C" fn dequmlo_test_extension_sides(
     row: Point7,
     table: &mut [u64],
 ) -> NumberedSides {
-    let coordinates = row.words;
-    numbered(ring_identities::extension_sides(n, packed, point, coordinates, table))
+    let sides = ring_identities::extension_sides(n, packed, point, row.words, table);
+    NumberedSides::from(sides)
 }
 
 #[unsafe(no_mangle)]
@@ -346,20 +327,34 @@ pub extern "C" fn dequmlo_test_fold_sides(
     rb: Coefficients,
     table: &mut [u64],
 ) -> NumberedSides {
-    let words = rb.words;
-    numbered(ring_identities::fold_sides(n, packed, point, words, table))
-}
-
-// The mode of the Rust's trees.
-fn no_key() -> Mode {
-    hash_modes::hash_mode()
+    let sides = ring_identities::fold_sides(n, packed, point, rb.words, table);
+    NumberedSides::from(sides)
 }
 
 // How the Rust's trees are made.
 fn trees() -> Trees {
-    let set = WidthSet::Present;
-    let mode = no_key();
-    Trees { set, mode }
+    Trees {
+        set: WidthSet::Present,
+        mode: hash_modes::hash_mode(),
+    }
+}
+
+// How a tree of the Rust's is hashed.
+fn hashing(domain: &[u8]) -> Hashing<'_> {
+    Hashing {
+        mode: hash_modes::hash_mode(),
+        domain,
+    }
+}
+
+// A deposit of the Rust's.
+fn deposit(base: &[u8], n: usize, k: usize) -> Deposit<'_> {
+    Deposit {
+        how: trees(),
+        base,
+        n,
+        k,
+    }
 }
 
 #[unsafe(no_mangle)]
@@ -370,7 +365,7 @@ pub extern "C" fn dequmlo_test_build(
     values: &[u64],
     tree: &mut [u8],
 ) -> u32 {
-    tree_build::build(no_key(), domain, count, width, values, tree)
+    number(&tree_build::build(hashing(domain), Shape { count, width }, values, tree))
 }
 
 #[unsafe(no_mangle)]
@@ -379,7 +374,7 @@ pub extern "C" fn dequmlo_test_serialize_parts(
     lengths: &[u64],
     out: &mut [u8],
 ) -> u32 {
-    hash_serialize_parts::serialize_parts(bytes, lengths, out)
+    number(&hash_serialize_parts::serialize_parts(bytes, lengths, out))
 }
 
 #[unsafe(no_mangle)]
@@ -389,8 +384,9 @@ pub extern "C" fn dequmlo_test_leaf_digest(
     width: usize,
     place: usize,
     values: &[u64],
-) -> Digested {
-    tree_digest::leaf_digest(no_key(), domain, count, width, Place::at(place), values)
+) -> NumberedDigest {
+    let shape = Shape { count, width };
+    NumberedDigest::from(hashing(domain).leaf_digest(shape, Place::at(place), values))
 }
 
 #[unsafe(no_mangle)]
@@ -399,8 +395,8 @@ pub extern "C" fn dequmlo_test_node_digest(
     level: usize,
     left: &[u8],
     right: &[u8],
-) -> Digested {
-    tree_digest::node_digest(no_key(), domain, level, left, right)
+) -> NumberedDigest {
+    NumberedDigest::from(hashing(domain).node_digest(level, left, right))
 }
 
 #[unsafe(no_mangle)]
@@ -411,7 +407,7 @@ pub extern "C" fn dequmlo_test_open(
     tree: &[u8],
     path: &mut [u8],
 ) -> u32 {
-    tree_path::open(count, width, Place::at(place), tree, path)
+    number(&tree_path::open(Shape { count, width }, Place::at(place), tree, path))
 }
 
 #[unsafe(no_mangle)]
@@ -422,16 +418,15 @@ pub extern "C" fn dequmlo_test_root_of_path(
     place: usize,
     values: &[u64],
     path: &[u8],
-) -> Digested {
-    tree_path::root_of_path(
-        no_key(),
-        domain,
-        count,
-        width,
+) -> NumberedDigest {
+    let root = tree_path::root_of_path(
+        hashing(domain),
+        Shape { count, width },
         Place::at(place),
         values,
         path,
-    )
+    );
+    NumberedDigest::from(root)
 }
 
 // A number, and the level for 16 to 26.
@@ -453,10 +448,15 @@ pub extern "C" fn dequmlo_test_check_query(
     s: &[u8],
 ) -> NumberedLevel {
     let place = Place::at(position);
-    let a = record_query_check::check_query(base, trees(), n, k, place, challenges, roots, s);
-    NumberedLevel {
-        number: a.number,
-        level: a.level,
+    match record_query_check::check_query(deposit(base, n, k), place, challenges, roots, s) {
+        Ok(()) => NumberedLevel {
+            number: 0,
+            level: 0,
+        },
+        Err(rejection) => NumberedLevel {
+            number: rejection.refusal.number(),
+            level: rejection.level,
+        },
     }
 }
 
@@ -469,7 +469,7 @@ pub extern "C" fn dequmlo_test_check_tail(
     claim: Word,
     s: &[u8],
 ) -> u32 {
-    record_tail_check::check_tail(base, trees(), n, k, root, claim, s)
+    number(&record_tail_check::check_tail(deposit(base, n, k), root, claim, s))
 }
 
 #[unsafe(no_mangle)]
@@ -480,7 +480,7 @@ pub extern "C" fn dequmlo_test_build_tail(
     n: usize,
     k: usize,
 ) -> u32 {
-    record_tail_build::build_tail(out, level, tree, WidthSet::Present, n, k)
+    number(&record_tail_build::build_tail(out, level, tree, WidthSet::Present, n, k))
 }
 
 #[unsafe(no_mangle)]
@@ -493,7 +493,7 @@ pub extern "C" fn dequmlo_test_build_query(
     position: usize,
 ) -> u32 {
     let place = Place::at(position);
-    record_query_build::build_query(out, levels, trees, WidthSet::Present, n, k, place)
+    number(&record_query_build::build_query(out, levels, trees, WidthSet::Present, n, k, place))
 }
 
 #[unsafe(no_mangle)]
@@ -527,19 +527,19 @@ pub struct Params {
 }
 
 // The first default, which is the Rust's, or profile 1 to 4.
-fn parameters_of(number: usize) -> Parameters {
+fn profile(number: usize) -> Profile {
     match number {
-        1 => code_profile::parameters_of(Profile::FastChunk),
-        2 => code_profile::parameters_of(Profile::Balanced),
-        3 => code_profile::parameters_of(Profile::CompactWrap),
-        4 => code_profile::parameters_of(Profile::DeepWrap),
-        _ => code_profile::parameters_of(Profile::FirstDefault),
+        1 => Profile::FastChunk,
+        2 => Profile::Balanced,
+        3 => Profile::CompactWrap,
+        4 => Profile::DeepWrap,
+        _ => Profile::FirstDefault,
     }
 }
 
 #[unsafe(no_mangle)]
 pub extern "C" fn dequmlo_test_parameters(number: usize) -> Params {
-    let p = parameters_of(number);
+    let p = code_profile::parameters_of(profile(number));
     let domain = p.domain;
     Params {
         k: p.k,
@@ -560,7 +560,7 @@ pub extern "C" fn dequmlo_test_commit(
     coordinates: &mut [usize],
     tree: &mut [u8],
 ) -> u32 {
-    code_commit::commit(
+    number(&code_commit::commit(
         trees(),
         n,
         k,
@@ -570,5 +570,5 @@ pub extern "C" fn dequmlo_test_commit(
         codeword,
         coordinates,
         tree,
-    )
+    ))
 }

@@ -1,9 +1,9 @@
 // Blocks of SP 800-38D: words taken from them and back, one by one and in runs, and GHASH.
 use bytes_numbers::number_at;
 use field_blocks::Block;
-use test_lines::answer::{Answer, no_room, one};
-use test_lines::bytes::put_number;
-use test_lines::words::{first, put};
+use test_lines::answer::{Answer, number};
+use test_lines::request::{Lent, Request, first};
+use test_lines::values::{put, put_words, word};
 
 // The block in the first 16 bytes of a slice; zeros where it has fewer.
 fn block_in(s: &[u8]) -> Block {
@@ -19,31 +19,41 @@ fn block_in(s: &[u8]) -> Block {
     }
 }
 
-// A block as the answer.
-fn done(number: u32, b: Block, y: &mut [u8]) -> Answer {
-    let at = put_number(y, 0, b.first);
-    put_number(y, at, b.second);
-    one(number)
-}
-
-fn import_block(s: &[u8], w: &mut [u64]) -> Answer {
-    put(w, 0, field_blocks::import_block(block_in(s)));
-    one(0)
-}
-
-fn ghash(s: &[u8], t: &[u8], y: &mut [u8]) -> Answer {
-    let r = field_blocks::ghash(block_in(s), t);
-    let b = r.block;
-    done(r.number, b, y)
-}
-
-pub fn answer(place: usize, a: &[u64], s: &[u8], t: &[u8], w: &mut [u64], y: &mut [u8]) -> Answer {
-    match place {
-        0 => import_block(s, w),
-        1 => done(0, field_blocks::export_block(first(a)), y),
-        2 => one(field_blocks::import_run(s, w)),
-        3 => one(field_blocks::export_run(a, y)),
-        4 => ghash(s, t, y),
-        _ => no_room(),
+fn put_block(out: &mut [u8], block: Block) {
+    for (place, byte) in out.iter_mut().zip(
+        block
+            .first
+            .to_le_bytes()
+            .iter()
+            .chain(block.second.to_le_bytes().iter()),
+    ) {
+        *place = *byte;
     }
+}
+
+pub fn import_block(request: &Request, lent: &mut Lent) -> Answer {
+    let word = field_blocks::import_block(block_in(request.bytes(0)));
+    put_words(first(&mut lent.words), &[word]);
+    Answer::One(0)
+}
+
+pub fn export_block(request: &Request, lent: &mut Lent) -> Answer {
+    let block = field_blocks::export_block(word(request.words(0), 0));
+    put_block(first(&mut lent.bytes), block);
+    Answer::One(0)
+}
+
+pub fn import_run(request: &Request, lent: &mut Lent) -> Answer {
+    Answer::from(field_blocks::import_run(request.bytes(0), first(&mut lent.words)))
+}
+
+pub fn export_run(request: &Request, lent: &mut Lent) -> Answer {
+    Answer::from(field_blocks::export_run(request.words(0), first(&mut lent.bytes)))
+}
+
+pub fn ghash(request: &Request, lent: &mut Lent) -> Answer {
+    let hashed = field_blocks::ghash(block_in(request.bytes(0)), request.bytes(1));
+    let number = number(&hashed);
+    put_block(first(&mut lent.bytes), hashed.unwrap_or(block_in(&[])));
+    Answer::One(number)
 }

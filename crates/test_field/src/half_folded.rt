@@ -1,35 +1,24 @@
 // Codewords in use, with the list of coordinates that are still unfolded: L, a fold, and the conversion to the earlier reading.
-use test_lines::answer::{Answer, no_room, one, two};
-use test_lines::lists::put;
-use test_lines::parts::numbers;
-use test_lines::request::Numbers;
-use test_lines::words::first;
+use test_lines::answer::Answer;
+use test_lines::request::{Lent, Request, first, listed};
+use test_lines::values::word;
 
-fn l_of(n: Numbers, a: &[u64], b: &[u64], w: &mut [u64]) -> Answer {
-    let mut room = [0usize; 32];
-    put(&mut room, a);
-    let list = numbers(&room, 0, a.len());
-    one(code_codeword::l_of(n.0, n.1, n.2, n.3, list, b, w))
+pub fn l_of(request: &Request, lent: &mut Lent) -> Answer {
+    let [n, k, original, eps, ..] = request.numbers();
+    let coordinates = request.list(0);
+    let out = first(&mut lent.words);
+    Answer::from(code_codeword::l_of(n, k, original, eps, coordinates, request.words(0), out))
 }
 
-fn fold(n: Numbers, a: &[u64], c: &[u64], list: &mut [usize], w: &mut [u64]) -> Answer {
-    let r = code_codeword::fold(n.0, n.1, n.2, n.3, first(a), list, c, w);
-    two(r.number, r.n)
+pub fn fold(request: &Request, lent: &mut Lent) -> Answer {
+    let [n, k, original, var, ..] = request.numbers();
+    let r = word(request.words(0), 0);
+    let coordinates = listed(&mut lent.list);
+    let out = first(&mut lent.words);
+    Answer::from(code_codeword::fold(n, k, original, var, r, coordinates, request.words(1), out))
 }
 
-pub fn answer(
-    place: usize,
-    n: Numbers,
-    a: &[u64],
-    b: &[u64],
-    c: &[u64],
-    list: &mut [usize],
-    w: &mut [u64],
-) -> Answer {
-    match place {
-        0 => l_of(n, a, b, w),
-        1 => fold(n, a, c, list, w),
-        2 => one(code_codeword::earlier_reading(n.0, n.1, n.2, list)),
-        _ => no_room(),
-    }
+pub fn earlier_reading(request: &Request, lent: &mut Lent) -> Answer {
+    let [n, k, original, ..] = request.numbers();
+    Answer::from(code_codeword::earlier_reading(n, k, original, listed(&mut lent.list)))
 }

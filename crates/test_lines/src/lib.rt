@@ -3,11 +3,8 @@
 #![tactic(auto)]
 
 pub mod answer;
-pub mod bytes;
+mod arguments;
 mod draw;
 pub mod files;
-pub mod lists;
-pub mod parts;
-mod pieces;
 pub mod request;
-pub mod words;
+pub mod values;

@@ -1,23 +1,60 @@
 // The hash: BLAKE3 in one call and by a hasher, in its three modes, and `serialize_parts`.
-ghost use Rattle.std.specs.Prelude.{◌≡◌, ◌<◌, ◌≤◌, length};
+ghost use Rattle.std.specs.Prelude.{◌<◌};
 
-use hash_hasher::hasher::{Hasher, Updated, finalize, new, update};
-use hash_hasher::whole::Digested;
+use hash_chunk::state::ChunkState;
+use hash_hasher::hasher::Hasher;
 use hash_modes::{context_hasher, keyed_hasher};
-use test_lines::answer::{Answer, no_room, one, two};
-use test_lines::bytes::{half_in, put_all, put_halves, put_number};
-use test_lines::parts::part;
-use test_lines::request::Numbers;
+use hash_stack::Stack;
+use std::alloc::{AllocError, Global};
+use test_lines::answer::{Answer, number};
+use test_lines::request::{Lent, Request, first};
+use test_lines::values::put;
+use theory_blake3::Mode;
+use theory_laws::Refusal;
 
-// A digest, and the number that came with it.
-pub fn digested(d: Digested, y: &mut [u8]) -> Answer {
-    let bytes = d.bytes;
-    put_all(y, 0, &bytes);
-    one(d.number)
+// A digest or its refusal as the answer: then its bytes are 0.
+pub fn done_or_refused(lent: &mut Lent, digest: Result<[u8; 32], Refusal>) -> Answer {
+    let number = number(&digest);
+    put(first(&mut lent.bytes), &digest.unwrap_or([0; 32]));
+    Answer::One(number)
+}
+
+pub fn blake3(request: &Request, lent: &mut Lent) -> Answer {
+    done_or_refused(lent, hash_hasher::whole::digest(request.bytes(0)))
+}
+
+pub fn keyed_blake3(request: &Request, lent: &mut Lent) -> Answer {
+    done_or_refused(
+        lent,
+        hash_modes::keyed_digest(request.bytes(0), request.bytes(1)),
+    )
+}
+
+pub fn derive_key(request: &Request, lent: &mut Lent) -> Answer {
+    done_or_refused(
+        lent,
+        hash_modes::derive_key(request.bytes(0), request.bytes(1)),
+    )
+}
+
+pub fn serialize_parts(
+    alloc: Global,
+    request: &Request,
+    lent: &mut Lent,
+) -> Result<Answer, AllocError> {
+    let mut lengths = Vec::new(alloc);
+    for length in request.list(0) {
+        lengths.push(*length as u64)?;
+    }
+    let out = first(&mut lent.bytes);
+    let parts = request.bytes(0);
+    Ok(Answer::from(hash_serialize_parts::serialize_parts(parts, lengths.as_slice(), out)))
 }
 
 // How many bytes an update takes, by a number.
-fn size_at(k: usize) -> usize {
+fn size_at(k: usize) -> usize
+    ensures { 0 < result }
+{
     match k {
         0 => 1,
         1 => 7,
@@ -30,147 +67,135 @@ fn size_at(k: usize) -> usize {
     }
 }
 
-// At least 1, and at most what is left.
-fn piece(size: usize, left: usize) -> usize
-    requires { 0 < left }
-    ensures { (0 < result) × (result ≤ left) }
-{
-    if left < size {
-        return left;
-    }
-    if size == 0 { 1 } else { size }
-}
-
-// The state with a piece more.
-fn fed_with(s: Hasher, input: &[u8]) -> Hasher {
-    let u = update(s, input);
-    let t = u.state;
-    t
-}
-
 // The digest by a hasher that is fed in pieces: by the size with a number at a time, where step is 0, and by the sizes from there in turn, where
 // it is 1.
-fn pieces(start: Hasher, input: &[u8], first: usize, step: usize, y: &mut [u8]) -> Answer {
-    let mut s = start;
-    let mut i: usize = 0;
-    let mut k = first % 8;
-    while i < input.len() {
-        let end = i + piece(size_at(k), input.len() - i);
-        let t = fed_with(s, part(input, i, end));
-        s = t;
-        i = end;
+fn digest_of_pieces(
+    mut hasher: Hasher,
+    input: &[u8],
+    start: usize,
+    step: usize,
+) -> Result<[u8; 32], Refusal> {
+    let mut rest = input;
+    let mut k = start % 8;
+    // The sizes differ from piece to piece.
+    while 0 < rest.len() {
+        let (piece, after) = rest.split_at(size_at(k).min(rest.len()));
+        hasher.update(piece)?;
+        rest = after;
         k = (k + step % 2) % 8;
     }
-    digested(finalize(s), y)
+    hasher.finalize()
 }
 
-// A state that is fed an input so many times.
+pub fn pieces(request: &Request, lent: &mut Lent) -> Answer {
+    let [start, step, ..] = request.numbers();
+    done_or_refused(
+        lent,
+        digest_of_pieces(Hasher::new(), request.bytes(0), start, step),
+    )
+}
+
+// The digest by a hasher of a mode, fed in pieces, and the number that it was started with; where it was refused a hasher with key words 0 is fed.
+fn pieces_of(request: &Request, lent: &mut Lent, started: Result<Hasher, Refusal>) -> Answer {
+    let [start, step, ..] = request.numbers();
+    let number = number(&started);
+    let hasher = started.unwrap_or(Hasher::new_with(Mode {
+        key: [0; 8],
+        flags: 0,
+    }));
+    done_or_refused(
+        lent,
+        digest_of_pieces(hasher, request.bytes(1), start, step),
+    );
+    Answer::One(number)
+}
+
+pub fn keyed_pieces(request: &Request, lent: &mut Lent) -> Answer {
+    pieces_of(request, lent, keyed_hasher(request.bytes(0)))
+}
+
+pub fn derived_pieces(request: &Request, lent: &mut Lent) -> Answer {
+    pieces_of(request, lent, context_hasher(request.bytes(0)))
+}
+
+// A hasher that is fed an input so many times, as long as it takes it.
 fn fed_times(input: &[u8], times: usize) -> Hasher {
-    let mut s = new();
-    let mut i: usize = 0;
-    while i < times {
-        let t = fed_with(s, input);
-        s = t;
-        i += 1;
+    let mut hasher = Hasher::new();
+    for _ in 0..times {
+        let _ = hasher.update(input);
     }
-    s
+    hasher
 }
 
-// The number that a last piece gets, and the digest of the state that comes back.
-fn fed(input: &[u8], times: usize, last: &[u8], y: &mut [u8]) -> Answer {
-    let u = update(fed_times(input, times), last);
-    let s = u.state;
-    digested(finalize(s), y);
-    one(u.number)
+// The number that a last piece gets, and the digest of the state that is left.
+pub fn fed(request: &Request, lent: &mut Lent) -> Answer {
+    let [times, ..] = request.numbers();
+    let mut hasher = fed_times(request.bytes(0), times);
+    let number = number(&hasher.update(request.bytes(1)));
+    done_or_refused(lent, hasher.finalize());
+    Answer::One(number)
 }
 
 // A state with these counters: blocks, fill, chunks, depth and byte count. What else it holds tells its fields apart.
-fn state_of(a: &[u64]) -> Hasher {
+fn state_of(counters: &[usize]) -> Hasher {
+    let counter = |i: usize| counters.get(i).copied().unwrap_or(0);
     Hasher {
         key: [1; 8],
-        flags: 0,
-        h: [2; 8],
-        blocks: half_in(a, 0) as usize,
-        block: [3; 64],
-        fill: half_in(a, 1) as usize,
-        chunks: half_in(a, 2),
-        depth: half_in(a, 3) as usize,
-        stack: [4; 112],
-        len: half_in(a, 4),
+        chunk: ChunkState {
+            h: [2; 8],
+            blocks: counter(0),
+            block: [3; 64],
+            fill: counter(1),
+            counter: counter(2) as u64,
+            flags: 0,
+        },
+        stack: Stack {
+            values: [4; 112],
+            depth: counter(3),
+        },
+        len: counter(4) as u64,
     }
 }
 
-fn wide(x: u32) -> u64 {
-    x as u64
-}
-
-// Puts numbers of 32 bits, 8 bytes each, and answers the next place.
-fn put_wide(y: &mut [u8], at: usize, s: &[u32]) -> usize {
-    let mut end = at;
-    let mut i: usize = 0;
-    while i < s.len() {
-        end = put_number(y, end, wide(s[i]));
-        i += 1;
+// Numbers of 32 bits, 8 bytes each.
+fn push_wide(out: &mut Vec<u8>, numbers: &[u32]) -> Result<(), AllocError> {
+    for x in numbers {
+        out.extend_from_slice(&u64::from(*x).to_le_bytes())?;
     }
-    end
+    Ok(())
 }
 
-// Puts every field of a state, the flags and counters last.
-fn put_state(y: &mut [u8], at: usize, s: Hasher) {
-    let key = s.key;
-    let h = s.h;
-    let stack = s.stack;
-    let block = s.block;
+// Every field of a state, the flags and counters last.
+fn state_bytes(alloc: Global, hasher: &Hasher) -> Result<Vec<u8>, AllocError> {
+    let mut out = Vec::new(alloc);
+    push_wide(&mut out, &hasher.key)?;
+    push_wide(&mut out, &hasher.chunk.h)?;
+    push_wide(&mut out, &hasher.stack.values)?;
+    out.extend_from_slice(&hasher.chunk.block)?;
     let counters = [
-        wide(s.flags),
-        s.blocks as u64,
-        s.fill as u64,
-        s.chunks,
-        s.depth as u64,
-        s.len,
+        u64::from(hasher.chunk.flags),
+        hasher.chunk.blocks as u64,
+        hasher.chunk.fill as u64,
+        hasher.chunk.counter,
+        hasher.stack.depth as u64,
+        hasher.len,
     ];
-    let keyed = put_wide(y, at, &key);
-    let chained = put_wide(y, keyed, &h);
-    let stacked = put_wide(y, chained, &stack);
-    let blocked = put_all(y, stacked, &block);
-    put_halves(y, blocked, &counters);
-}
-
-// What update and finalize answer for a state whose counters are given: both numbers; finalize's digest, and the state that update hands back.
-fn state(a: &[u64], input: &[u8], y: &mut [u8]) -> Answer {
-    let u = update(state_of(a), input);
-    let handed = u.state;
-    let d = finalize(state_of(a));
-    digested(d, y);
-    put_state(y, 32, handed);
-    two(u.number, d.number as usize)
-}
-
-pub fn answer(place: usize, n: Numbers, a: &[u64], s: &[u8], t: &[u8], y: &mut [u8]) -> Answer {
-    match place {
-        0 => digested(hash_hasher::whole::digest(s), y),
-        1 => one(hash_serialize_parts::serialize_parts(s, a, y)),
-        2 => pieces(new(), s, n.0, n.1, y),
-        3 => fed(s, n.0, t, y),
-        4 => state(a, s, y),
-        _ => no_room(),
+    for x in counters {
+        out.extend_from_slice(&x.to_le_bytes())?;
     }
+    Ok(out)
 }
 
-// The digest by a hasher of a mode, fed in pieces, and the number that it was started with.
-fn pieces_of(u: Updated, input: &[u8], n: Numbers, y: &mut [u8]) -> Answer {
-    let start = u.state;
-    pieces(start, input, n.0, n.1, y);
-    one(u.number)
-}
-
-// Keyed mode and key derivation: by a key, or a context.
-pub fn by_mode(place: usize, n: Numbers, s: &[u8], t: &[u8], y: &mut [u8]) -> Answer {
-    match place {
-        0 => digested(hash_modes::keyed_digest(s, t), y),
-        1 => digested(hash_modes::derive_key(s, t), y),
-        2 => pieces_of(keyed_hasher(s), t, n, y),
-        3 => pieces_of(context_hasher(s), t, n, y),
-        _ => no_room(),
-    }
+// What update and finalize answer for a state whose counters are given: both numbers; finalize's digest, and the state that update leaves.
+pub fn state(alloc: Global, request: &Request, lent: &mut Lent) -> Result<Answer, AllocError> {
+    let given = state_of(request.list(0));
+    let mut left = given;
+    let updated = number(&left.update(request.bytes(0)));
+    let digest = given.finalize();
+    let finalized = number(&digest);
+    let mut out = Vec::new(alloc);
+    out.extend_from_slice(&digest.unwrap_or([0; 32]))?;
+    out.extend_from_slice(state_bytes(alloc, &left)?.as_slice())?;
+    put(first(&mut lent.bytes), out.as_slice());
+    Ok(Answer::Two(updated, finalized))
 }

@@ -12,3 +12,4 @@ pub mod Same
 pub mod Bytes
 pub mod Updates
 pub mod Questions
+pub mod Refusals

@@ -1,11 +1,10 @@
 -- Parts, runs, stores, little-endian numbers and the test of equality.
-use Prim.Native.Nat.{ℕ, zero, suc, ◌+◌, ◌-◌, ◌*◌, ◌/◌, ◌%◌, ◌^◌, ◌<◌, ◌≤◌, zero-le}
+use Prim.Native.Nat.{ℕ, zero, suc, ◌+◌, ◌-◌, ◌*◌, ◌/◌, ◌%◌, ◌^◌, ◌<◌, ◌≤◌}
 use mathlib.Core.Path.{◌≡◌, refl, sym, ◌∙◌, ap, ap₂}
 use mathlib.Core.Bool.{Bool, true, false}
 use mathlib.Core.List.{List, [], ◌∷◌, ◌++◌, append-nil, append_assoc}
 use native.Mathlib.Nat.{div-add-mod', pow-suc, suc-add, div-div-eq-div-mul, pow-succ'}
 use native.Mathlib.Omega.{arith}
-use native.Mathlib.Numerals.{add-one}
 use native.Mathlib.Decide.{dec_lt}
 use borrow.Author.Tests.{eqb-true, eq-eqb}
 use lib.Dec.{eqb}
@@ -53,17 +52,6 @@ lent-part n i l = ap (λ (k : ℕ). take k (drop i l)) (let e : i + n - i ≡ n 
 
 pub length-lent : (n i : ℕ) (l : List ℕ) → i + n ≤ length l → length (take (i + n - i) (drop i l)) ≡ n
 length-lent n i l h = ap length (lent-part n i l) ∙ length_part n i l h
-
--- a part of bytes is bytes
-pub part-at-le : (m i : ℕ) (l : List ℕ) (k : ℕ) → at (part m i l) k ≤ at l (i + k)
-unfolding part
-part-at-le m i l k = rw (← get_or-drop i l k 0) (front m (drop i l) k)
-  where
-    front : (m : ℕ) (l : List ℕ) (k : ℕ) → at (take m l) k ≤ at l k
-    front zero l k = zero-le
-    front (suc m) [] k = zero-le
-    front (suc m) (x ∷ l) zero = omega arith
-    front (suc m) (x ∷ l) (suc k) = front m l k
 
 pub length-part-le : (m i : ℕ) (l : List ℕ) → length (part m i l) ≤ m
 unfolding part
@@ -238,19 +226,6 @@ stored_over l j (x ∷ a) (y ∷ b) h =
 pub drop-stored : (l : List ℕ) (j : ℕ) (a : List ℕ) → j + length a ≤ length l → drop j (stored l j a) ≡ a ++ drop (j + length a) l
 unfolding stored
 drop-stored l j a h = rw (sets-eq a l j h, append_assoc) (drop_at (take j l) (a ++ drop (j + length a) l) j (length-take-le j l (omega arith)))
-
--- a loop that copies: what is left to store gives the final list
-module _ (out : List ℕ) (at : ℕ) (src : List ℕ) (i : ℕ) (r : List ℕ) where
-  pub put_step : i < length src → stored out (at + i) (drop i src) ≡ r → stored (set out (at + i) (get_or src i 0)) (at + (i + 1)) (drop (i + 1) src) ≡ r
-  put_step h e =
-      let z : at + (i + 1) ≡ suc (at + i) = omega arith in
-      rw (z, add-one) (rw (drop-cons src i 0, stored-cons) at e)
-
-  pub put_end : length src ≤ i → stored out (at + i) (drop i src) ≡ r → out ≡ r
-  put_end h e = rw (drop_of_length-le src, stored-nil) at e
-
-pub put_begin : (out : List ℕ) (at : ℕ) (src : List ℕ) → stored out (at + 0) src ≡ stored out at src
-put_begin out at src = ap (λ (k : ℕ). stored out k src) (let e : at + 0 ≡ at = omega arith in e)
 
 -- ---- little-endian numbers
 

@@ -1,6 +1,6 @@
 -- Even and odd places: every v is w * 2 or w * 2 + 1. Halves, low bits, and the bits of a power of two.
 use mathlib.Core.Path.{◌≡◌, refl, sym, ap, ◌∙◌, subst}
-use Prim.Native.Nat.{ℕ, zero, suc, ◌+◌, ◌-◌, ◌*◌, ◌/◌, ◌%◌, ◌^◌, ◌<◌}
+use Prim.Native.Nat.{ℕ, zero, suc, ◌+◌, ◌*◌, ◌/◌, ◌%◌, ◌^◌, ◌<◌}
 use mathlib.Core.Logic.{◌≢◌}
 use native.Mathlib.Nat.{div-one, zero-div, pow-succ', div-div-eq-div-mul}
 use native.Mathlib.Numerals.{add-one}

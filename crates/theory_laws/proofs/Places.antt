@@ -17,14 +17,6 @@ pub ins-odd : (i b w : ℕ) → ins (suc i) b (w * 2 + 1) ≡ ins i b w * 2 + 1
 unfolding ins
 ins-odd i b w = simp parity
 
-pub flip-even : (i w : ℕ) → flip (suc i) (w * 2) ≡ flip i w * 2
-unfolding flip
-flip-even i w = simp parity (omega arith)
-
-pub flip-odd : (i w : ℕ) → flip (suc i) (w * 2 + 1) ≡ flip i w * 2 + 1
-unfolding flip
-flip-odd i w = simp parity
-
 pub flip0_even : (w : ℕ) → flip 0 (w * 2) ≡ w * 2 + 1
 unfolding flip
 flip0_even w = omega arith
@@ -129,11 +121,6 @@ fits-block (suc i) zero m h k = absurd (omega arith)
 fits-block (suc i) (suc n) m h k =
     let e : m * 2 ^ suc i ≡ m * 2 ^ i * 2 = rw (pow-suc 2 i) (omega arith) in
     omega (arith, fits-block i n m (omega arith) (omega arith))
-
-pub fits-half : (i n m : ℕ) → i ≤ n → m * 2 ^ suc i < 2 ^ suc n → m * 2 ^ i + 2 ^ i ≤ 2 ^ n
-fits-half i n m h k =
-    let e : m * 2 ^ suc i ≡ m * 2 ^ i * 2 = rw (pow-suc 2 i) (omega arith) in
-    omega (arith, fits-block (suc i) (suc n) m (omega arith) k)
 
 pub flip-lt : (i n v : ℕ) → i ≤ n → v < 2 ^ suc n → flip i v < 2 ^ suc n
 unfolding flip

@@ -1,6 +1,6 @@
 -- The test of equality, element after element, as a loop asks it.
 use Prim.Native.Nat.{ℕ, ◌+◌, ◌<◌, ◌≤◌}
-use mathlib.Core.Path.{◌≡◌, refl, ap}
+use mathlib.Core.Path.{◌≡◌, refl}
 use mathlib.Core.Bool.{Bool, true, false}
 use mathlib.Core.List.{List}
 use native.Mathlib.Omega.{arith}
@@ -9,7 +9,6 @@ use borrow.Author.Tests.{eq-eqb, ne_eqb}
 use lib.ListN.{length, get_or, drop, drop_of_length-le}
 use lib.Seq.{drop-cons}
 use Rattle.theory_laws.specs.Lists.{same}
-use Rattle.theory_laws.proofs.Lists.{same_true}
 
 -- what is left of the test from element i on
 unfoldable pub same_from : List ℕ → List ℕ → ℕ → Bool
@@ -37,11 +36,3 @@ module _ (a b : List ℕ) (i m : ℕ) (r : Bool) (e : same_from a b i ≡ r) (n 
   pub same_end : m ≤ i → true ≡ r
   unfolding same_from same
   same_end h = rw (drop_of_length-le a {i = i} (omega arith), drop_of_length-le b {i = i} (omega arith)) at e
-
--- lists of different lengths are not the same
-pub unlike_lengths : (a b : List ℕ) → (length a ≡ length b → ⊥) → false ≡ same a b
-unlike_lengths a b h = go (same a b) refl
-  where
-    go : (t : Bool) → same a b ≡ t → false ≡ t
-    go true e = absurd (h (ap length (same_true a b e)))
-    go false e = refl

@@ -1,7 +1,7 @@
 -- Finite sums: additive, split, swapped, by pairs, with one term; and a number is the sum of its bits.
 use mathlib.Core.Path.{◌≡◌, refl, sym, ap, ap₂, ◌∙◌}
 use mathlib.Core.Logic.{◌≢◌, ⊎_elim}
-use Prim.Native.Nat.{ℕ, zero, suc, ◌+◌, ◌-◌, ◌*◌, ◌%◌, ◌^◌, ◌≤◌, ◌<◌}
+use Prim.Native.Nat.{ℕ, zero, suc, ◌+◌, ◌*◌, ◌%◌, ◌^◌, ◌≤◌, ◌<◌}
 use native.Mathlib.Nat.{suc-mul, lt_of_lt_of_le, eq-or-lt_of_le, add-suc, add-zero, zero-mul, mod-one, mod-lt, mod-eq_of_lt, div-eq_of_lt, zero-div}
 use native.Mathlib.Numerals.{add-one, one-add}
 use native.Mathlib.Omega.{arith}
@@ -10,7 +10,7 @@ use Rattle.theory_laws.specs.Xor.{◌⊕◌, bit, sel}
 use Rattle.theory_laws.specs.Sum.{sum}
 use Rattle.theory_laws.proofs.Numbers.{lt-pow}
 use Rattle.theory_laws.proofs.Parity.{bit-same, bit-other}
-use Rattle.theory_laws.proofs.Xor.{zero-⊕, ⊕-zero, ⊕_self, ⊕_assoc, ⊕_comm, ⊕_swap, ⊕-lt, ⊕-bit, ⊕-parts, sel-⊕, ⊕-cancel}
+use Rattle.theory_laws.proofs.Xor.{zero-⊕, ⊕-zero, ⊕_self, ⊕_assoc, ⊕_comm, ⊕_swap, ⊕-lt, ⊕-bit, ⊕-parts, ⊕-cancel}
 
 pub sum-ext : (m : ℕ) {f g : ℕ → ℕ} → ((v : ℕ) → v < m → f v ≡ g v) → sum m f ≡ sum m g
 unfolding sum
@@ -32,9 +32,6 @@ pub sum-map : (h : ℕ → ℕ) → ((a b : ℕ) → h (a ⊕ b) ≡ h a ⊕ h b
 unfolding sum
 sum-map h add zero f = ap h (sym (⊕_self 0)) ∙ add 0 0 ∙ ⊕_self (h 0)
 sum-map h add (suc m) f = add (sum m f) (f m) ∙ ap (λ x. x ⊕ h (f m)) (sum-map h add m f)
-
-pub sel-sum : (b m : ℕ) (f : ℕ → ℕ) → sel b (sum m f) ≡ sum m (λ v. sel b (f v))
-sel-sum b m f = sum-map (sel b) (sel-⊕ b) m f
 
 -- by pairs: the even and the odd places
 pub sum-double : (m : ℕ) (f : ℕ → ℕ) → sum (m * 2) f ≡ sum m (λ v. f (v * 2) ⊕ f (v * 2 + 1))

@@ -1,7 +1,7 @@
 -- Tables as lists: `tab` and `at` undo each other, and a table grows at its end.
 use mathlib.Core.Path.{◌≡◌, refl, sym, ap, ap₂, ◌∙◌, fun_ext}
 use mathlib.Core.List.{List, [], ◌∷◌, ◌++◌, map}
-use Prim.Native.Nat.{ℕ, zero, suc, ◌+◌, ◌-◌, ◌^◌, ◌≤◌, ◌<◌}
+use Prim.Native.Nat.{ℕ, zero, suc, ◌+◌, ◌^◌, ◌≤◌, ◌<◌}
 use native.Mathlib.Nat.{zero-add, suc-add}
 use native.Mathlib.Omega.{arith}
 use lib.ListN.{length, replicate, take}
@@ -41,12 +41,6 @@ tab-add (suc m) k f =
     rw (suc-add m k)
     (ap (λ (r : List ℕ). f 0 ∷ r)
     (tab-add m k (λ v. f (suc v)) ∙ ap (λ (g : ℕ → ℕ). tab m (λ v. f (suc v)) ++ tab k g) (fun_ext (λ v. ap f (sym (suc-add m v))))))
-
--- one more entry: how a loop that writes f v at place v goes on
-pub tab-suc : (m : ℕ) (f : ℕ → ℕ) → tab (suc m) f ≡ tab m f ++ (f m ∷ [])
-unfolding tab
-tab-suc zero f = refl
-tab-suc (suc m) f = ap (λ (r : List ℕ). f 0 ∷ r) (tab-suc m (λ k. f (suc k)))
 
 pub map-tab : (g : ℕ → ℕ) (m : ℕ) (f : ℕ → ℕ) → map g (tab m f) ≡ tab m (λ v. g (f v))
 unfolding tab

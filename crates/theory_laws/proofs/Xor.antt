@@ -2,8 +2,8 @@
 -- additive, and so is a choice by a bit. Rests on lib.Bits.
 use mathlib.Core.Path.{◌≡◌, refl, sym, ap, ap₂, ◌∙◌}
 use mathlib.Core.Logic.{◌⊎◌, inl, inr}
-use Prim.Native.Nat.{ℕ, zero, suc, ◌+◌, ◌-◌, ◌*◌, ◌/◌, ◌%◌, ◌^◌, ◌<◌, min}
-use native.Mathlib.Nat.{mod-lt, zero-lt-suc, add-zero, mul_comm, div-add-mod', zero-mul, one-mul, lt_of_le_of_lt, min-le_left}
+use Prim.Native.Nat.{ℕ, zero, suc, ◌+◌, ◌*◌, ◌/◌, ◌%◌, ◌^◌, ◌<◌, min}
+use native.Mathlib.Nat.{mod-lt, zero-lt-suc, add-zero, mul_comm, zero-mul, one-mul, lt_of_le_of_lt, min-le_left}
 use native.Mathlib.Omega.{arith}
 use lib.Arith.{bin_ind, digits_mod}
 use lib.Pow.{pow_pos}
@@ -74,10 +74,6 @@ pub ⊕-odd : (a b : ℕ) → (a ⊕ b) % 2 ≡ a % 2 ⊕ b % 2
 
 pub ⊕_dbl : (a b : ℕ) → 2 * (a ⊕ b) ≡ 2 * a ⊕ 2 * b
 ⊕_dbl a b = mul_comm 2 (a ⊕ b) ∙ sym (⊕-shl 1 a b) ∙ ap₂ ◌⊕◌ (mul_comm a 2) (mul_comm b 2)
-
--- by halves and low bits
-pub ⊕-step : (a b : ℕ) → a ⊕ b ≡ (a / 2 ⊕ b / 2) * 2 + (a % 2 ⊕ b % 2)
-⊕-step a b = sym (div-add-mod' (a ⊕ b) 2) ∙ ap₂ (λ (x y : ℕ). x * 2 + y) (⊕-half a b) (⊕-odd a b)
 
 bit_assoc : (x y z : ℕ) → (x ≡ 0) ⊎ (x ≡ 1) → (y ≡ 0) ⊎ (y ≡ 1) → (z ≡ 0) ⊎ (z ≡ 1) → (x ⊕ y) ⊕ z ≡ x ⊕ (y ⊕ z)
 unfolding ◌⊕◌

@@ -4,3 +4,4 @@ pub mod Table
 pub mod Places
 pub mod Lists
 pub mod Questions
+pub mod Refusals

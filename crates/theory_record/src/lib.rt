@@ -4,7 +4,7 @@
 use theory_blake3::Mode;
 
 // The sets of group widths that a deposit chooses from: the present one, of 8 values from length 16 on, and the wide one, of 32 from length 64 on.
-#[derive(Clone, Copy)]
+#[derive(Clone, Copy, Debug, PartialEq, Eq)]
 pub enum WidthSet {
     Present,
     Wide,
@@ -15,4 +15,13 @@ pub enum WidthSet {
 pub struct Trees {
     pub set: WidthSet,
     pub mode: Mode,
+}
+
+// What a deposit fixes, as it is lent: how its trees are made, its base domain, and its sizes, a table of 2^n words under 2^k blocks.
+#[derive(Clone, Copy)]
+pub struct Deposit<'a> {
+    pub how: Trees,
+    pub base: &'a [u8],
+    pub n: usize,
+    pub k: usize,
 }

@@ -1,24 +1,25 @@
 -- Answers, refused and done.
+use Rattle.std.specs.Prelude.{Ok, Err}
 use Prim.Native.Nat.{ℕ}
-use mathlib.Core.Path.{◌≡◌, ◌∙◌, ap, ap₂}
+use mathlib.Core.Path.{◌≡◌, refl, ◌∙◌, ap, ap₂}
 use mathlib.Core.List.{List}
-use borrow.Author.Tests.{ne_eqb}
-use lib.ListN.{length, replicate}
+use lib.ListN.{length}
 use lib.Seq.{take_all}
 use native.Mathlib.Omega.{arith}
 use Rattle.theory_laws.specs.Lists.{part}
 use Rattle.theory_merkle.specs.Tree.{group_of, leaf_digest, node_digest, leaf_of}
-use Rattle.hash_hasher.specs.declared.whole.Digested.{Digested}
-use Rattle.hash_hasher.specs.Whole.{answered}
+use Rattle.theory_laws.specs.Refusals.{number_of}
+use Rattle.theory_laws.specs.declared.Refusal.{Refusal}
+use Rattle.theory_laws.proofs.Refusals.{not-done}
+use Rattle.hash_hasher.specs.Whole.{digested, answered}
 
-abbrev answer : ℕ → List ℕ → Digested
-answer q d = record { number = q; bytes = d }
+-- a call that is refused
+pub refused-digest : (e : Refusal) (n : ℕ) (d : List ℕ) → number_of e ≡ n → digested (Err e) ≡ answered n d
+refused-digest e n d h = rw (← h, not-done e) refl
 
-pub refused-digest : (q n : ℕ) (d : List ℕ) → q ≡ n → (q ≡ 0 → ⊥) → answer q (replicate 32 0) ≡ answered n d
-refused-digest q n d e z = rw (← e, ne_eqb q 0 z)
-
-pub done-digest : (q n : ℕ) (x d : List ℕ) → q ≡ n → q ≡ 0 → x ≡ d → answer 0 x ≡ answered n d
-done-digest q n x d e z f = rw (← e, z, f)
+-- a call that is done
+pub done-digest : (n : ℕ) (x d : List ℕ) → 0 ≡ n → x ≡ d → digested (Ok x) ≡ answered n d
+done-digest n x d e f = rw (← e, f) refl
 
 -- the group of the place
 pub leaf_of_place : (H : List ℕ → List ℕ) (d domain : List ℕ) (count width group place : ℕ) (values : List ℕ) → group ≡ group_of place width

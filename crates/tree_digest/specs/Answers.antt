@@ -5,8 +5,7 @@ use Rattle.theory_blake3.specs.declared.Mode.{Mode}
 use Rattle.theory_blake3.specs.Modes.{under}
 use Rattle.theory_merkle.specs.Tree.{leaf_of, node_digest}
 use Rattle.theory_merkle.specs.Numbers.{leaf_number, node_number}
-use Rattle.hash_hasher.specs.declared.whole.Digested.{Digested}
-use Rattle.hash_hasher.specs.Whole.{answered}
+use Rattle.hash_hasher.specs.Whole.{Digested, answered}
 
 -- the leaf digest of the group of a place, of the group's lent words
 abbrev pub leaf_answer : Mode → List ℕ → ℕ → ℕ → ℕ → List ℕ → Digested

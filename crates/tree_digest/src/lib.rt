@@ -1,5 +1,5 @@
-// The digests of groups and of nodes, after magnetar-hash. The entries are `leaf_digest` and `node_digest`; the other functions serve the
-// crates above and require.
+// The digests of groups and of nodes, after magnetar-hash. The entries are `Hashing::leaf_digest` and `Hashing::node_digest`; the other
+// functions serve the crates above and require.
 #![tactic(auto)]
 
 ghost use Rattle.std.specs.Prelude.{◌≡◌, ◌++◌, ◌+◌, ◌*◌, ◌^◌, ◌≤◌, length};
@@ -8,6 +8,7 @@ ghost use Rattle.theory_field.specs.Words.{words};
 ghost use Rattle.theory_merkle.specs.Message.{prefixed, leaf_rest};
 ghost use Rattle.theory_merkle.specs.Tree.{leaf_digest, node_digest};
 ghost use Rattle.theory_blake3.specs.Modes.{under};
+ghost use Rattle.hash_hasher.specs.Whole.{digested};
 ghost use Rattle.tree_place.specs.Place.{index, number};
 ghost use Rattle.tree_digest.specs.Answers.{leaf_answer, node_answer};
 ghost use Rattle.tree_digest.specs.helpers.Hashed.{Hashed};
@@ -15,18 +16,18 @@ ghost use Rattle.tree_digest.specs.helpers.Begun.{Begun, Front, NodesBegun};
 
 use bytes_numbers::{load, put_number};
 use hash_chunk::slice::{chunk_rest, first_blocks};
-use hash_hasher::whole::{Digested, digest_of};
-use hash_node::{bytes_of, value};
+use hash_hasher::whole::digest_of;
+use hash_node::bytes_of;
 use theory_blake3::Mode;
-use tree_place::{Group, Place, group_of};
+use theory_laws::Refusal;
+use tree_place::{Group, Place, Shape, group_of, node_questions};
 
 // The digest of a message under a mode.
 pub fn digest(mode: Mode, message: &[u8]) -> [u8; 32]
     requires { length message.now ≤ 2 ^ 24 }
     ensures { result ≡ under mode message.now }
 {
-    let key = mode.key;
-    digest_of(key, mode.flags, message)
+    digest_of(mode, message)
 }
 
 // The same of a message of at most a chunk, whose first blocks have the chaining value h.
@@ -34,10 +35,8 @@ fn digest_after(mode: Mode, h: [u32; 8], blocks: usize, message: &[u8]) -> [u8; 
     requires { Begun mode h blocks message.now }
     ensures { result ≡ under mode message.now }
 {
-    let from = 64 * blocks;
-    let n = chunk_rest(h, blocks, mode.flags, 0, &message[from..]);
-    let v = value(n, 8);
-    bytes_of(v)
+    let n = chunk_rest(h, blocks, mode.flags, 0, &message[64 * blocks..]);
+    bytes_of(n.value(8))
 }
 
 // The digest of a group's leaf message, whose prefix stands in the buffer's first bytes and is kept.
@@ -72,18 +71,6 @@ pub fn hash_node(
     digest(mode, &message[..n])
 }
 
-// The front of a domain's node messages, which those of all levels have in common, put first in a buffer; the chaining value of its whole
-// blocks.
-pub fn begin_nodes(mode: Mode, message: &mut [u8], domain: &[u8]) -> [u32; 8]
-    requires { (length domain.now ≤ 255) × (136 + length domain.now ≤ length message.old) }
-    ensures { NodesBegun mode result domain.now message.new }
-{
-    let n = tree_message::node_prefix(message, domain, 0);
-    let front = n - 8;
-    let key = mode.key;
-    first_blocks(key, mode.flags, &message[..front], front / 64)
-}
-
 // The digest of a node message of a level, whose front stands in the buffer's first bytes and is kept; h is the chaining value of the
 // front's whole blocks.
 pub fn hash_level_node(
@@ -103,72 +90,64 @@ pub fn hash_level_node(
     digest_after(mode, h, front / 64, &message[..n])
 }
 
-// The digest of a group, by its number.
-pub fn leaf_of(
-    mode: Mode,
-    domain: &[u8],
-    count: usize,
-    width: usize,
-    group: Group,
-    values: &[u64],
-) -> [u8; 32]
-    requires { (length domain.now ≤ 255) × (width ≤ 512) × (length values.now ≡ 2 * width) }
-    ensures { result ≡ leaf_digest (under mode) domain.now count width (number group) (words values.now) }
-{
-    let mut message = [0u8; tree_message::LEAF_MESSAGE];
-    let prefix = tree_message::leaf_prefix(&mut message, domain, count, width);
-    hash_group(mode, &mut message, prefix, width, group, values)
+// How a tree is hashed: under a mode, and under a domain.
+#[derive(Clone, Copy)]
+pub struct Hashing<'a> {
+    pub mode: Mode,
+    pub domain: &'a [u8],
 }
 
-// The digest of a node.
-pub fn node_of(mode: Mode, domain: &[u8], level: usize, left: [u8; 32], right: [u8; 32]) -> [u8; 32]
-    requires { length domain.now ≤ 255 }
-    ensures { result ≡ node_digest (under mode) domain.now level left right }
-{
-    let mut message = [0u8; tree_message::NODE_MESSAGE];
-    let prefix = tree_message::node_prefix(&mut message, domain, level);
-    hash_node(mode, &mut message, prefix, left, right)
-}
+impl<'a> Hashing<'a> {
+    // The front of the domain's node messages, which those of all levels have in common, put first in a buffer; the chaining value of its
+    // whole blocks.
+    pub fn begin_nodes(self, message: &mut [u8]) -> [u32; 8]
+        requires { (length self.domain.now ≤ 255) × (136 + length self.domain.now ≤ length message.old) }
+        ensures { NodesBegun self.entry.mode result self.entry.domain.now message.new }
+    {
+        let n = tree_message::node_prefix(message, self.domain, 0);
+        let front = n - 8;
+        first_blocks(self.mode, &message[..front], front / 64)
+    }
 
-// The leaf digest of the group of a place.
-pub fn leaf_digest(
-    mode: Mode,
-    domain: &[u8],
-    count: usize,
-    width: usize,
-    place: Place,
-    values: &[u64],
-) -> Digested
-    ensures { result ≡ leaf_answer mode domain.now count width (index place) values.now }
-{
-    let q = tree_place::leaf_number(domain.len(), count, width, place, values.len());
-    if q != 0 {
-        return Digested {
-            number: q,
-            bytes: [0u8; 32],
-        };
+    // The digest of a group, by its number.
+    pub fn leaf_of(self, shape: Shape, group: Group, values: &[u64]) -> [u8; 32]
+        requires { (length self.domain.now ≤ 255) × (shape.width ≤ 512) × (length values.now ≡ 2 * shape.width) }
+        ensures { result
+            ≡ leaf_digest (under self.entry.mode) self.entry.domain.now shape.count shape.width (number group) (words values.now) }
+    {
+        let mut message = [0u8; tree_message::LEAF_MESSAGE];
+        let prefix = tree_message::leaf_prefix(&mut message, self.domain, shape);
+        hash_group(self.mode, &mut message, prefix, shape.width, group, values)
     }
-    let d = leaf_of(mode, domain, count, width, group_of(place, width), values);
-    Digested {
-        number: 0,
-        bytes: d,
-    }
-}
 
-// The node digest of two digests.
-pub fn node_digest(mode: Mode, domain: &[u8], level: usize, left: &[u8], right: &[u8]) -> Digested
-    ensures { result ≡ node_answer mode domain.now level left.now right.now }
-{
-    let q = tree_place::node_number(domain.len(), left.len(), right.len());
-    if q != 0 {
-        return Digested {
-            number: q,
-            bytes: [0u8; 32],
-        };
+    // The digest of a node.
+    pub fn node_of(self, level: usize, left: [u8; 32], right: [u8; 32]) -> [u8; 32]
+        requires { length self.domain.now ≤ 255 }
+        ensures { result ≡ node_digest (under self.entry.mode) self.entry.domain.now level left right }
+    {
+        let mut message = [0u8; tree_message::NODE_MESSAGE];
+        let prefix = tree_message::node_prefix(&mut message, self.domain, level);
+        hash_node(self.mode, &mut message, prefix, left, right)
     }
-    let d = node_of(mode, domain, level, load(left, 0), load(right, 0));
-    Digested {
-        number: 0,
-        bytes: d,
+
+    // The leaf digest of the group of a place.
+    pub fn leaf_digest(
+        self,
+        shape: Shape,
+        place: Place,
+        values: &[u64],
+    ) -> Result<[u8; 32], Refusal>
+        ensures { digested result ≡ leaf_answer self.entry.mode self.entry.domain.now shape.count shape.width (index place) values.now }
+    {
+        shape.leaf_questions(self.domain.len(), place, values.len())?;
+        Ok(self.leaf_of(shape, group_of(place, shape.width), values))
+    }
+
+    // The node digest of two digests.
+    pub fn node_digest(self, level: usize, left: &[u8], right: &[u8]) -> Result<[u8; 32], Refusal>
+        ensures { digested result ≡ node_answer self.entry.mode self.entry.domain.now level left.now right.now }
+    {
+        node_questions(self.domain.len(), left.len(), right.len())?;
+        Ok(self.node_of(level, load(left, 0), load(right, 0)))
     }
 }

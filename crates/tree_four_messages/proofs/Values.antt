@@ -4,7 +4,6 @@ use mathlib.Core.Path.{◌≡◌, ◌∙◌, ap}
 use mathlib.Core.List.{List}
 use native.Mathlib.Nat.{mul-suc, mul-le-mul_left}
 use native.Mathlib.Omega.{arith}
-use native.Mathlib.Numerals.{add-one}
 use lib.ListN.{length, take, drop, length-drop}
 use lib.Seq.{length-take-le}
 use Rattle.theory_field.specs.Words.{words}
@@ -18,10 +17,6 @@ pub group_words : (values : List ℕ) (from n width a : ℕ) → from ≡ 2 * a 
 group_words values from n width a h k =
     let e : from + n - from ≡ 2 * width = omega arith in
     rw (e, h) (take_words width (drop (2 * a) values) ∙ ap (take width) (drop-words a values))
-
--- the next group begins where one ends
-pub next_group : (from width g : ℕ) → from ≡ 2 * (width * g) → from + 2 * width ≡ 2 * (width * (g + 1))
-next_group from width g h = rw (add-one g) (omega (arith, mul-suc width g))
 
 -- group k of four ends within their values
 pub group_of_four : (width k : ℕ) → k < 4 → 2 * (width * k) + 2 * width ≤ 8 * width

@@ -37,18 +37,11 @@ fn first_of(mode: Mode, s0: &[u8], s1: &[u8], s2: &[u8], s3: &[u8], blocks: usiz
         (which s0.now s1.now s2.now s3.now k)) }
 {
     let counters = [0u64, 0, 0, 0];
-    let flags = mode.flags;
-    let key = mode.key;
-    let mut v = hash_four_chunks::spread(key);
-    let mut from: usize = 0;
-    let mut i: usize = 0;
-    while i < blocks {
-        let m = hash_four_chunks::blocks_at(s0, s1, s2, s3, from, 64);
+    let mut v = hash_four_chunks::spread(mode.key);
+    for i in 0..blocks {
+        let m = hash_four_chunks::blocks_at(s0, s1, s2, s3, 64 * i, 64);
         let f = start_flag(i);
-        let w = hash_four_lanes::compress(&v, &m, &counters, 64, flags | f);
-        v = w;
-        from += 64;
-        i += 1;
+        v = hash_four_lanes::compress(&v, &m, &counters, 64, mode.flags | f);
     }
     v
 }
@@ -122,12 +115,8 @@ fn put_prefixes(messages: &mut [u8], prefix: &[u8])
     requires { (length prefix.now ≤ stride) × (4 * stride ≤ length messages.old) }
     ensures { Each (length prefix.now) messages.new (λ k. prefix.now) }
 {
-    let mut at: usize = 0;
-    let mut k: usize = 0;
-    while k < 4 {
-        bytes_numbers::put(messages, at, prefix);
-        at += STRIDE;
-        k += 1;
+    for k in 0..4 {
+        bytes_numbers::put(messages, STRIDE * k, prefix);
     }
 }
 
@@ -138,8 +127,7 @@ pub fn begin(mode: Mode, messages: &mut [u8], prefix: &[u8]) -> [u32; 8]
     ensures value { result ≡ first_blocks mode.key mode.flags (length prefix.now / 64) prefix.now }
 {
     put_prefixes(messages, prefix);
-    let key = mode.key;
-    first_blocks(key, mode.flags, prefix, prefix.len() / 64)
+    first_blocks(mode, prefix, prefix.len() / 64)
 }
 
 // What the leaf messages of four groups, of which the first is given, have after the prefix.
@@ -153,16 +141,11 @@ pub fn put_leaf_rests(
     requires { LeafRoom prefix width (number group) (length values.now) (length messages.old) }
     ensures { LeafRests prefix messages.old width (number group) values.now messages.new }
 {
-    let mut from: usize = 0;
-    let mut at: usize = prefix;
-    let mut k: usize = 0;
-    while k < 4 {
+    for k in 0..4 {
+        let from = 2 * (width * k);
         let end = from + 2 * width;
         let g = group.after(k);
-        tree_message::leaf_rest(messages, at, width, g, &values[from..end]);
-        from = end;
-        at += STRIDE;
-        k += 1;
+        tree_message::leaf_rest(messages, STRIDE * k + prefix, width, g, &values[from..end]);
     }
 }
 
@@ -171,15 +154,10 @@ pub fn put_node_rests(messages: &mut [u8], prefix: usize, tree: &[u8], src: usiz
     requires { NodeRoom prefix src (length tree.now) (length messages.old) }
     ensures { NodeRests prefix messages.old tree.now src messages.new }
 {
-    let mut from: usize = src;
-    let mut at: usize = prefix;
-    let mut k: usize = 0;
-    while k < 4 {
+    for k in 0..4 {
+        let from = src + 64 * k;
         let l = load(tree, from);
         let r = load(tree, from + 32);
-        tree_message::node_rest(messages, at, l, r);
-        from += 64;
-        at += STRIDE;
-        k += 1;
+        tree_message::node_rest(messages, STRIDE * k + prefix, l, r);
     }
 }

@@ -1,3 +1,4 @@
+pub mod Fields
 pub mod Climb
 pub mod Leaves
 pub mod Ways

@@ -15,6 +15,7 @@ ghost use Rattle.bytes_numbers.specs.helpers.Put.{Put};
 ghost use Rattle.tree_four_messages.specs.helpers.Strides.{stride, Each};
 ghost use Rattle.tree_digest.specs.helpers.Begun.{node_front};
 ghost use Rattle.tree_four_ways.specs.helpers.Ways.{node_end, domain_of, digest_of, lane_rest, Settled, Paths, way_up};
+ghost use Rattle.tree_four_ways.specs.helpers.Lists.{counts, groups, places, froms, depths};
 ghost use Rattle.tree_four_ways.specs.helpers.Ways.{values_in, lane_values, lane_leaf, GroupsThere};
 
 use bytes_numbers::{load, put, put_number};
@@ -23,11 +24,23 @@ use hash_four_chunks::lane_bytes;
 use theory_blake3::Mode;
 use tree_four_messages::{STRIDE, digests_from, first_lanes, put_digests};
 use tree_message::{leaf_prefix, node_prefix, node_rest};
-use tree_place::Group;
+use tree_place::{Group, Shape};
 use tree_walk::children;
 
 // How many bytes the longest prefix of a leaf message has: a domain of 255 bytes, and 73 beside.
 const LEAF_PREFIX: usize = 328;
+
+// What a way starts from: how many values its tree has, in groups of how many, the group's number, where its values begin in a record, where the
+// path's digests begin, and how many they are.
+#[derive(Clone, Copy, Debug, PartialEq, Eq)]
+pub struct Lane {
+    pub count: usize,
+    pub width: usize,
+    pub group: usize,
+    pub values: usize,
+    pub from: usize,
+    pub depth: usize,
+}
 
 // What a node message has after its front: the level's number, and a digest, by its number on its level, beside its sibling.
 fn put_end(out: &mut [u8], to: usize, level: usize, g: usize, d: [u8; 32], other: [u8; 32]) -> usize
@@ -35,10 +48,8 @@ fn put_end(out: &mut [u8], to: usize, level: usize, g: usize, d: [u8; 32], other
     ensures { Put out.old to 88 (node_end level g d other) out.new result }
 {
     let c = children(Group::numbered(g), d, other);
-    let l = c.left;
-    let r = c.right;
     let a = put_number(out, to, level as u64, 8);
-    node_rest(out, a, l, r)
+    node_rest(out, a, c.left, c.right)
 }
 
 // The same for each of four ways, in the strides of a buffer.
@@ -46,25 +57,20 @@ fn put_ends(
     messages: &mut [u8],
     front: usize,
     level: usize,
-    groups: [usize; 4],
+    lanes: [Lane; 4],
     digests: [u8; 128],
     s: &[u8],
-    from: [usize; 4],
 )
-    requires { (front + 88 ≤ stride) × (4 * stride ≤ length messages.old) × (level < 32) × ((k : ℕ) → k < 4 → at from k < 2 ^ 62) }
+    requires { (front + 88 ≤ stride) × (4 * stride ≤ length messages.old) × (level < 32) × ((k : ℕ) → k < 4 → at (froms lanes) k < 2 ^ 62) }
     ensures { Each (front + 88) messages.new
-        (λ k. part front (stride * k) messages.old ++ lane_rest level groups digests s.now from k) }
+        (λ k. part front (stride * k) messages.old ++ lane_rest level (groups lanes) digests s.now (froms lanes) k) }
 {
-    let mut at: usize = front;
-    let mut k: usize = 0;
-    while k < 4 {
-        let i = from[k] + 32 * level;
-        let w = read(s, i);
-        let other = w.bytes;
+    for k in 0..4 {
+        let way = lanes[k];
+        let w = read(s, way.from + 32 * level);
         let d = load(&digests, 32 * k);
-        put_end(messages, at, level, groups[k] >> level, d, other);
-        at += STRIDE;
-        k += 1;
+        let at = STRIDE * k + front;
+        put_end(messages, at, level, way.group >> level, d, w.bytes);
     }
 }
 
@@ -72,24 +78,19 @@ fn put_ends(
 fn chosen(level: usize, depth: usize, new: [u8; 32], old: [u8; 32]) -> [u8; 32]
     ensures { result ≡ pick (ltb level depth) new old }
 {
-    if level < depth {
-        return new;
-    }
-    old
+    if level < depth { new } else { old }
 }
 
 // The digests of four ways after one more level.
-fn settled(digests: [u8; 128], v: &[u32; 32], level: usize, depths: [usize; 4]) -> [u8; 128]
-    ensures { Settled digests (λ k. bytes_of_words32 (lane 8 v.now k)) level depths result }
+fn settled(digests: [u8; 128], v: &[u32; 32], level: usize, lanes: [Lane; 4]) -> [u8; 128]
+    ensures { Settled digests (λ k. bytes_of_words32 (lane 8 v.now k)) level (depths lanes) result }
 {
     let mut r = digests;
-    let mut k: usize = 0;
-    while k < 4 {
+    for k in 0..4 {
         let new = lane_bytes(v, k);
         let old = load(&digests, 32 * k);
-        let d = chosen(level, depths[k], new, old);
+        let d = chosen(level, lanes[k].depth, new, old);
         put(&mut r, 32 * k, &d);
-        k += 1;
     }
     r
 }
@@ -100,15 +101,10 @@ fn put_fronts(messages: &mut [u8], domains: &[u8], size: usize)
     ensures { Each (48 + size) messages.new (λ k. node_front (domain_of domains.now size k)) }
 {
     let mut front = [0u8; 311];
-    let mut from: usize = 0;
-    let mut at: usize = 0;
-    let mut k: usize = 0;
-    while k < 4 {
+    for k in 0..4 {
+        let from = 256 * k;
         node_prefix(&mut front, &domains[from..from + size], 0);
-        put(messages, at, &front[..48 + size]);
-        from += 256;
-        at += STRIDE;
-        k += 1;
+        put(messages, STRIDE * k, &front[..48 + size]);
     }
 }
 
@@ -117,16 +113,14 @@ pub fn climb_four(
     mode: Mode,
     domains: &[u8],
     size: usize,
-    groups: [usize; 4],
+    lanes: [Lane; 4],
     digests: [u8; 128],
     s: &[u8],
-    from: [usize; 4],
-    depths: [usize; 4],
     deepest: usize,
 ) -> [u8; 128]
-    requires { (size ≤ 255) × (1024 ≤ length domains.now) × (Paths from depths deepest (length s.now)) }
+    requires { (size ≤ 255) × (1024 ≤ length domains.now) × (Paths (froms lanes) (depths lanes) deepest (length s.now)) }
     ensures { (k : ℕ) → k < 4 → digest_of result k
-        ≡ way_up (under mode) domains.now size groups digests s.now from depths k }
+        ≡ way_up (under mode) domains.now size (groups lanes) digests s.now (froms lanes) (depths lanes) k }
 {
     let mut messages = [0u8; 4 * STRIDE];
     put_fronts(&mut messages, domains, size);
@@ -134,13 +128,12 @@ pub fn climb_four(
     let blocks = front / 64;
     let h = first_lanes(mode, &messages, front, blocks);
     let mut d = digests;
-    let mut level: usize = 0;
-    while level < deepest {
-        put_ends(&mut messages, front, level, groups, d, s, from);
+    for level in 0..deepest {
+        put_ends(&mut messages, front, level, lanes, d, s);
         let v = digests_from(mode, h, blocks, &messages, front + 88);
-        let e = settled(d, &v, level, depths);
+        // a variable first: the borrow checker does not cover a call's result laid straight in a local that holds an array
+        let e = settled(d, &v, level, lanes);
         d = e;
-        level += 1;
     }
     d
 }
@@ -161,20 +154,19 @@ fn put_leaf(
     out: &mut [u8],
     to: usize,
     domain: &[u8],
-    count: usize,
-    width: usize,
+    shape: Shape,
     group: usize,
     values: &[u8],
 ) -> usize
-    requires { (length domain.now ≤ 255) × (length values.now ≡ 16 * width)
-        × (to + (97 + length domain.now + 16 * width) ≤ length out.old) }
-    ensures { Put out.old to (97 + length domain.now + 16 * width)
-        (leaf_message domain.now count width group (values_in width values.now)) out.new result }
+    requires { (length domain.now ≤ 255) × (length values.now ≡ 16 * shape.width)
+        × (to + (97 + length domain.now + 16 * shape.width) ≤ length out.old) }
+    ensures { Put out.old to (97 + length domain.now + 16 * shape.width)
+        (leaf_message domain.now shape.count shape.width group (values_in shape.width values.now)) out.new result }
 {
     let mut prefix = [0u8; LEAF_PREFIX];
-    let n = leaf_prefix(&mut prefix, domain, count, width);
+    let n = leaf_prefix(&mut prefix, domain, shape);
     let a = put(out, to, &prefix[..n]);
-    put_leaf_rest(out, a, width, group, values)
+    put_leaf_rest(out, a, shape.width, group, values)
 }
 
 // The leaf messages of four groups whose values stand from four bytes of a record on, at the front of each stride.
@@ -182,35 +174,31 @@ fn put_leaves(
     messages: &mut [u8],
     domains: &[u8],
     size: usize,
-    counts: [usize; 4],
     width: usize,
-    groups: [usize; 4],
+    lanes: [Lane; 4],
     s: &[u8],
-    from: [usize; 4],
 )
-    requires { (size ≤ 255) × (1024 ≤ length domains.now) × (GroupsThere from width (length s.now))
+    requires { (size ≤ 255) × (1024 ≤ length domains.now) × (GroupsThere (places lanes) width (length s.now))
         × (4 * stride ≤ length messages.old) }
     ensures { Each (97 + size + 16 * width) messages.new
-        (lane_leaf domains.now size counts width groups s.now from) }
+        (lane_leaf domains.now size (counts lanes) width (groups lanes) s.now (places lanes)) }
 {
-    let mut domain: usize = 0;
-    let mut at: usize = 0;
-    let mut k: usize = 0;
-    while k < 4 {
-        let i = from[k];
-        let end = i + 16 * width;
+    for k in 0..4 {
+        let domain = 256 * k;
+        let way = lanes[k];
+        let end = way.values + 16 * width;
+        let shape = Shape {
+            count: way.count,
+            width,
+        };
         put_leaf(
             messages,
-            at,
+            STRIDE * k,
             &domains[domain..domain + size],
-            counts[k],
-            width,
-            groups[k],
-            &s[i..end],
+            shape,
+            way.group,
+            &s[way.values..end],
         );
-        domain += 256;
-        at += STRIDE;
-        k += 1;
     }
 }
 
@@ -219,20 +207,26 @@ pub fn leaves_four(
     mode: Mode,
     domains: &[u8],
     size: usize,
-    counts: [usize; 4],
     width: usize,
-    groups: [usize; 4],
+    lanes: [Lane; 4],
     s: &[u8],
-    from: [usize; 4],
 ) -> [u8; 128]
-    requires { (size ≤ 255) × (1024 ≤ length domains.now) × (GroupsThere from width (length s.now)) }
+    requires { (size ≤ 255) × (1024 ≤ length domains.now) × (GroupsThere (places lanes) width (length s.now)) }
     ensures { (k : ℕ) → k < 4 → digest_of result k
-        ≡ leaf_digest (under mode) (domain_of domains.now size k) (at counts k) width (at groups k) (lane_values s.now from width k) }
+        ≡ leaf_digest (under mode) (domain_of domains.now size k) (at (counts lanes) k) width (at (groups lanes) k)
+        (lane_values s.now (places lanes) width k) }
 {
     let mut messages = [0u8; 4 * STRIDE];
-    put_leaves(&mut messages, domains, size, counts, width, groups, s, from);
+    put_leaves(&mut messages, domains, size, width, lanes, s);
     let mut r = [0u8; 128];
-    let key = mode.key;
-    put_digests(mode, &mut r, 0, key, 0, &messages, 97 + size + 16 * width);
+    put_digests(
+        mode,
+        &mut r,
+        0,
+        mode.key,
+        0,
+        &messages,
+        97 + size + 16 * width,
+    );
     r
 }

@@ -10,7 +10,7 @@ ghost use Rattle.tree_place.specs.Place.{number};
 
 use bytes_numbers::put_number;
 use hash_serialize_parts::part::put_part;
-use tree_place::Group;
+use tree_place::{Group, Shape};
 
 // How many bytes the longest leaf message has: a domain of 255 bytes, 512 values of 16 bytes, and 97 beside.
 pub const LEAF_MESSAGE: usize = 8544;
@@ -28,15 +28,15 @@ fn put_number_part(out: &mut [u8], from: usize, x: u64) -> usize
 }
 
 // What the leaf messages of a tree have in common.
-pub fn leaf_prefix(out: &mut [u8], domain: &[u8], count: usize, width: usize) -> usize
+pub fn leaf_prefix(out: &mut [u8], domain: &[u8], shape: Shape) -> usize
     requires { 73 + length domain.now ≤ length out.old }
-    ensures { Put out.old 0 (73 + length domain.now) (leaf_prefix domain.now count width) out.new result }
+    ensures { Put out.old 0 (73 + length domain.now) (leaf_prefix domain.now shape.count shape.width) out.new result }
 {
     let a = put_number(out, 0, 5, 8);
     let b = put_part(out, a, b"magnetar/leafN/v1");
     let c = put_part(out, b, domain);
-    let d = put_number_part(out, c, count as u64);
-    put_number_part(out, d, width as u64)
+    let d = put_number_part(out, c, shape.count as u64);
+    put_number_part(out, d, shape.width as u64)
 }
 
 // What the node messages of a level have in common.
@@ -56,10 +56,8 @@ fn put_halves(out: &mut [u8], from: usize, values: &[u64]) -> usize
     ensures { Put out.old from (8 * length values.now) (flat (map (le_bytes 8) values.now)) out.new result }
 {
     let mut at = from;
-    let mut i = 0;
-    while i < values.len() {
-        at = put_number(out, at, values[i], 8);
-        i += 1;
+    for x in values {
+        at = put_number(out, at, *x, 8);
     }
     at
 }

@@ -6,7 +6,7 @@ use native.Mathlib.Omega.{arith}
 use lib.ListN.{length, take, drop}
 use lib.Seq.{drop-drop, take_at, take_all}
 use Rattle.theory_laws.specs.Lists.{part, runs, flat, stored}
-use Rattle.theory_laws.proofs.Lists.{length_runs, runs-take, runs_same, length-flat, flat_append, stored-all, length-stored, drop-stored, lent-part}
+use Rattle.theory_laws.proofs.Lists.{length_runs, runs-take, runs_same, length-flat, flat_append, stored-all, length-stored, drop-stored}
 use Rattle.theory_merkle.specs.Digests.{DigestsLong}
 use Rattle.theory_merkle.specs.Tree.{parents}
 use Rattle.theory_merkle.proofs.Levels.{length-parents, parents-long}
@@ -35,7 +35,7 @@ module _ (H : List ℕ → List ℕ) (sized : DigestsLong H) (domain : List ℕ)
   pub some_made : (m : ℕ) (children both both1 both2 : List ℕ) → length children ≡ 64 * m → 96 * m ≤ length both
       → both1 ≡ stored both 0 children
       → both2 ≡ stored both1 (0 + 64 * m) (some_parents H domain level m (drop 0 both1))
-      → take (64 * m + 32 * m - 64 * m) (drop (64 * m) both2) ≡ some_parents H domain level m children
+      → take (96 * m - 64 * m) (drop (64 * m) both2) ≡ some_parents H domain level m children
   unfolding part
   some_made m children both both1 both2 n room e f =
       let z : 32 * (2 * m) ≡ length children = omega arith in
@@ -49,7 +49,8 @@ module _ (H : List ℕ → List ℕ) (sized : DigestsLong H) (domain : List ℕ)
       let l : length ps ≡ 32 * m = length_some m both1 in
       let there : drop (64 * m) both2 ≡ ps ++ drop (64 * m + length ps) both1 =
       ap (drop (64 * m)) (f ∙ ap (λ k. stored both1 k ps) j) ∙ drop-stored both1 (64 * m) ps (omega (arith, ap length e, length-stored both 0 children)) in
-      lent-part (32 * m) (64 * m) both2
+      let q : 96 * m - 64 * m ≡ 32 * m = omega arith in
+      ap (λ k. take k (drop (64 * m) both2)) q
       ∙ ap (take (32 * m)) there ∙ take_at ps (drop (64 * m + length ps) both1) (32 * m) l ∙ same
 
   -- ---- a turn

@@ -7,8 +7,7 @@ use Rattle.theory_blake3.specs.declared.Mode.{Mode}
 use Rattle.theory_blake3.specs.Modes.{under}
 use Rattle.theory_merkle.specs.Tree.{depth_of, tree_size, path_of, root_of_path}
 use Rattle.theory_merkle.specs.Numbers.{open_number, root_number}
-use Rattle.hash_hasher.specs.declared.whole.Digested.{Digested}
-use Rattle.hash_hasher.specs.Whole.{answered}
+use Rattle.hash_hasher.specs.Whole.{Digested, answered}
 
 -- the path's buffer afterwards: the path of the group of a place, read off the lent tree, or as it was
 abbrev pub opened_into : ℕ → ℕ → ℕ → List ℕ → List ℕ → List ℕ

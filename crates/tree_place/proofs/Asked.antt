@@ -1,12 +1,15 @@
 -- Questions in the order in which the functions ask them, the shape's first.
 use Prim.Native.Nat.{ℕ, ◌+◌, ◌*◌, ◌/◌, ◌%◌, ◌<◌}
-use mathlib.Core.Path.{◌≡◌, sym, ◌∙◌}
+use mathlib.Core.Path.{◌≡◌, refl, sym, ◌∙◌}
 use mathlib.Core.Bool.{Bool, false, not}
 use mathlib.Core.List.{List, [], ◌∷◌}
 use borrow.Author.Tests.{not-false, eq-eqb, ne_eqb}
 use lib.Dec.{leb, ltb, eqb}
 use Rattle.theory_laws.specs.Questions.{pick, Question, ◌asks◌, first_no}
+use Rattle.theory_laws.specs.declared.Refusal.{Refusal}
+use Rattle.theory_laws.specs.Refusals.{number_of}
 use Rattle.theory_laws.proofs.Questions.{all_yes, first_no-append}
+use Rattle.theory_laws.proofs.Refusals.{not-done}
 use Rattle.theory_merkle.specs.Tree.{depth_of, tree_size}
 use Rattle.theory_merkle.specs.Shape.{Bounded}
 use Rattle.theory_merkle.specs.Questions.{is_pow, domain_fits, shape}
@@ -20,13 +23,13 @@ pub power_some : (m x : ℕ) (q : Bool) → q ≡ is_pow m x → not q ≡ false
 power_some m x q e n = power_pos m x (is_pow_yes m x (sym e ∙ not-false q n))
 
 -- where the shape's questions say no 'no'
-pub shape-bounded : (q count width : ℕ) → q ≡ shape_number count width → q ≡ 0 → Bounded count width
+pub shape-bounded : (count width : ℕ) → 0 ≡ shape_number count width → Bounded count width
 unfolding shape_number
-shape-bounded q count width e z = bounded count width (all_yes (shape count width) tt (sym e ∙ z))
+shape-bounded count width e = bounded count width (all_yes (shape count width) tt (sym e))
 
-pub tree-bounded : (q domain count width : ℕ) → q ≡ tree_number domain count width → q ≡ 0 → Bounded count width
+pub tree-bounded : (domain count width : ℕ) → 0 ≡ tree_number domain count width → Bounded count width
 unfolding tree_number
-tree-bounded q domain count width e z = bounded count width (all_yes (domain_fits domain ∷ shape count width) tt (sym e ∙ z)).1
+tree-bounded domain count width e = bounded count width (all_yes (domain_fits domain ∷ shape count width) tt (sym e)).1
 
 -- the shape's questions first, whose number is q, then the rest
 abbrev then_asked : ℕ → List Question → ℕ
@@ -82,3 +85,12 @@ module _ {A : Type 0} (r x y : A) where
 
   pub no_worked : (a q b : ℕ) → q ≡ b → (a ≡ q → ⊥) → r ≡ y → r ≡ pick (eqb a b) x y
   no_worked a q b f h e = rw (ne_eqb a b (λ z. h (z ∙ sym f))) e
+
+-- the questions that were put first, by what a function that put them ensures of its answer
+pub passed : (r x v : ℕ) → 0 ≡ v → r ≡ x → r ≡ pick (eqb v 0) x v
+passed r x v h e = rw (← h) e
+
+pub stopped : (x v : ℕ) (e : Refusal) → number_of e ≡ v → number_of e ≡ pick (eqb v 0) x v
+stopped x v e h = rw (← h, not-done e) refl
+
+pub ruleset first = (yes_worked, no_worked, passed, stopped)

@@ -1,36 +1,32 @@
--- The turns of the loops, in the form in which they ask for them.
+-- Powers of two found one by one, and logarithms as the machine counts them: by the bits that stand before a number's highest one.
 use Prim.Native.Nat.{ℕ, zero, suc, ◌+◌, ◌-◌, ◌/◌, ◌^◌, ◌≤◌, ◌<◌}
-use mathlib.Core.Path.{◌≡◌, sym, ◌∙◌}
+use mathlib.Core.Path.{◌≡◌, refl, sym, ◌∙◌, ap}
 use mathlib.Core.Bool.{Bool, true, false}
 use native.Mathlib.Omega.{arith}
-use borrow.Author.Tests.{eq-eqb, ne_eqb}
+use lib.Count.{count_leading_zeros}
+use Rattle.std.proofs.lemmas.Nat.{leading_top}
 use Rattle.theory_merkle.specs.Tree.{log2}
 use Rattle.theory_merkle.specs.Questions.{is_pow}
-use Rattle.theory_merkle.proofs.Sizes.{log2-step, log2_end}
+use Rattle.theory_merkle.proofs.Sizes.{is_pow_yes, is_pow_holds, log2-step, log2_end}
 
--- ---- is_power: what is left of the exponents decides
-pub power_halves : (p left : ℕ) → 0 < left → p ≡ 2 ^ left → p / 2 ≡ 2 ^ (left - 1)
-power_halves p zero h e = absurd (omega arith)
-power_halves p (suc k) h e = let z : suc k - 1 ≡ k = omega arith in rw z (omega arith)
+-- no power up to 2^m is x
+pub power_none : (m x : ℕ) → ((k : ℕ) → k < m + 1 → x ≡ 2 ^ k → ⊥) → false ≡ is_pow m x
+power_none m x h = go (is_pow m x) refl
+  where
+    go : (b : Bool) → is_pow m x ≡ b → false ≡ b
+    go true e = let p = is_pow_yes m x e in absurd (h p.exponent (omega (arith, p.within)) p.is)
+    go false e = refl
 
-pub power_step : (x p left : ℕ) (r : Bool) → 0 < left → p ≡ 2 ^ left → (x ≡ p → ⊥) → is_pow left x ≡ r → is_pow (left - 1) x ≡ r
-unfolding is_pow
-power_step x p zero r h e n f = absurd (omega arith)
-power_step x p (suc k) r h e n f = let z : suc k - 1 ≡ k = omega arith in rw z (rw (ne_eqb x (2 ^ suc k) (λ q. n (q ∙ sym e))) at f)
+pub power_found : (m x k : ℕ) → k < m + 1 → x ≡ 2 ^ k → true ≡ is_pow m x
+power_found m x k h e = sym (is_pow_holds m x (record { exponent = k; within = omega arith; is = e }))
 
-pub power_yes : (x p left : ℕ) (r : Bool) → p ≡ 2 ^ left → x ≡ p → is_pow left x ≡ r → true ≡ r
-unfolding is_pow
-power_yes x p zero r e q f = rw (eq-eqb x 1 (q ∙ e)) at f
-power_yes x p (suc k) r e q f = rw (eq-eqb x (2 ^ suc k) (q ∙ e)) at f
+-- a number between one power of two and the next
+between : (j x : ℕ) → 2 ^ j ≤ x → x < 2 ^ suc j → log2 x ≡ j
+between zero x h k = log2_end x (omega arith)
+between (suc j) x h k = log2-step x (omega arith) ∙ ap suc (between j (x / 2) (omega arith) (omega arith))
 
-pub power_no : (x p left : ℕ) (r : Bool) → left ≤ 0 → p ≡ 2 ^ left → (x ≡ p → ⊥) → is_pow left x ≡ r → false ≡ r
-unfolding is_pow
-power_no x p zero r h e n f = rw (ne_eqb x 1 (λ q. n (q ∙ sym e))) at f
-power_no x p (suc k) r h e n f = absurd (omega arith)
-
--- ---- log2_of: the halvings done and those to come
-pub log2-turn : (rest n r : ℕ) → 1 < rest → n + log2 rest ≡ r → n + 1 + log2 (rest / 2) ≡ r
-log2-turn rest n r h e = omega (arith, log2-step rest h)
-
-pub log2-done : (rest n r : ℕ) → rest ≤ 1 → n + log2 rest ≡ r → n ≡ r
-log2-done rest n r h e = omega (arith, log2_end rest h)
+pub log2-counted : (x : ℕ) → 0 < x → x < 2 ^ 64 → 63 - count_leading_zeros 64 x ≡ log2 x
+log2-counted x h k =
+    let t = leading_top 64 x h k in
+    let e : 63 - count_leading_zeros 64 x ≡ t.0 = (let f : count_leading_zeros 64 x + suc t.0 ≡ 64 = t.1 in omega arith) in
+    e ∙ sym (between t.0 x t.2 t.3)

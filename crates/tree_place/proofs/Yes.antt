@@ -1,6 +1,6 @@
--- What an entry's number 0 settles: that each of its questions has its yes.
+-- What it settles that an entry is done: that each of its questions has its yes.
 use Prim.Native.Nat.{ℕ}
-use mathlib.Core.Path.{◌≡◌, sym, ◌∙◌}
+use mathlib.Core.Path.{◌≡◌, sym}
 use borrow.Author.Tests.{leb-true, ltb-true, eqb-true}
 use Rattle.theory_laws.proofs.Questions.{all_yes}
 use Rattle.theory_merkle.specs.Questions.{leaf_questions, node_questions, build_questions, open_questions, root_questions}
@@ -9,10 +9,10 @@ use Rattle.theory_merkle.proofs.Questions.{bounded}
 use Rattle.tree_place.specs.helpers.Yes.{LeafYes, NodeYes, BuildYes, LeavesYes, ParentsYes, OpenYes, RootYes}
 use Rattle.theory_merkle.specs.Numbers.{leaf_number, node_number, build_number, open_number, root_number}
 
-pub leaf_yes : (q domain count width place values : ℕ) → q ≡ leaf_number domain count width place values → q ≡ 0 → LeafYes domain count width place values
+pub leaf_yes : (domain count width place values : ℕ) → 0 ≡ leaf_number domain count width place values → LeafYes domain count width place values
 unfolding leaf_number
-leaf_yes q domain count width place values e z =
-    let y = all_yes (leaf_questions domain count width place values) tt (sym e ∙ z) in
+leaf_yes domain count width place values e =
+    let y = all_yes (leaf_questions domain count width place values) tt (sym e) in
     record {
       domain_le = leb-true _ _ y.0;
       shaped = bounded count width (y.1.0, (y.1.1.0, (y.1.1.1.0, tt)));
@@ -20,16 +20,16 @@ leaf_yes q domain count width place values e z =
       values_is = eqb-true _ _ y.1.1.1.1.1.0;
     }
 
-pub node_yes : (q domain l r : ℕ) → q ≡ node_number domain l r → q ≡ 0 → NodeYes domain l r
+pub node_yes : (domain l r : ℕ) → 0 ≡ node_number domain l r → NodeYes domain l r
 unfolding node_number
-node_yes q domain l r e z =
-    let y = all_yes (node_questions domain l r) tt (sym e ∙ z) in
+node_yes domain l r e =
+    let y = all_yes (node_questions domain l r) tt (sym e) in
     record { left_is = eqb-true _ _ y.0; right_is = eqb-true _ _ y.1.0; domain_le = leb-true _ _ y.1.1.0 }
 
-pub build_yes : (q domain count width values tree : ℕ) → q ≡ build_number domain count width values tree → q ≡ 0 → BuildYes domain count width values tree
+pub build_yes : (domain count width values tree : ℕ) → 0 ≡ build_number domain count width values tree → BuildYes domain count width values tree
 unfolding build_number
-build_yes q domain count width values tree e z =
-    let y = all_yes (build_questions domain count width values tree) tt (sym e ∙ z) in
+build_yes domain count width values tree e =
+    let y = all_yes (build_questions domain count width values tree) tt (sym e) in
     record {
       domain_le = leb-true _ _ y.0;
       shaped = bounded count width (y.1.0, (y.1.1.0, (y.1.1.1.0, tt)));
@@ -37,11 +37,10 @@ build_yes q domain count width values tree e z =
       tree_is = eqb-true _ _ y.1.1.1.1.1.0;
     }
 
-pub leaves_yes : (q domain count width first values out : ℕ) → q ≡ leaves_number domain count width first values out → q ≡ 0
-    → LeavesYes domain count width first values out
+pub leaves_yes : (domain count width first values out : ℕ) → 0 ≡ leaves_number domain count width first values out → LeavesYes domain count width first values out
 unfolding leaves_number
-leaves_yes q domain count width first values out e z =
-    let y = all_yes (leaves_questions domain count width first values out) tt (sym e ∙ z) in
+leaves_yes domain count width first values out e =
+    let y = all_yes (leaves_questions domain count width first values out) tt (sym e) in
     record {
       domain_le = leb-true _ _ y.0;
       shaped = bounded count width (y.1.0, (y.1.1.0, (y.1.1.1.0, tt)));
@@ -50,16 +49,16 @@ leaves_yes q domain count width first values out e z =
       whole = eqb-true _ _ y.1.1.1.1.1.1.0;
     }
 
-pub parents_yes : (q domain children out : ℕ) → q ≡ parents_number domain children out → q ≡ 0 → ParentsYes domain children out
+pub parents_yes : (domain children out : ℕ) → 0 ≡ parents_number domain children out → ParentsYes domain children out
 unfolding parents_number
-parents_yes q domain children out e z =
-    let y = all_yes (parents_questions domain children out) tt (sym e ∙ z) in
+parents_yes domain children out e =
+    let y = all_yes (parents_questions domain children out) tt (sym e) in
     record { pairs = eqb-true _ _ y.0; out_is = eqb-true _ _ y.1.0; domain_le = leb-true _ _ y.1.1.0 }
 
-pub open_yes : (q count width place tree path : ℕ) → q ≡ open_number count width place tree path → q ≡ 0 → OpenYes count width place tree path
+pub open_yes : (count width place tree path : ℕ) → 0 ≡ open_number count width place tree path → OpenYes count width place tree path
 unfolding open_number
-open_yes q count width place tree path e z =
-    let y = all_yes (open_questions count width place tree path) tt (sym e ∙ z) in
+open_yes count width place tree path e =
+    let y = all_yes (open_questions count width place tree path) tt (sym e) in
     record {
       shaped = bounded count width (y.0, (y.1.0, (y.1.1.0, tt)));
       placed = ltb-true _ _ y.1.1.1.0;
@@ -67,11 +66,10 @@ open_yes q count width place tree path e z =
       path-is = eqb-true _ _ y.1.1.1.1.1.0;
     }
 
-pub root_yes : (q domain count width place values path : ℕ) → q ≡ root_number domain count width place values path → q ≡ 0
-    → RootYes domain count width place values path
+pub root_yes : (domain count width place values path : ℕ) → 0 ≡ root_number domain count width place values path → RootYes domain count width place values path
 unfolding root_number
-root_yes q domain count width place values path e z =
-    let y = all_yes (root_questions domain count width place values path) tt (sym e ∙ z) in
+root_yes domain count width place values path e =
+    let y = all_yes (root_questions domain count width place values path) tt (sym e) in
     record {
       domain_le = leb-true _ _ y.0;
       shaped = bounded count width (y.1.0, (y.1.1.0, (y.1.1.1.0, tt)));

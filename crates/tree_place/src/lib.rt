@@ -1,13 +1,16 @@
-// Places and groups of a tree, its sizes, and the numbers that its entries answer. Helpers for the crates above: some require.
+// Places and groups of a tree, its shape, and the questions that its entries put. Helpers for the crates above: some require.
 #![tactic(auto)]
 
 ghost use Rattle.std.specs.Prelude.{◌≡◌, ◌+◌, ◌*◌, ◌/◌, ◌%◌, ◌^◌, ◌<◌, eqb, leb};
+ghost use Rattle.theory_laws.specs.Refusals.{answered};
 ghost use Rattle.theory_merkle.specs.Tree.{group_of, sibling, log2, depth_of, tree_size};
 ghost use Rattle.theory_merkle.specs.Shape.{Bounded};
 ghost use Rattle.theory_merkle.specs.Questions.{is_pow};
 ghost use Rattle.theory_merkle.specs.Numbers.{shape_number, tree_number, leaf_number, node_number, build_number, open_number, root_number};
 ghost use Rattle.theory_merkle.specs.PartQuestions.{leaves_number, parents_number};
 ghost use Rattle.tree_place.specs.Place.{index, number};
+
+use theory_laws::Refusal;
 
 // The place of a value in a list of values. Its number is private to this crate: no place goes where a group is wanted.
 #[derive(Clone, Copy)]
@@ -131,236 +134,216 @@ pub fn in_group(place: Place, width: usize) -> usize
     place.0 % width
 }
 
-// Is x a power of two up to top, which is 2^m?
-fn is_power(x: usize, top: usize, m: usize) -> bool
-    requires { top ≡ 2 ^ m }
+// Is x a power of two up to 2^m? A `for` that returns early, and no `any`: the closure learns nothing that bounds the shift.
+fn is_power(x: usize, m: usize) -> bool
+    requires { m < 63 }
     ensures { result ≡ is_pow m x }
 {
-    let mut p = top;
-    let mut left = m;
-    while 0 < left {
-        if x == p {
+    for k in 0..m + 1 {
+        if x == 1 << k {
             return true;
         }
-        p = p / 2;
-        left = left - 1;
-    }
-    if x == p {
-        return true;
     }
     false
 }
 
-// The logarithm of a power of two.
+// The logarithm of a power of two; 0 of 0.
 fn log2_of(x: usize) -> usize
     ensures { result ≡ log2 x }
 {
-    let mut rest = x;
-    let mut n: usize = 0;
-    while 1 < rest {
-        rest = rest / 2;
-        n += 1;
+    if x == 0 {
+        return 0;
     }
-    n
-}
-
-// How many digests a path has.
-pub fn depth_of(count: usize, width: usize) -> usize
-    requires { 0 < width }
-    ensures { result ≡ depth_of count width }
-{
-    log2_of(count / width)
-}
-
-// Questions 8, 9 and 10.
-fn shape_number(count: usize, width: usize) -> u32
-    ensures { result ≡ shape_number count width }
-{
-    if !is_power(count, 16777216, 24) {
-        return 8;
-    }
-    if !is_power(width, 512, 9) {
-        return 9;
-    }
-    if count % width != 0 {
-        return 10;
-    }
-    0
-}
-
-// Questions 7 to 10.
-fn tree_number(domain: usize, count: usize, width: usize) -> u32
-    ensures { result ≡ tree_number domain count width }
-{
-    if domain > 255 {
-        return 7;
-    }
-    shape_number(count, width)
-}
-
-// How many bytes a tree has.
-fn tree_bytes(count: usize, width: usize) -> usize
-    requires { Bounded count width }
-    ensures { result ≡ 32 * tree_size count width }
-{
-    32 * (2 * (count / width) - 1)
-}
-
-// How many bytes a path has.
-fn path_bytes(count: usize, width: usize) -> usize
-    requires { Bounded count width }
-    ensures { result ≡ 32 * depth_of count width }
-{
-    32 * depth_of(count, width)
-}
-
-// The leaf digest of the group of a place: 7, 8, 9, 10, 11, 5.
-pub fn leaf_number(domain: usize, count: usize, width: usize, place: Place, values: usize) -> u32
-    ensures { result ≡ leaf_number domain count width (index place) values }
-{
-    let q = tree_number(domain, count, width);
-    if q != 0 {
-        return q;
-    }
-    if place.0 >= count {
-        return 11;
-    }
-    if values != 2 * width {
-        return 5;
-    }
-    0
-}
-
-// The node digest: 5, 7.
-pub fn node_number(domain: usize, left: usize, right: usize) -> u32
-    ensures { result ≡ node_number domain left right }
-{
-    if left != 32 {
-        return 5;
-    }
-    if right != 32 {
-        return 5;
-    }
-    if domain > 255 {
-        return 7;
-    }
-    0
-}
-
-// Build a tree: 7, 8, 9, 10, 5.
-pub fn build_number(domain: usize, count: usize, width: usize, values: usize, tree: usize) -> u32
-    ensures { result ≡ build_number domain count width values tree }
-{
-    let q = tree_number(domain, count, width);
-    if q != 0 {
-        return q;
-    }
-    if values != 2 * count {
-        return 5;
-    }
-    if tree != tree_bytes(count, width) {
-        return 5;
-    }
-    0
+    (63 - x.leading_zeros()) as usize
 }
 
 // Do m items from item `first` on end within a count?
 pub fn ends_within(first: usize, m: usize, count: usize) -> bool
     ensures { result ≡ leb (first + m) count }
 {
-    if m > count {
-        return false;
-    }
-    first <= count - m
+    m <= count && first <= count - m
 }
 
-// The leaves of groups from one on: 7, 8, 9, 10, 11, 5.
-pub fn leaves_number(
-    domain: usize,
-    count: usize,
-    width: usize,
-    first: usize,
-    values: usize,
-    out: usize,
-) -> u32
-    ensures { result ≡ leaves_number domain count width first values out }
+// The shape of a tree: over how many values it is built, and in groups of how many.
+#[derive(Clone, Copy, Debug, PartialEq, Eq)]
+pub struct Shape {
+    pub count: usize,
+    pub width: usize,
+}
+
+impl Shape {
+    // How many groups there are.
+    pub fn groups(self) -> usize
+        requires { 0 < self.width }
+        ensures { result ≡ self.count / self.width }
+    {
+        self.count / self.width
+    }
+
+    // How many digests a path has.
+    pub fn depth(self) -> usize
+        requires { 0 < self.width }
+        ensures { result ≡ depth_of self.count self.width }
+    {
+        log2_of(self.groups())
+    }
+
+    // How many bytes a tree has.
+    fn tree_bytes(self) -> usize
+        requires { Bounded self.count self.width }
+        ensures { result ≡ 32 * tree_size self.count self.width }
+    {
+        32 * (2 * self.groups() - 1)
+    }
+
+    // How many bytes a path has.
+    fn path_bytes(self) -> usize
+        requires { Bounded self.count self.width }
+        ensures { result ≡ 32 * depth_of self.count self.width }
+    {
+        32 * self.depth()
+    }
+
+    // Questions 8, 9 and 10.
+    fn questions(self) -> Result<(), Refusal>
+        ensures { answered result ≡ shape_number self.count self.width }
+    {
+        if !is_power(self.count, 24) {
+            return Err(Refusal::ValueCount);
+        }
+        if !is_power(self.width, 9) {
+            return Err(Refusal::Width);
+        }
+        if self.count % self.width != 0 {
+            return Err(Refusal::UnevenGroups);
+        }
+        Ok(())
+    }
+
+    // Questions 7 to 10.
+    fn tree_questions(self, domain: usize) -> Result<(), Refusal>
+        ensures { answered result ≡ tree_number domain self.count self.width }
+    {
+        if domain > 255 {
+            return Err(Refusal::Domain);
+        }
+        self.questions()
+    }
+
+    // The leaf digest of the group of a place: 7, 8, 9, 10, 11, 5.
+    pub fn leaf_questions(self, domain: usize, place: Place, values: usize) -> Result<(), Refusal>
+        ensures { answered result ≡ leaf_number domain self.count self.width (index place) values }
+    {
+        self.tree_questions(domain)?;
+        if place.0 >= self.count {
+            return Err(Refusal::Place);
+        }
+        if values != 2 * self.width {
+            return Err(Refusal::Length);
+        }
+        Ok(())
+    }
+
+    // Build a tree: 7, 8, 9, 10, 5.
+    pub fn build_questions(self, domain: usize, values: usize, tree: usize) -> Result<(), Refusal>
+        ensures { answered result ≡ build_number domain self.count self.width values tree }
+    {
+        self.tree_questions(domain)?;
+        if values != 2 * self.count {
+            return Err(Refusal::Length);
+        }
+        if tree != self.tree_bytes() {
+            return Err(Refusal::Length);
+        }
+        Ok(())
+    }
+
+    // The leaves of groups from one on: 7, 8, 9, 10, 11, 5.
+    pub fn leaves_questions(
+        self,
+        domain: usize,
+        first: usize,
+        values: usize,
+        out: usize,
+    ) -> Result<(), Refusal>
+        ensures { answered result ≡ leaves_number domain self.count self.width first values out }
+    {
+        self.tree_questions(domain)?;
+        if !ends_within(first, out / 32, self.groups()) {
+            return Err(Refusal::Place);
+        }
+        if values != 2 * self.count {
+            return Err(Refusal::Length);
+        }
+        if out % 32 != 0 {
+            return Err(Refusal::Length);
+        }
+        Ok(())
+    }
+
+    // Open a place: 8, 9, 10, 11, 5.
+    pub fn open_questions(self, place: Place, tree: usize, path: usize) -> Result<(), Refusal>
+        ensures { answered result ≡ open_number self.count self.width (index place) tree path }
+    {
+        self.questions()?;
+        if place.0 >= self.count {
+            return Err(Refusal::Place);
+        }
+        if tree != self.tree_bytes() {
+            return Err(Refusal::Length);
+        }
+        if path != self.path_bytes() {
+            return Err(Refusal::Length);
+        }
+        Ok(())
+    }
+
+    // The root that a group and a path lead to: 7, 8, 9, 10, 11, 12, 5.
+    pub fn root_questions(
+        self,
+        domain: usize,
+        place: Place,
+        values: usize,
+        path: usize,
+    ) -> Result<(), Refusal>
+        ensures { answered result ≡ root_number domain self.count self.width (index place) values path }
+    {
+        self.tree_questions(domain)?;
+        if place.0 >= self.count {
+            return Err(Refusal::Place);
+        }
+        if path != self.path_bytes() {
+            return Err(Refusal::PathLength);
+        }
+        if values != 2 * self.width {
+            return Err(Refusal::Length);
+        }
+        Ok(())
+    }
+}
+
+// The node digest: 5, 7.
+pub fn node_questions(domain: usize, left: usize, right: usize) -> Result<(), Refusal>
+    ensures { answered result ≡ node_number domain left right }
 {
-    let q = tree_number(domain, count, width);
-    if q != 0 {
-        return q;
+    if left != 32 || right != 32 {
+        return Err(Refusal::Length);
     }
-    if !ends_within(first, out / 32, count / width) {
-        return 11;
+    if domain > 255 {
+        return Err(Refusal::Domain);
     }
-    if values != 2 * count {
-        return 5;
-    }
-    if out % 32 != 0 {
-        return 5;
-    }
-    0
+    Ok(())
 }
 
 // The parents of pairs of digests: 5, 7.
-pub fn parents_number(domain: usize, children: usize, out: usize) -> u32
-    ensures { result ≡ parents_number domain children out }
+pub fn parents_questions(domain: usize, children: usize, out: usize) -> Result<(), Refusal>
+    ensures { answered result ≡ parents_number domain children out }
 {
-    if children % 64 != 0 {
-        return 5;
-    }
-    if out != children / 2 {
-        return 5;
+    if children % 64 != 0 || out != children / 2 {
+        return Err(Refusal::Length);
     }
     if domain > 255 {
-        return 7;
+        return Err(Refusal::Domain);
     }
-    0
-}
-
-// Open a place: 8, 9, 10, 11, 5.
-pub fn open_number(count: usize, width: usize, place: Place, tree: usize, path: usize) -> u32
-    ensures { result ≡ open_number count width (index place) tree path }
-{
-    let q = shape_number(count, width);
-    if q != 0 {
-        return q;
-    }
-    if place.0 >= count {
-        return 11;
-    }
-    if tree != tree_bytes(count, width) {
-        return 5;
-    }
-    if path != path_bytes(count, width) {
-        return 5;
-    }
-    0
-}
-
-// The root that a group and a path lead to: 7, 8, 9, 10, 11, 12, 5.
-pub fn root_number(
-    domain: usize,
-    count: usize,
-    width: usize,
-    place: Place,
-    values: usize,
-    path: usize,
-) -> u32
-    ensures { result ≡ root_number domain count width (index place) values path }
-{
-    let q = tree_number(domain, count, width);
-    if q != 0 {
-        return q;
-    }
-    if place.0 >= count {
-        return 11;
-    }
-    let whole = path_bytes(count, width);
-    if path != whole {
-        return 12;
-    }
-    if values != 2 * width {
-        return 5;
-    }
-    0
+    Ok(())
 }

@@ -12,12 +12,11 @@ ghost use Rattle.tree_walk.specs.helpers.Paths.{path_from, PathRoom};
 
 use bytes_numbers::{load, put};
 use bytes_reader::digest_at;
-use theory_blake3::Mode;
-use tree_digest::{begin_nodes, hash_level_node};
+use tree_digest::{Hashing, hash_level_node};
 use tree_place::Group;
 
 // The digests of two children of one parent.
-#[derive(Clone, Copy)]
+#[derive(Clone, Copy, Debug, PartialEq, Eq)]
 pub struct Siblings {
     pub left: [u8; 32],
     pub right: [u8; 32],
@@ -41,32 +40,27 @@ pub fn children(g: Group, d: [u8; 32], other: [u8; 32]) -> Siblings
 
 // Where a leaf digest, by its group, and the digests that stand from a byte on lead to.
 pub fn climb_path(
-    mode: Mode,
-    domain: &[u8],
+    hashing: Hashing,
     group: Group,
     leaf: [u8; 32],
     s: &[u8],
     from: usize,
     depth: usize,
 ) -> [u8; 32]
-    requires { (length domain.now ≤ 255) × (from + 32 * depth ≤ length s.now) }
-    ensures { result ≡ climb (under mode) domain.now 0 (number group) leaf (runs 32 depth (drop from s.now)) }
+    requires { (length hashing.domain.now ≤ 255) × (from + 32 * depth ≤ length s.now) }
+    ensures { result
+        ≡ climb (under hashing.entry.mode) hashing.entry.domain.now 0 (number group) leaf (runs 32 depth (drop from s.now)) }
 {
     let mut message = [0u8; tree_message::NODE_MESSAGE];
-    let h = begin_nodes(mode, &mut message, domain);
-    let front = 48 + domain.len();
+    let h = hashing.begin_nodes(&mut message);
+    let front = 48 + hashing.domain.len();
     let mut d = leaf;
     let mut g = group;
-    let mut l: usize = 0;
-    while l < depth {
+    for l in 0..depth {
         let e = digest_at(s, from + 32 * l);
         let c = children(g, d, e);
-        let left = c.left;
-        let right = c.right;
-        let p = hash_level_node(mode, h, &mut message, front, l, left, right);
-        d = p;
+        d = hash_level_node(hashing.mode, h, &mut message, front, l, c.left, c.right);
         g = g.parent();
-        l += 1;
     }
     d
 }
@@ -88,15 +82,12 @@ pub fn put_path(
     let mut m = groups;
     let mut g = group;
     let mut at = to;
-    let mut level: usize = 0;
-    while level < depth {
-        let other = g.sibling();
-        let d = load(trees, tree + 32 * other.number());
+    for _level in 0..depth {
+        let d = load(trees, tree + 32 * g.sibling().number());
         at = put(out, at, &d);
         tree += 32 * m;
-        m = m / 2;
+        m /= 2;
         g = g.parent();
-        level += 1;
     }
     at
 }

@@ -1,16 +1,7 @@
--- `load` meets its contract. The loop's invariant: the bytes read so far are the slice's.
-use Prim.Native.Nat.{◌≤◌, ◌-◌}
-use mathlib.Core.Path.{◌≡◌, refl}
-use lib.ListN.{length, take, drop}
-use Rattle.bytes_numbers.proofs.Bytes.{load_step, load_end}
-use borrow.Author.Rules.{rules}
+-- `load` meets its contract: the slice of 32 bytes is an array of them.
+use mathlib.Core.Path.{◌∙◌}
+use Rattle.theory_laws.proofs.Lists.{lent-part}
 use Rattle.bytes_numbers.proofs.load.Goals as goal
 
-pub loop-i-init : goal.loop-i-init
-loop-i-init c = (search rules, search rules, refl)
-
-pub loop-i-preserved : goal.loop-i-preserved
-loop-i-preserved c = (search rules, search rules, search load_step)
-
 pub returns : goal.returns
-returns c = search load_end
+returns c = (rw c.unwrap.ensures at c.try_into.ensures.1).same ∙ lent-part 32 c.args.from c.args.s.now

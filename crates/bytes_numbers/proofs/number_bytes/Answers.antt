@@ -1,8 +1,7 @@
--- `number_bytes` meets its contract: the number fills its array.
-use mathlib.Core.Path.{refl}
-use borrow.Author.Rules.{rules}
-use Rattle.bytes_numbers.proofs.Numbers.{number-all}
+-- `number_bytes` meets its contract: the library's bytes are the definition's.
+use mathlib.Core.Path.{◌∙◌}
+use Rattle.bytes_numbers.proofs.Numbers.{to_le_8}
 use Rattle.bytes_numbers.proofs.number_bytes.Goals as goal
 
 pub returns : goal.returns
-returns c = number-all _ _ 8 _ _ refl c.put_number.ensures
+returns c = c.to_le_bytes.ensures ∙ to_le_8 c.args.x

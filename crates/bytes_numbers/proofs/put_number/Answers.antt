@@ -1,17 +1,21 @@
--- `put_number` meets its contract. The loop's invariant: storing the bytes that are left of the number gives the final buffer.
-use Rattle.bytes_numbers.proofs.Numbers.{number_left, number_begin, number_step, number_put}
-use Prim.Native.Nat.{◌-◌, ◌≤◌}
-use mathlib.Core.Path.{◌≡◌, refl}
-use lib.ListN.{length}
-use Rattle.theory_laws.specs.Lists.{stored, le_bytes}
-use borrow.Author.Rules.{rules}
+-- `put_number` meets its contract. The loop's invariant: storing the bytes that are left of the number fills the part.
+use native.Mathlib.Omega.{arith}
+use Rattle.theory_laws.specs.Lists.{le_bytes}
+use Rattle.theory_laws.proofs.Lists.{length-le_bytes, length-lent}
+use Rattle.bytes_numbers.proofs.Numbers.{left-begin, left-step, left-none}
+use Rattle.bytes_numbers.proofs.Stores.{put_part}
 use Rattle.bytes_numbers.proofs.put_number.Goals as goal
 
-pub loop-i-init : goal.loop-i-init
-loop-i-init c = (search rules, refl, number_begin _ _ _ _)
+pub loop-b-init : goal.loop-b-init
+loop-b-init c = let a = c.args in left-begin _ a.size a.x (length-lent a.size a.from a.out.now c.requires)
 
-pub loop-i-preserved : goal.loop-i-preserved
-loop-i-preserved c = (search rules, search rules, search number_step)
+pub loop-b-preserved : goal.loop-b-preserved
+loop-b-preserved c =
+    let a = c.args in
+    left-step _ _ a.size _ _ c.loop-b.invariant (omega (arith, length-lent a.size a.from a.out.now c.requires, c.loop-b-test.true))
 
 pub returns : goal.returns
-returns c = search number_put
+returns c =
+    let a = c.args in
+    put_part a.out.now a.from a.size (le_bytes a.size a.x) _ c.requires (length-le_bytes a.size a.x)
+    (left-none _ _ a.size _ _ c.loop-b.invariant (omega (arith, length-lent a.size a.from a.out.now c.requires, c.loop-b-test.false)))

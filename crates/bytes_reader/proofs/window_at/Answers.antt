@@ -1,19 +1,10 @@
--- `bytes_reader::window_at` meets its contract: a whole window is loaded; of a shorter one the bytes are read one by one.
-use borrow.Author.Rules.{rules}
-use Rattle.bytes_reader.proofs.Windows.{filled_begin, byte_step, window-whole, window_filled}
-use native.Mathlib.Omega.{arith}
+-- `bytes_reader::window_at` meets its contract: what is left there stands at the front, and zeros after it.
 use mathlib.Core.Path.{refl}
+use Rattle.bytes_reader.proofs.Windows.{rest_is, window_filled}
 use Rattle.bytes_reader.proofs.window_at.Goals as goal
 
-pub returns-then-left-ge32 : goal.returns-then-left-ge32
-returns-then-left-ge32 c = search window-whole
-
-pub loop-j-init : goal.loop-j-init
-loop-j-init c = (search rules, filled_begin _ _)
-
-pub loop-j-preserved : goal.loop-j-preserved
-loop-j-preserved c =
-    (search rules, byte_step _ c.loop-j.bytes _ c.loop-j.j _ refl (omega arith) c.loop-j.invariant.1)
-
 pub returns : goal.returns
-returns c = search window_filled
+returns c =
+    let a = c.args in
+    window_filled a.s.now _ _ a.at _ (rest_is a.s.now a.at c.get.result _ _ c.get.ensures.lookup c.unwrap_or-rest.ensures refl) c.min-n.ensures
+    c.copy_from_slice.ensures.after

@@ -3,11 +3,10 @@ use Prim.Native.Nat.{ℕ}
 use mathlib.Core.Path.{refl, sym, ◌∙◌, ap}
 use mathlib.Core.Logic.{inl, inr}
 use native.Mathlib.Omega.{arith}
-use borrow.Author.Rules.{rules}
 use Rattle.theory_laws.specs.Table.{tab}
 use Rattle.claim_fold_calls.proofs.Turns.{reached_begin, turned, same_call, ended}
 use Rattle.claim_fold_calls.proofs.fold_calls.Goals as goal
-use Rattle.claim_fold_calls.proofs.fold_calls.Goals.{then-loop-i-test+else-at-n, else-loop-i-test}
+use Rattle.claim_fold_calls.proofs.fold_calls.Goals.{then-loop-i-test+then-at-n, else-loop-i-test}
 
 pub loop-i-init : goal.loop-i-init
 loop-i-init c =
@@ -25,20 +24,16 @@ call-at-requires c =
         within = s.1.within;
         from= = s.1.from=;
       };
-      below = c.if-at-n.true;
+      below = omega (arith, s.1.within);
       list_long = s.1.list_long;
       kept_long = s.1.kept_long;
     }
-
-pub overflow_add-i : goal.overflow_add-i
-overflow_add-i c =
-    search (rules, c.type_inv.calls, c.loop-i-test.true)
 
 pub loop-i-preserved : goal.loop-i-preserved
 loop-i-preserved c =
     let s = c.loop-i.invariant in (
       c.call-at.auto.half ∙ s.0,
-      turned _ _ _ _ s.1 c.loop-i-test.true c.if-at-n.true c.call-at.auto.levels c.call-at.auto.kept
+      turned _ _ _ _ s.1 c.loop-i-test.true (omega (arith, s.1.within)) c.call-at.auto.levels c.call-at.auto.kept
           (same_call c.call-at.ensures c.call_at-x.ensures),
     )
 
@@ -62,7 +57,7 @@ pub returns-clause-calls_left : goal.returns-clause-calls_left
 returns-clause-calls_left c =
     ended _ _ _ _ c.loop-i.invariant.1
     (elim c.loop-i-test.branch [
-      | then-loop-i-test+else-at-n w ↦ inr w.if-at-n.false
+      | then-loop-i-test+then-at-n w ↦ inr (omega arith)
       | else-loop-i-test w ↦ inl w.loop-i-test.false
     ])
 

@@ -6,6 +6,7 @@ use Rattle.theory_multilinear.specs.Codeword.{all_coordinates}
 use Rattle.theory_blake3.specs.Digest.{hash}
 use Rattle.theory_code.specs.Gammas.{gammas}
 use Rattle.theory_record.specs.declared.Trees.{Trees}
+use Rattle.theory_record.specs.declared.Deposit.{Deposit}
 use Rattle.theory_record.specs.Widths.{Widths, widths_of, level_length, tree_length}
 use Rattle.theory_record.specs.Accepted.{SizesFit}
 use Rattle.theory_record.specs.Sizes.{query_size, tail_size}
@@ -59,20 +60,19 @@ Ref = Bor (List ℕ)
 abbrev pub MutRef : Type 0
 MutRef = MutBor (List ℕ)
 
-abbrev pub CommitLent : Trees → ℕ → ℕ → Ref → Ref → MutRef → MutRef → MutRef → MutRef → Type 0
-CommitLent how n k base table gammas levels coordinates trees =
-    CommitRoom (widths_of how.set) n k (length base.now) (length table.now) (length gammas.now) (length levels.now) (length coordinates.now)
+abbrev pub CommitLent : Deposit → Ref → MutRef → MutRef → MutRef → MutRef → Type 0
+CommitLent d table gammas levels coordinates trees =
+    CommitRoom (widths_of d.how.set) d.n d.k (length d.base.now) (length table.now) (length gammas.now) (length levels.now) (length coordinates.now)
     (length trees.now)
 
-abbrev pub DepositLent :
-    Trees → ℕ → ℕ → Ref → Ref → Ref → Ref → MutRef → MutRef → MutRef → MutRef → MutRef → MutRef → MutRef → Type 0
-DepositLent how n k base table calls challenges gammas levels coordinates half kept trees roots =
-    Room (widths_of how.set) n k (length base.now) (length table.now) (length calls.now) (length challenges.now) (length gammas.now)
+abbrev pub DepositLent : Deposit → Ref → Ref → Ref → MutRef → MutRef → MutRef → MutRef → MutRef → MutRef → MutRef → Type 0
+DepositLent d table calls challenges gammas levels coordinates half kept trees roots =
+    Room (widths_of d.how.set) d.n d.k (length d.base.now) (length table.now) (length calls.now) (length challenges.now) (length gammas.now)
     (length levels.now) (length coordinates.now) (length half.now) (length kept.now) (length trees.now) (length roots.now)
 
-abbrev pub RecordLent : Trees → ℕ → ℕ → ℕ → MutRef → MutRef → MutRef → MutRef → Type 0
-RecordLent how n k position query tail one two =
-    RecordRoom (widths_of how.set) n k position (length query.now) (length tail.now) (length one.now) (length two.now)
+abbrev pub RecordLent : Deposit → ℕ → MutRef → MutRef → MutRef → MutRef → Type 0
+RecordLent d position query tail one two =
+    RecordRoom (widths_of d.how.set) d.n d.k position (length query.now) (length tail.now) (length one.now) (length two.now)
 
 -- what committing leaves: the gammas, level 0 at the front of the levels, its list and its tree at the front of the trees, and what was behind level 0
 pub record Committed (how : Trees) (n k : ℕ) (base table old gammas' levels coordinates trees : List ℕ) : Type 0 where
@@ -82,18 +82,16 @@ pub record Committed (how : Trees) (n k : ℕ) (base table old gammas' levels co
   pub list_is : coordinates ≡ all_coordinates n
   pub tree_is : take (32 * tree_length (widths_of how.set) n k 0) trees ≡ flat (tree_for (scheme how base n k) 0 (committed_codeword base n k (words table)))
 
-abbrev pub CommitLeft : Trees → ℕ → ℕ → Slice → Slice → MutSlice → MutSlice → MutSlice → MutSlice → Type 0
-CommitLeft how n k base table gammas levels coordinates trees =
-    Committed how n k base.entry.now table.entry.now levels.entry.now gammas.exit.now levels.exit.now coordinates.exit.now
-    trees.exit.now
+abbrev pub CommitLeft : Deposit → Slice → MutSlice → MutSlice → MutSlice → MutSlice → Type 0
+CommitLeft d table gammas levels coordinates trees =
+    Committed d.how d.n d.k d.base.now table.entry.now levels.entry.now gammas.exit.now levels.exit.now coordinates.exit.now trees.exit.now
 
-abbrev pub DepositLeft :
-    Trees → ℕ → ℕ → Slice → Slice → Slice → Slice → MutSlice → MutSlice → MutSlice → MutSlice → MutSlice → MutSlice → ℕ → Type 0
-DepositLeft how n k base table calls challenges gammas levels coordinates kept trees roots done =
-    Deposited how n k base.entry.now table.entry.now calls.entry.now challenges.entry.now levels.entry.now kept.entry.now
+abbrev pub DepositLeft : Deposit → Slice → Slice → Slice → MutSlice → MutSlice → MutSlice → MutSlice → MutSlice → MutSlice → ℕ → Type 0
+DepositLeft d table calls challenges gammas levels coordinates kept trees roots done =
+    Deposited d.how d.n d.k d.base.now table.entry.now calls.entry.now challenges.entry.now levels.entry.now kept.entry.now
     gammas.exit.now levels.exit.now coordinates.exit.now kept.exit.now trees.exit.now roots.exit.now done
 
 -- a buffer after the tail record of the last level and its tree was built into it
-abbrev pub tail_lent : Trees → ℕ → ℕ → Slice → Slice → MutSlice → List ℕ
-tail_lent how n k levels trees out =
-    build_tail (widths_of how.set) n k (last_level n k levels.entry.now) (last_tree (widths_of how.set) n k trees.entry.now) out.entry.now
+abbrev pub tail_lent : Deposit → Slice → Slice → MutSlice → List ℕ
+tail_lent d levels trees out =
+    build_tail (widths_of d.how.set) d.n d.k (last_level d.n d.k levels.entry.now) (last_tree (widths_of d.how.set) d.n d.k trees.entry.now) out.entry.now

@@ -1,13 +1,12 @@
 -- `claim_whole_run::made` meets its contract.
-use mathlib.Core.Path.{refl}
 use Rattle.claim_whole_run.proofs.Claims.{last-room, room-same, claimed_by}
 use borrow.Author.Rules.{rules}
 use Rattle.claim_whole_run.proofs.made.Goals as goal
 
 -- the places of the code, from its end to its start
 
-pub tail_record-number-requires : goal.tail_record-number-requires
-tail_record-number-requires c =
+pub tail_record-claimed-requires : goal.tail_record-claimed-requires
+tail_record-claimed-requires c =
     let kept = c.deposit-done.auto in last-room
     (room-same c.requires.0 kept.levels kept.coordinates kept.kept
     kept.trees kept.roots)
@@ -38,20 +37,18 @@ returns c =
     let kept = c.deposit-done.auto in let room =
     room-same c.requires.0 kept.levels kept.coordinates kept.kept
     kept.trees kept.roots in
-    let d = c.deposit-done.ensures in let q = c.query_record-checked.ensures in let t = c.tail_record-number.ensures in let e = c.two_records-compared.ensures in let claimed =
+    let d = c.deposit-done.ensures in let q = c.query_record-checked.ensures in let t = c.tail_record-claimed.ensures in let e = c.two_records-compared.ensures in let claimed =
     claimed_by _ _ _ _ _ room c.requires.0.commit.list_long d.deposit_left c.requires.1 q.out_after t.out_after q.result_value t.value e.result_value e.one_after e.two_after (λ j. (c.type_inv.query j).fits)
-    (λ j. (c.type_inv.tail j).fits) (λ j. (c.type_inv.first j).fits) (λ j. (c.type_inv.second j).fits) in (
-      refl,
-      record {
-        deposited = d.deposit_left;
-        half_cleared = d.half_after;
-        query_is = q.out_after;
-        tail_is = t.out_after;
-        answer_is = q.result_value;
-        number_is = t.value;
-        compared_is = e.result_value;
-        one_is = e.one_after;
-        two_is = e.two_after;
-        claimed = claimed;
-      },
-    )
+    (λ j. (c.type_inv.tail j).fits) (λ j. (c.type_inv.first j).fits) (λ j. (c.type_inv.second j).fits) in
+    record {
+      deposited = d.deposit_left;
+      half_cleared = d.half_after;
+      query_is = q.out_after;
+      tail_is = t.out_after;
+      answer_is = q.result_value;
+      number_is = t.value;
+      compared_is = e.result_value;
+      one_is = e.one_after;
+      two_is = e.two_after;
+      claimed = claimed;
+    }

@@ -23,12 +23,12 @@ next_level-from-requires c =
         within = f.within;
         from= = f.from=;
       },
-      c.loop-l-test.true,
+      (omega arith),
     )
 
 pub loop-l-preserved : goal.loop-l-preserved
 loop-l-preserved c =
-    (search rules, folded_more _ _ _ _ _ c.loop-l.invariant.1 c.loop-l-test.true c.get-r.ensures c.next_level-from.ensures.value c.next_level-from.ensures.levels_after (search rules))
+    (search rules, folded_more _ _ _ _ _ c.loop-l.invariant.1 (omega arith) c.get-r.ensures c.next_level-from.ensures.value c.next_level-from.ensures.levels_after (search rules))
 
 pub shape_of-levels : goal.shape_of-levels
 shape_of-levels c =

@@ -11,7 +11,7 @@ pub prefix-common-requires : goal.prefix-common-requires
 prefix-common-requires c = c.requires.0
 
 pub loop-v-init : goal.loop-v-init
-loop-v-init c = (omega arith, c.requires.2, λ v h. absurd (omega arith))
+loop-v-init c = (c.requires.2, λ v h. absurd (omega arith))
 
 pub nonzero_div-v : goal.nonzero_div-v
 nonzero_div-v c =
@@ -28,13 +28,12 @@ gamma_at-g-requires c =
 pub loop-v-preserved : goal.loop-v-preserved
 loop-v-preserved c =
     let a = c.args in (
-      omega arith,
-      c.put.auto.s ∙ c.loop-v.invariant.1,
+      c.put.auto.s ∙ c.loop-v.invariant.0,
       filled_more _ _ _ _ _ (omega arith) c.put.ensures
           (gamma-fed _ a.domain.now a.n a.k _ _ _ c.requires.0 c.prefix-common.ensures
-          c.gamma_at-g.ensures) c.loop-v.invariant.2,
+          c.gamma_at-g.ensures) c.loop-v.invariant.1,
     )
 
 pub returns : goal.returns
 unfolding gammas
-returns c = filled_all _ _ _ _ c.loop-v.invariant.1 c.loop-v-test.false c.loop-v.invariant.2
+returns c = filled_all _ _ _ _ c.loop-v.invariant.0 c.loop-v-test.false c.loop-v.invariant.1

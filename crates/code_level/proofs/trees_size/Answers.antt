@@ -5,7 +5,7 @@ use Rattle.theory_record.proofs.Ranges.{sizes-small}
 use Rattle.code_level.proofs.trees_size.Goals as goal
 
 pub loop-l-init : goal.loop-l-init
-loop-l-init c = (search rules, no_digests _ _ _)
+loop-l-init c = no_digests _ _ _
 
 pub overflow_mul-digests : goal.overflow_mul-digests
 overflow_mul-digests c =
@@ -23,7 +23,7 @@ overflow_add-digests c =
 
 pub loop-l-preserved : goal.loop-l-preserved
 loop-l-preserved c =
-    (search rules, digests-step _ _ _ _ _ _ c.loop-l.invariant.1 c.level_groups.ensures (sizes-small _ _ c.requires))
+    digests-step _ _ _ _ _ _ c.loop-l.invariant c.level_groups.ensures (sizes-small _ _ c.requires)
 
 pub overflow_mul-result : goal.overflow_mul-result
 overflow_mul-result c =

@@ -1,12 +1,8 @@
 -- `code_level::trees_size` meets its contract.
-use Prim.Native.Nat.{◌+◌, ◌-◌, ◌≤◌}
 use mathlib.Core.Path.{◌≡◌}
 use Rattle.theory_record.specs.Widths.{widths_of}
 use Rattle.theory_record.specs.Build.{tree_start}
 use Rattle.code_level.proofs.trees_size.Given as goal
 
 abbrev pub invariant-loop-l : goal.invariant-loop-l
-invariant-loop-l l = (l.l ≤ l.n + 1) × (l.digests ≡ tree_start (widths_of l.set) l.n l.k l.l)
-
-abbrev pub decreases-loop-l : goal.decreases-loop-l
-decreases-loop-l l = l.n + 1 - l.l
+invariant-loop-l l = l.digests ≡ tree_start (widths_of l.set) l.n l.k l.l

@@ -6,7 +6,7 @@ use Rattle.code_level_trees.proofs.all_trees.Goals as goal
 
 pub put_tree-requires : goal.put_tree-requires
 put_tree-requires c =
-    let starts = first_starts c.args.how.set c.args.n c.args.k in
+    let starts = first_starts c.args.deposit.how.set c.args.deposit.n c.args.deposit.k in
     record { room = c.requires.0; within = omega arith; from= = starts.0; at= = starts.1 }
 
 pub level_trees-requires : goal.level_trees-requires

@@ -3,6 +3,7 @@ use Prim.Native.Nat.{ℕ, ◌*◌}
 use mathlib.Core.Path.{sym, ◌∙◌, ap}
 use native.Mathlib.Omega.{arith}
 use lib.Seq.{length-take-le, drop_at}
+use Rattle.theory_laws.specs.Refusals.{answered}
 use Rattle.field_gf128.specs.Word.{word}
 use Rattle.theory_record.proofs.Offsets.{values_of_part}
 use Rattle.code_levels.proofs.Laying.{within}
@@ -36,12 +37,12 @@ returns c =
     let a = c.args in
     let es = c.level_length.ensures in
     let w = within p es in
-    let e = c.fold-a.ensures in
+    let e = c.fold.ensures in
     let room = length-take-le _ _ c.requires.1 in
-    let out = c.fold-a.auto.out ∙ room in
+    let out = c.fold.auto.out ∙ room in
     record {
-      value = fold-number _ _ _ _ _ _ e.value (length_of_part _ _ _ p.from= es _ (omega arith) ∙ ap (λ (x : ℕ). 2 * x) es) room;
+      value = fold-number _ _ _ _ _ _ _ e.value (length_of_part _ _ _ p.from= es _ (omega arith) ∙ ap (λ (x : ℕ). 2 * x) es) room;
       coordinates_after = e.coordinates_after;
-      half_after = fold-front _ c.fold-a.result.number a.var (word a.r) a.half.now _ _ _ _ out e.out_after (values_of_part _ _ _ p.from= es _);
-      half_unchanged = drop_at c.fold-a.new.out _ _ out;
+      half_after = fold-front _ (answered c.fold.result) a.var (word a.r) a.half.now _ _ _ _ out e.out_after (values_of_part _ _ _ p.from= es _);
+      half_unchanged = drop_at c.fold.new.out _ _ out;
     }

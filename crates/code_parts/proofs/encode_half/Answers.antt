@@ -11,12 +11,12 @@ use Rattle.code_parts.proofs.encode_half.Goals as goal
 
 pub copy_half-requires : goal.copy_half-requires
 copy_half-requires c =
-    let a = c.args in let z = c.requires.0 in (omega arith, omega (arith, z.sizes.table=, z.out=, halved a.n z.some))
+    let a = c.args in let z = c.requires.0 in (omega arith, omega (arith, z.table=, z.out=, halved a.code.now.n z.some))
 
 pub returns-then-half-lt2 : goal.returns-then-half-lt2
 returns-then-half-lt2 c =
     let a = c.args in let z = c.requires.0 in let table = a.table.now in
     ap words c.copy_half.ensures
     ∙ ap (λ (size : ℕ). words (part size (a.half * size) table)) z.out=
-    ∙ table_half (a.n - 1) a.n a.k a.half (words a.gammas.now) table (omega (arith, z.some)) (omega arith) z.sizes.table=
+    ∙ table_half (a.code.now.n - 1) a.code.now.n a.code.now.k a.half (words a.code.now.gammas.now) table (omega (arith, z.some)) (omega arith) z.table=
     (words-lt table (λ j. (c.type_inv.table j).fits))

@@ -5,12 +5,9 @@ use Rattle.theory_laws.proofs.Questions.{asks}
 use Rattle.code_parts.proofs.Lengths.{part-fits}
 use Rattle.code_parts.proofs.fold_part.Goals as goal
 
-pub returns-then-number-ne0 : goal.returns-then-number-ne0
-returns-then-number-ne0 c = record { value = search (asks, rules); out_after = search (asks, rules) }
-
 pub put_fold_part-requires : goal.put_fold_part-requires
 put_fold_part-requires c =
-    (part-fits _ _ _ _ _ _ _ c.fold_part_number-number.ensures c.if-number-ne0.false, refl)
+    (part-fits _ _ _ _ _ _ _ c.in_ok-fold_part_questions.ensures refl, refl)
 
 pub returns : goal.returns
 returns c = record { value = search (asks, rules); out_after = search (asks, rules) }

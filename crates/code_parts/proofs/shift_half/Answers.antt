@@ -24,21 +24,21 @@ low_word x = omega arith
 pub fold-requires : goal.fold-requires
 fold-requires c =
     let a = c.args in let z = c.requires.0 in (
-      has_bit a.n (a.n - 1) (length a.table.now) (omega (arith, z.some)) z.sizes.table=,
-      omega (arith, z.sizes.table=, z.out=, halved a.n z.some),
+      has_bit a.code.now.n (a.code.now.n - 1) (length a.table.now) (omega (arith, z.some)) z.table=,
+      omega (arith, z.table=, z.out=, halved a.code.now.n z.some),
       c.requires.1,
     )
 
 pub returns : goal.returns
 returns c =
-    let a = c.args in let z = c.requires.0 in let g = words a.gammas.now in
+    let a = c.args in let z = c.requires.0 in let g = words a.code.now.gammas.now in
     let t = words a.table.now in
-    let size = length-words-even a.table.now (2 ^ a.n) z.sizes.table= in
-    let u = fold_list (a.n - 1) (a.half % 2 ⊕ shift_at a.n a.k g (a.half / 2) (a.n - 1)) t in
+    let size = length-words-even a.table.now (2 ^ a.code.now.n) z.table= in
+    let u = fold_list (a.code.now.n - 1) (a.half % 2 ⊕ shift_at a.code.now.n a.code.now.k g (a.half / 2) (a.code.now.n - 1)) t in
     let folded : words c.fold.new.out ≡ u = c.fold.ensures
-    ∙ ap (λ (r : ℕ). fold_list (a.n - 1) r t) (c.add-r.ensures ∙ ap₂ ◌⊕◌ (low_word _) c.coordinate.ensures) in
+    ∙ ap (λ (r : ℕ). fold_list (a.code.now.n - 1) r t) (c.add-r.ensures ∙ ap₂ ◌⊕◌ (low_word _) c.coordinate.ensures) in
     c.shift_table.ensures u
-    (folded ∙ none_passed (a.n - 1) a.n a.k g (a.half / 2) u (length-fold_list _ _ t ∙ omega (arith, size, halved a.n z.some)))
-    ∙ all-passed (a.n - 1) a.n a.k g (a.half / 2) u
+    (folded ∙ none_passed (a.code.now.n - 1) a.code.now.n a.code.now.k g (a.half / 2) u (length-fold_list _ _ t ∙ omega (arith, size, halved a.code.now.n z.some)))
+    ∙ all-passed (a.code.now.n - 1) a.code.now.n a.code.now.k g (a.half / 2) u
     (fold_list-lt _ _ t (words-lt a.table.now (λ j. (c.type_inv.table j).fits)))
-    ∙ half-part (a.n - 1) a.n a.k a.half g t (omega (arith, z.some)) z.below size
+    ∙ half-part (a.code.now.n - 1) a.code.now.n a.code.now.k a.half g t (omega (arith, z.some)) z.below size

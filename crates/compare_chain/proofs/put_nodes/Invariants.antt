@@ -11,9 +11,8 @@ use Rattle.compare_chain.proofs.put_nodes.Given as goal
 
 abbrev pub invariant-loop-l : goal.invariant-loop-l
 invariant-loop-l l =
-    (l.l ≤ l.depth) × (length l.out ≡ length l.initial.out) × (l.at + (136 + length l.domain) * (l.depth - l.l) ≤ length l.out)
-    × (nodes_left (under l.mode) l.out l.at l.domain l.l (number l.g) l.d l.s l.path l.depth
-    ≡ stored l.initial.out l.from (flat (nodes_of (under l.mode) l.domain 0 (number l.initial.g) l.initial.d (runs 32 l.depth (drop l.path l.s)))))
-
-abbrev pub decreases-loop-l : goal.decreases-loop-l
-decreases-loop-l l = l.depth - l.l
+    record {
+      room : l.at + (136 + length l.hashing.domain.now) * (l.depth - l.l) ≤ length l.out;
+      left : nodes_left (under l.hashing.mode) l.out l.at l.hashing.domain.now l.l (number l.g) l.d l.s l.path l.depth
+          ≡ stored l.initial.out l.from (flat (nodes_of (under l.hashing.mode) l.hashing.domain.now 0 (number l.initial.g) l.initial.d (runs 32 l.depth (drop l.path l.s))));
+    }

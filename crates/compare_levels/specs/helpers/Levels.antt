@@ -1,7 +1,6 @@
 -- The levels of two records by the places at which their groups and paths stand, and what is known of two accepted records. Rests on
 -- what comparing finds of a group and a path.
-use Rattle.std.specs.Prelude.{ℕ, ◌+◌, ◌*◌, ◌<◌, ◌≡◌, Bool, true, false, List, length}
-use Rattle.theory_laws.specs.Questions.{pick}
+use Rattle.std.specs.Prelude.{ℕ, ◌+◌, ◌*◌, ◌<◌, ◌≡◌, List, length}
 use Rattle.theory_merkle.specs.Binding.{Found, or_else}
 use Rattle.theory_record.proofs.Query.{QueryAccepted}
 use Rattle.record_reader.specs.declared.Level.{Level}
@@ -10,21 +9,17 @@ use Rattle.compare_opening.specs.helpers.Messages.{found_at}
 use Rattle.theory_record.specs.Scheme.{Scheme}
 use Rattle.theory_compare.specs.Compare.{message_buffer}
 
--- of level l of the records s and t: path c, which is of the next level, or else path a
-unfoldable pub path_found : Scheme → ℕ → ℕ → Bool → List ℕ → Level → List ℕ → Level → Found
-path_found S l q next s x t y =
-    pick next
-    (found_at S (l + 1) q s x.c_group_at x.c_path_at t y.c_group_at y.c_path_at)
-    (found_at S l (2 * q) s x.a_group_at x.a_path_at t y.a_group_at y.a_path_at)
-
--- path a before path c
+-- of level l of the records s and t: path a before path c, which is of the next level
 unfoldable pub places_found : Scheme → ℕ → ℕ → List ℕ → Level → List ℕ → Level → Found
-places_found S l q s x t y = or_else (path_found S l q false s x t y) (path_found S l q true s x t y)
+places_found S l q s x t y =
+    or_else
+    (found_at S l (2 * q) s x.a.group_at x.a.path_at t y.a.group_at y.a.path_at)
+    (found_at S (l + 1) q s x.c.group_at x.c.path_at t y.c.group_at y.c.path_at)
 
 -- the groups and paths of level l at their places in s
 pub record LevelSized (S : Scheme) (l : ℕ) (s : List ℕ) (v : Level) : Type 0 where
-  pub a_sized : Sized S l s v.a_group_at v.a_path_at
-  pub c_sized : Sized S (l + 1) s v.c_group_at v.c_path_at
+  pub a_sized : Sized S l s v.a.group_at v.a.path_at
+  pub c_sized : Sized S (l + 1) s v.c.group_at v.c.path_at
 
 -- the same in s and in t, of a pair that there is, and room for a message of each
 pub record LevelsSized (S : Scheme) (l q : ℕ) (s : List ℕ) (x : Level) (t : List ℕ) (y : Level) (first second : List ℕ) : Type 0 where

@@ -11,18 +11,18 @@ slice_bounds-domain-end c =
     let h = room _ c.requires.0 in
     omega arith
 
-pub slice_bounds-put_chain-end : goal.slice_bounds-put_chain-end
-slice_bounds-put_chain-end c =
+pub slice_bounds-hashing-end : goal.slice_bounds-hashing-end
+slice_bounds-hashing-end c =
     let h = room _ c.requires.0 in
     message-length _ _ _ _ _ _ c.level_domain-d.ensures (omega arith)
 
-pub overflow_add-group_at : goal.overflow_add-group_at
-overflow_add-group_at c =
+pub overflow_add-at : goal.overflow_add-at
+overflow_add-at c =
     let h = room _ c.requires.0 in
     search rules
 
-pub overflow_add-path_at : goal.overflow_add-path_at
-overflow_add-path_at c =
+pub overflow_add-at-2 : goal.overflow_add-at-2
+overflow_add-at-2 c =
     let h = room _ c.requires.0 in
     search rules
 
@@ -36,7 +36,7 @@ put_chain-requires c =
       omega arith,
       omega arith,
       chain_fits _ c.requires.0 _ _ _ _
-          (record { domain-is = domain-there _ _ _ _ _ put (omega arith); width_is = c.level_width-width.ensures; depth_is = c.level_depth-depth.ensures })
+          (record { domain-is = domain-there _ _ _ _ _ put (omega arith); width_is = c.level_width.ensures; depth_is = c.level_depth-depth.ensures })
           c.requires.1,
       omega arith,
     )
@@ -47,6 +47,6 @@ returns c =
     let at = c.level_domain-d.ensures in
     record {
       value = omega (arith, at.end);
-      out_after = chain_written _ c.requires.0 _ _ _ _ _ _ _ c.put_chain.ensures (prefix-is _ _ _ _ _ at (omega arith)) c.level_length-count.ensures
-          c.level_width-width.ensures c.level_depth-depth.ensures;
+      out_after = chain_written _ c.requires.0 _ _ _ _ _ _ _ c.put_chain.ensures (prefix-is _ _ _ _ _ at (omega arith)) c.level_length.ensures
+          c.level_width.ensures c.level_depth-depth.ensures;
     }

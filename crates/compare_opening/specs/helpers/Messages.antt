@@ -4,12 +4,10 @@
 use Rattle.std.specs.Prelude.{ℕ, ◌+◌, ◌*◌, ◌≡◌, List, length}
 use Rattle.theory_laws.specs.Lists.{flat}
 use Rattle.theory_merkle.specs.Binding.{Found, messages_of}
-use Rattle.theory_record.specs.declared.Trees.{Trees}
 use Rattle.theory_record.specs.Widths.{widest}
 use Rattle.theory_record.specs.Domain.{domain_room}
-use Rattle.theory_record.specs.Scheme.{Scheme, scheme, length_at, width_at, domain_at}
+use Rattle.theory_record.specs.Scheme.{Scheme, length_at, width_at, domain_at}
 use Rattle.record_opening.specs.helpers.Opening.{values_at, digests_at, Sized}
-use Rattle.theory_compare.specs.Lent.{Slice}
 use Rattle.theory_compare.specs.Compare.{opening_found, message_buffer}
 
 -- the length of a buffer for all of them, 9,098: a leaf message of the most values under the longest level domain, and 24 node messages
@@ -28,14 +26,6 @@ chain_at S l place s group path = flat (level_messages S l place (values_at s gr
 abbrev pub found_at : Scheme → ℕ → ℕ → List ℕ → ℕ → ℕ → List ℕ → ℕ → ℕ → Found
 found_at S l place s sgroup spath t tgroup tpath =
     opening_found S l place (values_at s sgroup) (digests_at s spath) (values_at t tgroup) (digests_at t tpath)
-
--- the same, of records and a base domain that are lent
-abbrev pub chain_lent : Slice → Trees → ℕ → ℕ → ℕ → ℕ → Slice → ℕ → ℕ → List ℕ
-chain_lent base how n k l place s group path = chain_at (scheme how base.entry.now n k) l place s.entry.now group path
-
-abbrev pub found_lent : Slice → Trees → ℕ → ℕ → ℕ → ℕ → Slice → ℕ → ℕ → Slice → ℕ → ℕ → Found
-found_lent base how n k l place s sgroup spath t tgroup tpath =
-    found_at (scheme how base.entry.now n k) l place s.entry.now sgroup spath t.entry.now tgroup tpath
 
 -- the groups and the paths are there, of the level's width and depth, and so is room for a message of each
 pub record BothSized (S : Scheme) (l : ℕ) (s : List ℕ) (sgroup spath : ℕ) (t : List ℕ) (tgroup tpath : ℕ) (first second : List ℕ) : Type 0 where

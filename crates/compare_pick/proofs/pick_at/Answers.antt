@@ -8,4 +8,4 @@ returns-then-same_bytes c = picked_same _ _ _ _ _ _ _ c.same_bytes.ensures c.if-
 pub returns : goal.returns
 returns c =
     let p = c.requires in picked_differ _ _ _ _ _ _ _ _ _ c.same_bytes.ensures c.if-same_bytes.false c.put_message.ensures
-    c.put_message-2.ensures p.0 p.2 p.3
+    c.put_message-2.ensures p.2 p.3

@@ -1,7 +1,5 @@
 -- `compare_pick::pick_last` meets its contract. The loop's invariant: above message i nothing was found, so that the buffers are as they were.
-use Prim.Native.Nat.{◌≤◌}
 use mathlib.Core.Path.{◌≡◌}
-use lib.ListN.{length}
 use Rattle.theory_merkle.specs.Binding.{last_differing}
 use Rattle.compare_pick.specs.helpers.Chains.{chain_of}
 use Rattle.compare_pick.proofs.Chains.{found_below}
@@ -9,8 +7,8 @@ use Rattle.compare_pick.proofs.pick_last.Given as goal
 
 abbrev pub invariant-loop-i : goal.invariant-loop-i
 invariant-loop-i l =
-    (l.i ≤ l.depth) × (length l.first ≡ length l.initial.first) × (length l.second ≡ length l.initial.second) × (l.first ≡ l.initial.first) × (l.second ≡ l.initial.second)
-    × (found_below l.leaf l.node l.i l.a l.b ≡ last_differing (chain_of l.leaf l.node l.depth l.a) (chain_of l.leaf l.node l.depth l.b))
-
-abbrev pub decreases-loop-i : goal.decreases-loop-i
-decreases-loop-i l = l.i
+    record {
+      first_same : l.first ≡ l.initial.first;
+      second_same : l.second ≡ l.initial.second;
+      found : found_below l.leaf l.node l.i l.a l.b ≡ last_differing (chain_of l.leaf l.node l.depth l.a) (chain_of l.leaf l.node l.depth l.b);
+    }

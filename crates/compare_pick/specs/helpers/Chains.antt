@@ -1,9 +1,9 @@
 -- Two chains of messages lent end to end, and what is left where the messages that differ are looked for. Rests on merkle's lists of
 -- messages and on comparing's buffers.
-use Rattle.std.specs.Prelude.{ℕ, ◌+◌, ◌*◌, ◌≤◌, ◌<◌, ◌≡◌, List, ◌∷◌, length, drop}
+use Rattle.std.specs.Prelude.{ℕ, ◌+◌, ◌*◌, ◌≤◌, ◌<◌, ◌≡◌, Option, MatchOption, List, ◌∷◌, length, drop}
 use Rattle.theory_laws.specs.Lists.{part, runs}
-use Rattle.theory_merkle.specs.Binding.{Found, none}
-use Rattle.theory_compare.specs.Compare.{first_of, second_of, first_buffer, second_buffer, message_buffer}
+use Rattle.theory_merkle.specs.Binding.{Found, none, pair}
+use Rattle.theory_compare.specs.Compare.{first_buffer, second_buffer, message_buffer}
 use Rattle.theory_compare.specs.Lent.{MutSlice}
 
 -- a chain: a message of the length `leaf`, and as many as `depth` of the length `node`
@@ -21,16 +21,19 @@ pub record Chains (leaf node depth : ℕ) (a b first second : List ℕ) : Type 0
   pub first-room : length first ≡ message_buffer
   pub second_room : length second ≡ message_buffer
 
--- what was found, in buffers that were old and old' and are new and new', and as the answer r its length, one for both messages; 0: nothing
-pub record Picked (f : Found) (old old' new new' : List ℕ) (r : ℕ) : Type 0 where
+-- the length of what was found, one for both messages
+abbrev pub IsLong : Found → ℕ → Type 0
+IsLong none n = ⊥
+IsLong (pair m m') n = (n ≡ length m) × (n ≡ length m')
+
+-- what was found, in buffers that were old and old' and are new and new', and as the answer r its length; None: nothing
+pub record Picked (f : Found) (old old' new new' : List ℕ) (r : Option ℕ) : Type 0 where
   pub first-is : new ≡ first_buffer f old
   pub second_is : new' ≡ second_buffer f old'
-  pub first-long : r ≡ length (first_of f)
-  pub second_long : r ≡ length (second_of f)
-  pub none_is : r ≡ 0 → f ≡ none
+  pub answer : MatchOption r (f ≡ none) (λ n. IsLong f n)
 
 -- in two buffers, as they are at a function's entry and exit
-abbrev pub PickedIn : Found → MutSlice → MutSlice → ℕ → Type 0
+abbrev pub PickedIn : Found → MutSlice → MutSlice → Option ℕ → Type 0
 PickedIn f first second r = Picked f first.entry.now second.entry.now first.exit.now second.exit.now r
 
 -- a message of each of two chains, not empty, is there, of chains so long, and has room in buffers so long

@@ -3,6 +3,7 @@ use Rattle.std.specs.Prelude.{ℕ, ◌+◌, ◌*◌, ◌^◌, not, List, [], ◌
 use Rattle.theory_laws.specs.Questions.{Question, ◌asks◌, first_no}
 use Rattle.theory_laws.specs.Lists.{same}
 use Rattle.theory_record.specs.declared.Trees.{Trees}
+use Rattle.theory_record.specs.declared.Deposit.{Deposit}
 use Rattle.theory_record.specs.Query.{size_questions}
 use Rattle.theory_compare.specs.Lent.{Slice}
 use Rattle.theory_compare.specs.Compare.{accepts, message_buffer}
@@ -34,7 +35,7 @@ record_questions base how n k position challenges roots first second =
 unfoldable pub records_number : List ℕ → Trees → ℕ → ℕ → ℕ → List ℕ → List ℕ → List ℕ → List ℕ → ℕ
 records_number base how n k position challenges roots first second = first_no (record_questions base how n k position challenges roots first second)
 
--- the same, of what is lent
-abbrev pub records_lent : Slice → Trees → ℕ → ℕ → ℕ → Slice → Slice → Slice → Slice → ℕ
-records_lent base how n k position challenges roots first second =
-    records_number base.entry.now how n k position challenges.entry.now roots.entry.now first.entry.now second.entry.now
+-- the same, of a deposit and of what is lent
+abbrev pub records_lent : Deposit → ℕ → Slice → Slice → Slice → Slice → ℕ
+records_lent deposit position challenges roots first second =
+    records_number deposit.base.now deposit.how deposit.n deposit.k position challenges.entry.now roots.entry.now first.entry.now second.entry.now

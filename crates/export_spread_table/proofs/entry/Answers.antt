@@ -10,7 +10,7 @@ use Rattle.export_spread_table.proofs.entry.Goals as goal
 
 pub loop-i-init : goal.loop-i-init
 unfolding spread
-loop-i-init c = (omega arith, refl)
+loop-i-init c = refl
 
 -- bit i, put at bit 2i
 one_more : (v i e : ℕ) → i < 8 → e ≡ spread i v → e ⊕ bit i v * 2 ^ (2 * i) % 2 ^ 64 ≡ spread (i + 1) v
@@ -19,9 +19,4 @@ one_more v i e h s = ap₂ ◌⊕◌ s (shl_exact 1 (2 * i) 64 (omega arith) (om
 pub loop-i-preserved : goal.loop-i-preserved
 unfolding ◌⊕◌
 loop-i-preserved c =
-    let v = c.args.v in (omega arith, one_more v c.loop-i.i c.loop-i.e c.loop-i-test.true c.loop-i.invariant.1)
-
-pub returns : goal.returns
-returns c =
-    let all : c.loop-i.i ≡ 8 = omega arith in
-    rw all at c.loop-i.invariant.1
+    one_more c.args.v c.loop-i.i c.loop-i.e c.loop-i-test.true c.loop-i.invariant

@@ -12,8 +12,8 @@ use Rattle.export_tail_entries.proofs.folded.Goals as goal
 pub overflow_mul-whole : goal.overflow_mul-whole
 overflow_mul-whole c = omega (arith, power_small {e = c.args.m + c.args.k} (omega arith))
 
-pub slice_bounds-from-end : goal.slice_bounds-from-end
-slice_bounds-from-end c = omega (arith, power_small {e = c.args.m + c.args.k} (omega arith))
+pub slice_bounds-level-end : goal.slice_bounds-level-end
+slice_bounds-level-end c = omega (arith, power_small {e = c.args.m + c.args.k} (omega arith))
 
 pub slice_bounds-fold_into-end : goal.slice_bounds-fold_into-end
 slice_bounds-fold_into-end c = sym (length-take-le _ _

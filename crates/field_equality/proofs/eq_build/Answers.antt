@@ -18,7 +18,6 @@ pub loop-i-init : goal.loop-i-init
 unfolding word
 loop-i-init c =
     let a = c.args in (
-      omega arith,
       refl,
       refl,
       refl,
@@ -27,25 +26,24 @@ loop-i-init c =
 
 pub eq_double-requires : goal.eq_double-requires
 eq_double-requires c =
-    (omega (arith, room c.loop-i.i _ c.loop-i.len c.loop-i-test.true c.loop-i.invariant.1), search rules)
+    (omega (arith, room c.loop-i.i _ c.loop-i.len c.loop-i-test.true c.loop-i.invariant.0), search rules)
 
 pub overflow_add-len : goal.overflow_add-len
 overflow_add-len c =
-    record { fits = omega (arith, room c.loop-i.i _ c.loop-i.len c.loop-i-test.true c.loop-i.invariant.1, pow_mono {j = 20} c.requires.0.coordinates) }
+    record { fits = omega (arith, room c.loop-i.i _ c.loop-i.len c.loop-i-test.true c.loop-i.invariant.0, pow_mono {j = 20} c.requires.0.coordinates) }
 
 pub loop-i-preserved : goal.loop-i-preserved
 loop-i-preserved c = (
-  search rules,
   rw add-one (omega arith),
   search rules,
   search rules,
   begins-more (words c.args.point.now) (words c.loop-i.out) _ c.loop-i.i c.loop-i.len _
       (omega (arith, length-words c.args.point.now))
-      c.loop-i.invariant.1
-      (omega (arith, room c.loop-i.i _ c.loop-i.len c.loop-i-test.true c.loop-i.invariant.1, length-words c.loop-i.out))
+      c.loop-i.invariant.0
+      (omega (arith, room c.loop-i.i _ c.loop-i.len c.loop-i-test.true c.loop-i.invariant.0, length-words c.loop-i.out))
       c.get-z.ensures
       c.eq_double.ensures
-      c.loop-i.invariant.4,
+      c.loop-i.invariant.3,
 )
 
 pub returns : goal.returns
@@ -54,4 +52,4 @@ returns c =
     begins-all (words c.args.point.now) (words c.loop-i.out) c.args.n
     (length-words-even c.args.point.now c.args.n c.requires.0.of_point)
     (length-words-even c.loop-i.out (2 ^ c.args.n) (omega arith))
-    (rw z at c.loop-i.invariant.4)
+    (rw z at c.loop-i.invariant.3)

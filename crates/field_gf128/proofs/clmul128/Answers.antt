@@ -2,7 +2,6 @@
 use mathlib.Core.Path.{ap₂, ◌∙◌}
 use Prim.Native.Nat.{◌<◌, ◌^◌}
 use native.Mathlib.Omega.{arith}
-use borrow.Author.Rules.{rules}
 use Rattle.theory_laws.specs.Xor.{◌⊕◌}
 use Rattle.field_gf128.specs.declared.Word.{Word}
 use Rattle.field_gf128.specs.Word.{word, wide}

@@ -3,7 +3,6 @@ use mathlib.Core.Path.{◌≡◌, refl, sym, ap, ap₂, ◌∙◌, subst}
 use Prim.Native.Nat.{ℕ, ◌+◌, ◌-◌, ◌*◌, ◌/◌, ◌%◌, ◌^◌, ◌≤◌, ◌<◌}
 use native.Mathlib.Nat.{lt_of_lt_of_le, zero-add, div-one}
 use native.Mathlib.Omega.{arith}
-use borrow.Author.Rules.{rules}
 use lib.Bits.{bit_and, and_mask}
 use lib.Pow.{pow_mono}
 use Rattle.theory_laws.specs.Xor.{◌⊕◌}
@@ -20,11 +19,11 @@ multiples-t-requires c = c.requires
 
 pub loop-j-init : goal.loop-j-init
 unfolding word long
-loop-j-init c = (omega arith, refl)
+loop-j-init c = refl
 
 pub shl4-requires : goal.shl4-requires
 shl4-requires c =
-    subst (λ (x : ℕ). x < 2 ^ 124) (sym c.loop-j.invariant.1)
+    subst (λ (x : ℕ). x < 2 ^ 124) (sym c.loop-j.invariant)
     (lt_of_lt_of_le (long_lt (4 * c.loop-j.j) 61 c.args.a (c.args.b / 2 ^ (64 - 4 * c.loop-j.j)) c.requires) (pow_mono (le c.loop-j.j (omega arith))))
   where
     le : (j : ℕ) → j ≤ 15 → 61 + 4 * j ≤ 124
@@ -45,16 +44,14 @@ unfolding word
 loop-j-preserved c =
     let a = c.args in let v = a.b / 2 ^ (60 - 4 * c.loop-j.j) in
     let entry : at c.multiples-t.result (bit_and v 15) ≡ long 4 a.a (v % 16) =
-    ap (λ t. at t (bit_and v 15)) c.multiples-t.ensures ∙ at-tab 16 (long 4 a.a) (bit_and v 15) (window-lt v) ∙ ap (long 4 a.a) (and_mask v 4) in (
-      omega arith,
-      c.add-p.ensures
-          ∙ ap₂ ◌⊕◌ (c.shl4.ensures ∙ ap (λ (x : ℕ). x * 16) c.loop-j.invariant.1) (zero-add (at c.multiples-t.result (bit_and v 15)) ∙ entry)
-          ∙ sym (window a.a a.b c.loop-j.j (omega arith)),
-    )
+    ap (λ t. at t (bit_and v 15)) c.multiples-t.ensures ∙ at-tab 16 (long 4 a.a) (bit_and v 15) (window-lt v) ∙ ap (long 4 a.a) (and_mask v 4) in
+    c.add-p.ensures
+    ∙ ap₂ ◌⊕◌ (c.shl4.ensures ∙ ap (λ (x : ℕ). x * 16) c.loop-j.invariant) (zero-add (at c.multiples-t.result (bit_and v 15)) ∙ entry)
+    ∙ sym (window a.a a.b c.loop-j.j (omega arith))
 
 pub returns : goal.returns
 returns c =
-    let a = c.args in c.loop-j.invariant.1 ∙ ap (λ (j : ℕ). long (4 * j) a.a (a.b / 2 ^ (64 - 4 * j))) z ∙ ap (long 64 a.a) (div-one a.b)
+    let a = c.args in c.loop-j.invariant ∙ ap (λ (j : ℕ). long (4 * j) a.a (a.b / 2 ^ (64 - 4 * j))) z ∙ ap (long 64 a.a) (div-one a.b)
   where
     z : c.loop-j.j ≡ 16
     z = omega arith

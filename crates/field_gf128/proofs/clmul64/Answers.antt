@@ -2,7 +2,6 @@
 use mathlib.Core.Path.{ap, ap₂, ◌∙◌}
 use Prim.Native.Nat.{ℕ}
 use native.Mathlib.Omega.{arith}
-use borrow.Author.Rules.{rules}
 use lib.Bits.{and_mask}
 use Rattle.theory_laws.specs.Xor.{◌⊕◌}
 use Rattle.theory_field.specs.LongProduct.{long}

@@ -1,7 +1,6 @@
 -- `field_gf128::double` meets its contract: shifted across the halves, and reduced in the low one.
 use mathlib.Core.Path.{refl}
 use native.Mathlib.Omega.{arith}
-use borrow.Author.Rules.{rules}
 use Rattle.theory_field.specs.Field.{reduction}
 use Rattle.field_gf128.specs.Word.{word}
 use Rattle.field_gf128.proofs.Halves.{double-halves}

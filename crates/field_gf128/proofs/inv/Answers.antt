@@ -1,7 +1,6 @@
 -- `field_gf128::inv` meets its contract: 0 is refused, and every other word has the power as its inverse.
 use mathlib.Core.Path.{sym, ap, ◌∙◌}
 use Prim.Native.Nat.{ℕ}
-use borrow.Author.Rules.{rules}
 use Rattle.field_gf128.specs.Word.{word}
 use Rattle.field_gf128.specs.Inverse.{answer, refusal, inverse_of}
 use Rattle.field_gf128.proofs.Inverting.{answered, or_zero, zero_or}
@@ -11,9 +10,6 @@ pub returns-then-a-eq0 : goal.returns-then-a-eq0
 unfolding answer word inverse_of refusal
 returns-then-a-eq0 c =
     let a = c.args.a in rw (or_zero a.hi a.lo c.if-a-eq0.true)
-
-pub power-requires : goal.power-requires
-power-requires c = c.spread_table-t.ensures
 
 pub returns : goal.returns
 unfolding answer

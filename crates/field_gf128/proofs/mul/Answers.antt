@@ -1,7 +1,6 @@
 -- `field_gf128::mul` meets its contract: the product of words is the carry-less product, reduced.
 use mathlib.Core.Path.{sym, ap, ◌∙◌}
 use native.Mathlib.Omega.{arith}
-use borrow.Author.Rules.{rules}
 use Rattle.theory_field.proofs.LongProduct.{red, ⊗-red}
 use Rattle.field_gf128.specs.Word.{word}
 use Rattle.field_gf128.proofs.Halves.{word_lt}

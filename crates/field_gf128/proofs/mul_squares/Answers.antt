@@ -1,6 +1,5 @@
 -- `field_gf128::mul_squares` meets its contract.
 use mathlib.Core.Path.{ap, ◌∙◌}
-use borrow.Author.Rules.{rules}
 use Rattle.theory_field.specs.Field.{◌⊗◌}
 use Rattle.field_gf128.specs.Word.{word}
 use Rattle.field_gf128.proofs.mul_squares.Goals as goal

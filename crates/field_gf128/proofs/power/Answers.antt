@@ -2,7 +2,6 @@
 use mathlib.Core.Path.{◌≡◌, sym, ap, ap₂, ◌∙◌}
 use Prim.Native.Nat.{ℕ, ◌+◌}
 use native.Mathlib.Omega.{arith}
-use borrow.Author.Rules.{rules}
 use Rattle.theory_field.specs.Field.{◌⊗◌, sq, frob, ladder}
 use Rattle.theory_field.proofs.Inverse.{frob-once, ladder-one, ladder-add, inverse-sq}
 use Rattle.field_gf128.specs.Word.{word}

@@ -1,6 +1,5 @@
 -- `field_gf128::square_by_table` meets its contract: one square of a run.
 use mathlib.Core.Path.{◌∙◌}
-use borrow.Author.Rules.{rules}
 use Rattle.theory_field.proofs.Inverse.{frob-once}
 use Rattle.field_gf128.specs.Word.{word}
 use Rattle.field_gf128.proofs.square_by_table.Goals as goal

@@ -1,9 +1,8 @@
 -- `tables::fill` meets its contract. The loop's invariant: the first j rows stand there, and d is r times x^(b × j), while that is a word.
-use mathlib.Core.Path.{◌≡◌, refl, subst}
-use Prim.Native.Nat.{ℕ, suc, ◌+◌, ◌-◌, ◌*◌, ◌%◌, ◌^◌, ◌≤◌, ◌<◌}
+use mathlib.Core.Path.{◌≡◌, subst}
+use Prim.Native.Nat.{ℕ, suc, ◌+◌, ◌*◌, ◌%◌, ◌^◌, ◌≤◌, ◌<◌}
 use native.Mathlib.Nat.{mul-le-mul_left, mul-le-mul_right, suc-mul}
 use native.Mathlib.Omega.{arith}
-use lib.ListN.{length}
 use Rattle.theory_field.specs.Field.{◌⊗◌}
 use Rattle.theory_field.specs.Words.{words}
 use Rattle.field_gf128.specs.Word.{word}
@@ -30,8 +29,6 @@ pub loop-j-init : goal.loop-j-init
 unfolding word
 loop-j-init c =
     let a = c.args in (
-      omega arith,
-      refl,
       λ h. first_power a.b (word a.r) (joined-lt a.r.hi a.r.lo (omega arith) (omega arith)),
       no_rows a.b (word a.r) (words a.t.now),
     )
@@ -43,14 +40,12 @@ row-d-requires c =
 pub loop-j-preserved : goal.loop-j-preserved
 loop-j-preserved c =
     let a = c.args in let fits = (room a.b c.loop-j.j a.rows (omega arith)).1 in
-    let d : word c.loop-j.d ≡ word a.r ⊗ 2 ^ (a.b * c.loop-j.j) = c.loop-j.invariant.2 (omega (arith, fits)) in (
-      omega arith,
-      omega (arith, c.row-d.auto.t),
+    let d : word c.loop-j.d ≡ word a.r ⊗ 2 ^ (a.b * c.loop-j.j) = c.loop-j.invariant.0 (omega (arith, fits)) in (
       λ h. next_power a.b c.loop-j.j (word a.r) (word c.loop-j.d) (word c.row-d.result) h d c.row-d.ensures.0,
       next_row a.b c.loop-j.j (word a.r) (word c.loop-j.d) (words c.loop-j.t) (words c.row-d.new.t) (omega (arith, fits)) d
-          (subst (λ k. Row a.b k (word c.loop-j.d) (words c.loop-j.t) (words c.row-d.new.t)) (from (goal.at.loop-j-preserved c).In-loop-j) c.row-d.ensures.1) c.loop-j.invariant.3,
+          (subst (λ k. Row a.b k (word c.loop-j.d) (words c.loop-j.t) (words c.row-d.new.t)) (from (goal.at.loop-j-preserved c).In-loop-j) c.row-d.ensures.1) c.loop-j.invariant.1,
     )
 
 pub returns : goal.returns
 returns c =
-    let a = c.args in subst (λ j. Multiples a.b (j * 2 ^ a.b) (word a.r) (words c.loop-j.t)) (let z : c.loop-j.j ≡ a.rows = omega arith in z) c.loop-j.invariant.3
+    let a = c.args in subst (λ j. Multiples a.b (j * 2 ^ a.b) (word a.r) (words c.loop-j.t)) (let z : c.loop-j.j ≡ a.rows = omega arith in z) c.loop-j.invariant.1

@@ -1,14 +1,11 @@
 -- `tables::half` meets its contract. The loop's invariant: what is left of h, moved to its place, times r, and the sum so far give
 -- the product.
 use mathlib.Core.Path.{◌≡◌, ap, ◌∙◌}
-use Prim.Native.Nat.{ℕ, suc, ◌+◌, ◌-◌, ◌*◌, ◌/◌, ◌^◌, ◌≤◌}
+use Prim.Native.Nat.{suc, ◌+◌, ◌*◌, ◌/◌, ◌^◌, ◌≤◌}
 use native.Mathlib.Omega.{arith}
-use borrow.Author.Rules.{rules}
-use Rattle.theory_laws.specs.Xor.{◌⊕◌}
 use Rattle.theory_field.specs.Field.{◌⊗◌}
 use Rattle.theory_field.specs.Words.{words}
 use Rattle.field_gf128.specs.Word.{word}
-use Rattle.field_multiples.specs.helpers.Multiples.{Multiples}
 use Rattle.field_multiples.proofs.Products.{first-window, next-window, shifted-window, last-window, rows-within, row_below}
 use Rattle.field_multiples.proofs.half.Goals as goal
 use Rattle.field_multiples.proofs.half.Goals.{In-loop-i}
@@ -21,7 +18,7 @@ module _ (c : In-loop-i) where
 pub loop-i-init : goal.loop-i-init
 unfolding word
 loop-i-init c =
-    let a = c.args in (omega arith, (first-window a.b a.j 0 a.h).0, λ r m. (first-window a.b a.j r a.h).1)
+    let a = c.args in ((first-window a.b a.j 0 a.h).0, λ r m. (first-window a.b a.j r a.h).1)
 
 pub overflow_add-j : goal.overflow_add-j
 overflow_add-j c = omega (arith, within c, row_below c.args.b (c.args.j + c.loop-i.i))
@@ -32,17 +29,16 @@ entry-requires c = (c.requires.0, omega (arith, within c))
 pub loop-i-preserved : goal.loop-i-preserved
 loop-i-preserved c =
     let a = c.args in (
-      omega arith,
-      shifted-window a.b c.loop-i.i c.loop-i.x a.h c.loop-i.invariant.1,
+      shifted-window a.b c.loop-i.i c.loop-i.x a.h c.loop-i.invariant.0,
       λ r m.
           let z : a.j + (c.loop-i.i + 1) ≡ a.j + c.loop-i.i + 1 = omega arith in
           rw (c.add-p.ensures, c.entry.ensures, z)
           (next-window a.b ((a.j + a.n) * 2 ^ a.b) (a.j + c.loop-i.i) r (word c.loop-i.p) c.loop-i.x (r ⊗ (a.h * 2 ^ (a.b * a.j))) (words a.t.now) m
-          (within (goal.at.loop-i-preserved c).In-loop-i) (c.loop-i.invariant.2 r m)),
+          (within (goal.at.loop-i-preserved c).In-loop-i) (c.loop-i.invariant.1 r m)),
     )
 
 pub returns : goal.returns
 returns c r m =
     let a = c.args in let z : c.loop-i.i ≡ a.n = omega arith in
     last-window a.b a.n r (word c.loop-i.p) c.loop-i.x a.h (a.b * (a.j + c.loop-i.i)) (r ⊗ (a.h * 2 ^ (a.b * a.j)))
-    (c.loop-i.invariant.1 ∙ ap (λ i. a.h / 2 ^ (a.b * i)) z) c.requires.1 (omega arith) (c.loop-i.invariant.2 r m)
+    (c.loop-i.invariant.0 ∙ ap (λ i. a.h / 2 ^ (a.b * i)) z) c.requires.1 (omega arith) (c.loop-i.invariant.1 r m)

@@ -1,12 +1,9 @@
 -- `tables::row` meets its contract. The loop's invariant: the products with the numbers of i bits stand there, and d is w times x^i.
 use mathlib.Core.Path.{◌≡◌, refl, sym, ap, ◌∙◌, subst}
-use mathlib.Core.List.{List}
-use Prim.Native.Nat.{ℕ, suc, ◌+◌, ◌-◌, ◌^◌, ◌≤◌, ◌<◌}
+use Prim.Native.Nat.{ℕ, suc, ◌+◌, ◌^◌, ◌≤◌, ◌<◌}
 use native.Mathlib.Nat.{pow-suc}
 use native.Mathlib.Numerals.{add-one}
 use native.Mathlib.Omega.{arith}
-use borrow.Author.Rules.{rules}
-use lib.ListN.{length}
 use lib.Pow.{pow_pos, pow_mono}
 use Rattle.theory_field.specs.Field.{xtime, ◌⊗◌}
 use Rattle.theory_field.specs.Words.{words}
@@ -29,27 +26,25 @@ put-requires c = omega (arith, pow_pos c.args.b)
 pub loop-i-init : goal.loop-i-init
 unfolding word
 loop-i-init c =
-    let w = c.args.w in (omega arith, refl, refl, sym (⊗-one (word w) (joined-lt w.hi w.lo (omega arith) (omega arith))), λ ws row. row)
+    let w = c.args.w in (refl, sym (⊗-one (word w) (joined-lt w.hi w.lo (omega arith) (omega arith))), λ ws row. row)
 
 pub copy_plus-requires : goal.copy_plus-requires
 copy_plus-requires c =
-    omega (arith, room c.loop-i.i c.args.b c.loop-i-test.true, c.put.auto.s)
+    omega (arith, room c.loop-i._i c.args.b c.loop-i-test.true, c.put.auto.s)
 
 pub overflow_add-n : goal.overflow_add-n
 overflow_add-n c =
-    omega (arith, room c.loop-i.i c.args.b (omega arith))
+    omega (arith, room c.loop-i._i c.args.b (omega arith))
 
 pub loop-i-preserved : goal.loop-i-preserved
 loop-i-preserved c =
     let a = c.args in (
-      omega arith,
-      omega (arith, c.copy_plus.auto.t),
-      omega (arith, pow-suc 2 c.loop-i.i, ap (λ e. 2 ^ e) (add-one c.loop-i.i)),
-      c.double-d.ensures ∙ ap xtime c.loop-i.invariant.3 ∙ xtime-pow c.loop-i.i (word a.w) (omega arith) ∙ ap (λ e. word a.w ⊗ 2 ^ e) (sym (add-one c.loop-i.i)),
+      omega (arith, pow-suc 2 c.loop-i._i, ap (λ e. 2 ^ e) (add-one c.loop-i._i)),
+      c.double-d.ensures ∙ ap xtime c.loop-i.invariant.1 ∙ xtime-pow c.loop-i._i (word a.w) (omega arith) ∙ ap (λ e. word a.w ⊗ 2 ^ e) (sym (add-one c.loop-i._i)),
       λ ws row.
-          row_more a.from c.loop-i.i (word a.w) ws (words c.loop-i.t) (words c.copy_plus.new.t) (c.loop-i.invariant.4 ws row)
-          (subst (λ n. Copied a.from n n (word a.w ⊗ 2 ^ c.loop-i.i) (words c.loop-i.t) (words c.copy_plus.new.t)) c.loop-i.invariant.2
-          (subst (λ d. Copied a.from c.loop-i.n c.loop-i.n d (words c.loop-i.t) (words c.copy_plus.new.t)) c.loop-i.invariant.3 c.copy_plus.ensures)),
+          row_more a.from c.loop-i._i (word a.w) ws (words c.loop-i.t) (words c.copy_plus.new.t) (c.loop-i.invariant.2 ws row)
+          (subst (λ n. Copied a.from n n (word a.w ⊗ 2 ^ c.loop-i._i) (words c.loop-i.t) (words c.copy_plus.new.t)) c.loop-i.invariant.0
+          (subst (λ d. Copied a.from c.loop-i.n c.loop-i.n d (words c.loop-i.t) (words c.copy_plus.new.t)) c.loop-i.invariant.1 c.copy_plus.ensures)),
     )
 
 pub shape_of-t : goal.shape_of-t
@@ -59,10 +54,10 @@ shape_of-t c =
 pub returns : goal.returns
 unfolding word
 returns c =
-    let a = c.args in let z : c.loop-i.i ≡ a.b = omega arith in (
-      c.loop-i.invariant.3 ∙ ap (λ i. word a.w ⊗ 2 ^ i) z,
+    let a = c.args in let z : c.loop-i._i ≡ a.b = omega arith in (
+      c.loop-i.invariant.1 ∙ ap (λ i. word a.w ⊗ 2 ^ i) z,
       subst (λ i. Row i a.from (word a.w) (words a.t.now) (words c.loop-i.t)) z
-          (c.loop-i.invariant.4 (words a.t.now)
+          (c.loop-i.invariant.2 (words a.t.now)
           (subst (Row 0 a.from (word a.w) (words a.t.now)) (sym c.put.ensures)
           (row_start a.from (word a.w) 0 (words a.t.now) (omega (arith, length-words a.t.now, pow_pos a.b)) refl))),
     )

@@ -2,7 +2,6 @@
 use mathlib.Core.Path.{◌∙◌}
 use Prim.Native.Nat.{◌^◌, ◌<◌}
 use native.Mathlib.Omega.{arith}
-use borrow.Author.Rules.{rules}
 use Rattle.theory_laws.proofs.Xor.{⊕_comm}
 use Rattle.theory_field.specs.Words.{words}
 use Rattle.field_gf128.specs.Word.{word}

@@ -4,21 +4,14 @@ use Rattle.std.specs.Prelude.{◌≡◌, List, ℕ, ◌+◌, ◌*◌, ◌/◌, �
 use Rattle.theory_laws.specs.Table.{at}
 use Rattle.theory_field.specs.Field.{◌⊗◌}
 use Rattle.theory_field.specs.Words.{words}
-use Rattle.field_multiples.specs.declared.Kernel.{Kernel}
-use Rattle.field_multiples.specs.declared.Kernel.TheVariants.{Nibbles, Bytes}
 
 -- what entry k stands for in a table with windows of b bits: the number k % 2^b at place b × (k / 2^b)
 unfoldable pub window : ℕ → ℕ → ℕ
 window b k = k % 2 ^ b * 2 ^ (b * (k / 2 ^ b))
 
 -- the first n entries are the products of r with what they stand for
-unfoldable pub Multiples : ℕ → ℕ → ℕ → List ℕ → Type 0
+abbrev pub Multiples : ℕ → ℕ → ℕ → List ℕ → Type 0
 Multiples b n r ws = (k : ℕ) → k < n → at ws k ≡ r ⊗ window b k
-
--- the bits of a kernel's windows
-abbrev pub bits_of : Kernel → ℕ
-bits_of Nibbles = 4
-bits_of Bytes = 8
 
 -- a slice with room for any of the tables: 64 KiB
 abbrev pub Room : List ℕ → Type 0

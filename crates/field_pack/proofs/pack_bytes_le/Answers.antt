@@ -1,4 +1,4 @@
--- `pack::pack_bytes_le` meets its contract: two halves are a word.
+-- `field_pack::pack_bytes_le` meets its contract: two halves are a word.
 use mathlib.Core.Path.{◌≡◌, ap, ap₂, ◌∙◌}
 use Prim.Native.Nat.{ℕ, ◌+◌, ◌^◌}
 use native.Mathlib.Omega.{arith}

@@ -1,4 +1,4 @@
--- `pack::phi_tab_apply` meets its contract: the halves' nibbles are the word's, and of the tables of c they choose phi.
+-- `field_pack::phi_tab_apply` meets its contract: the halves' nibbles are the word's, and of the tables of c they choose phi.
 use mathlib.Core.Path.{◌≡◌, ap, ap₂, ◌∙◌}
 use mathlib.Core.List.{List}
 use Prim.Native.Nat.{ℕ, ◌^◌, ◌<◌}

@@ -4,7 +4,6 @@ use mathlib.Core.Logic.{◌≢◌}
 use mathlib.Core.List.{List}
 use Prim.Native.Nat.{ℕ, ◌+◌, ◌*◌, ◌<◌}
 use native.Mathlib.Omega.{arith}
-use borrow.Author.Rules.{rules}
 use lib.ListN.{length, set}
 use lib.Seq.{get_or-set_other}
 use Rattle.theory_laws.specs.Xor.{◌⊕◌}
@@ -16,7 +15,7 @@ use Rattle.field_runs.proofs.add_to_pair.Goals as goal
 use Rattle.field_runs.proofs.add_to_pair.Goals.{After-put}
 
 -- the product, and what the first store leaves
-module _ (c : After-put) where
+module _ (g : _) (c : After-put g) where
   abbrev s : List ℕ
   s = words c.args.s.now
 
@@ -27,12 +26,12 @@ module _ (c : After-put) where
   hi = c.args.hi
 
   abbrev product : ℕ
-  product = word c.args.d ⊗ (at s lo ⊕ at s hi)
+  product = word c.args.by.factor ⊗ (at s lo ⊕ at s hi)
 
   p : word c.times-p.result ≡ product
   p =
       c.times-p.ensures
-      ∙ ap (◌⊗◌ (word c.args.d)) (c.add-sum.ensures ∙ ap₂ ◌⊕◌ c.get.ensures c.get-2.ensures)
+      ∙ ap (◌⊗◌ (word c.args.by.factor)) (c.add-sum.ensures ∙ ap₂ ◌⊕◌ c.get.ensures c.get-2.ensures)
 
   stored : words c.put.new.s ≡ set s lo (at s lo ⊕ product)
   stored =
@@ -42,19 +41,19 @@ module _ (c : After-put) where
   inside = omega (arith, c.requires.1, c.put.auto.s)
 
 pub get-b-requires : goal.get-b-requires
-get-b-requires c =
-    inside (goal.at.get-b-requires c).After-put
+get-b-requires g c =
+    inside g (goal.at.get-b-requires g c).After-put
 
 pub put-requires-2 : goal.put-requires-2
-put-requires-2 c =
-    inside (goal.at.put-requires-2 c).After-put
+put-requires-2 g c =
+    inside g (goal.at.put-requires-2 g c).After-put
 
 pub returns : goal.returns
-returns c =
-    let apart : hi (goal.at.returns c).After-put ≢ lo (goal.at.returns c).After-put = omega (arith, c.requires.0) in
-    let b : word c.get-b.result ≡ at (s (goal.at.returns c).After-put) (hi (goal.at.returns c).After-put) =
-    c.get-b.ensures ∙ ap (λ (l : List ℕ). at l (hi (goal.at.returns c).After-put)) (stored (goal.at.returns c).After-put)
-    ∙ get_or-set_other (s (goal.at.returns c).After-put) (lo (goal.at.returns c).After-put) (hi (goal.at.returns c).After-put) _ 0 apart
+returns g c =
+    let apart : hi g (goal.at.returns g c).After-put ≢ lo g (goal.at.returns g c).After-put = omega (arith, c.requires.0) in
+    let b : word c.get-b.result ≡ at (s g (goal.at.returns g c).After-put) (hi g (goal.at.returns g c).After-put) =
+    c.get-b.ensures ∙ ap (λ (l : List ℕ). at l (hi g (goal.at.returns g c).After-put)) (stored g (goal.at.returns g c).After-put)
+    ∙ get_or-set_other (s g (goal.at.returns g c).After-put) (lo g (goal.at.returns g c).After-put) (hi g (goal.at.returns g c).After-put) _ 0 apart
     in
     c.put-2.ensures
-    ∙ ap₂ (λ (l : List ℕ) (x : ℕ). set l (hi (goal.at.returns c).After-put) x) (stored (goal.at.returns c).After-put) (c.add-2.ensures ∙ ap₂ ◌⊕◌ b (p (goal.at.returns c).After-put))
+    ∙ ap₂ (λ (l : List ℕ) (x : ℕ). set l (hi g (goal.at.returns g c).After-put) x) (stored g (goal.at.returns g c).After-put) (c.add-2.ensures ∙ ap₂ ◌⊕◌ b (p g (goal.at.returns g c).After-put))

@@ -1,6 +1,5 @@
 -- `field_runs::align` meets its contract.
 use mathlib.Core.Path.{ap, ◌∙◌}
-use borrow.Author.Rules.{rules}
 use lib.ListN.{set}
 use Rattle.theory_field.specs.Words.{words}
 use Rattle.field_runs.proofs.align.Goals as goal

@@ -2,7 +2,6 @@
 use mathlib.Core.Path.{sym, ap, ◌∙◌}
 use Prim.Native.Nat.{◌+◌, ◌-◌}
 use native.Mathlib.Omega.{arith}
-use borrow.Author.Rules.{rules}
 use lib.Bits.{bit_and, and_le_l, and_mask}
 use Rattle.theory_laws.proofs.Places.{ins-first}
 use Rattle.field_runs.proofs.first.Goals as goal

@@ -1,7 +1,7 @@
 -- `field_runs::fold_by` meets its contract. The loop's invariant: q is the first pair of a run, and the words below it are those of the
 -- fold.
 use mathlib.Core.Path.{◌≡◌, refl, ap, ◌∙◌}
-use Prim.Native.Nat.{ℕ, suc, ◌+◌, ◌-◌, ◌*◌, ◌/◌, ◌%◌, ◌^◌, ◌≤◌}
+use Prim.Native.Nat.{ℕ, suc, ◌+◌, ◌*◌, ◌/◌, ◌%◌, ◌^◌, ◌≤◌}
 use native.Mathlib.Omega.{arith}
 use lib.Pow.{pow_pos}
 use lib.ListN.{length}
@@ -11,21 +11,21 @@ use Rattle.theory_field.specs.Words.{words}
 use Rattle.theory_field.proofs.Words.{length-words-even}
 use Rattle.field_gf128.specs.Word.{word}
 use Rattle.theory_multilinear.specs.Fold.{fold_at, fold_list}
-use Rattle.field_runs.proofs.Pairs.{First, first_run, next-run, fold-run, shift, stride, run-within}
+use Rattle.field_runs.proofs.Pairs.{first_run, next-run, fold-run, shift, stride, run-within}
 use Rattle.field_runs.proofs.fold_by.Goals as goal
 use Rattle.field_runs.proofs.fold_by.Goals.{In-loop-q}
 
 pub overflow_shl-half : goal.overflow_shl-half
-overflow_shl-half c =
+overflow_shl-half g c =
     shift c.args.i (length c.args.src.now) c.requires.0 (omega arith)
 
 pub loop-q-init : goal.loop-q-init
 unfolding updated
-loop-q-init c =
+loop-q-init g c =
     (omega arith, first_run c.args.i, refl, refl)
 
 -- the run that a turn does
-module _ (c : In-loop-q) where
+module _ (g : _) (c : In-loop-q g) where
   abbrev q : ℕ
   q = c.loop-q.q
 
@@ -42,31 +42,31 @@ module _ (c : In-loop-q) where
   )
 
 pub fold_run-requires : goal.fold_run-requires
-fold_run-requires c =
-    (omega (arith, within (goal.at.fold_run-requires c).In-loop-q), omega arith, c.requires.2)
+fold_run-requires g c =
+    omega (arith, within g (goal.at.fold_run-requires g c).In-loop-q)
 
 pub overflow_add-q : goal.overflow_add-q
-overflow_add-q c =
-    omega (arith, within (goal.at.overflow_add-q c).In-loop-q)
+overflow_add-q g c =
+    omega (arith, within g (goal.at.overflow_add-q g c).In-loop-q)
 
 pub loop-q-smaller : goal.loop-q-smaller
-loop-q-smaller c =
-    omega (arith, within (goal.at.loop-q-smaller c).In-loop-q, apart (goal.at.loop-q-smaller c).In-loop-q, pow_pos c.args.i)
+loop-q-smaller g c =
+    omega (arith, within g (goal.at.loop-q-smaller g c).In-loop-q, apart g (goal.at.loop-q-smaller g c).In-loop-q, pow_pos c.args.i)
 
 pub loop-q-preserved : goal.loop-q-preserved
-loop-q-preserved c =
+loop-q-preserved g c =
     let a = c.args in (
-      omega (arith, within (goal.at.loop-q-preserved c).In-loop-q),
-      next-run a.i (half (goal.at.loop-q-preserved c).In-loop-q) c.loop-q.q (apart (goal.at.loop-q-preserved c).In-loop-q) c.loop-q.invariant.1,
+      omega (arith, within g (goal.at.loop-q-preserved g c).In-loop-q),
+      next-run a.i (half g (goal.at.loop-q-preserved g c).In-loop-q) c.loop-q.q (apart g (goal.at.loop-q-preserved g c).In-loop-q) c.loop-q.invariant.1,
       omega (arith, c.fold_run.auto.out),
-      fold-run a.i (half (goal.at.loop-q-preserved c).In-loop-q) c.loop-q.q (apart (goal.at.loop-q-preserved c).In-loop-q) c.loop-q.invariant.1 (word a.r) (words a.src.now) (words a.out.now) (words c.loop-q.out)
+      fold-run a.i (half g (goal.at.loop-q-preserved g c).In-loop-q) c.loop-q.q (apart g (goal.at.loop-q-preserved g c).In-loop-q) c.loop-q.invariant.1 (word a.by.factor) (words a.src.now) (words a.out.now) (words c.loop-q.out)
           (words c.fold_run.new.out) c.loop-q.invariant.3 c.fold_run.ensures,
     )
 
 pub returns : goal.returns
 unfolding fold_list
-returns c =
-    let a = c.args in let f = fold_at a.i (word a.r) (at (words a.src.now)) in
+returns g c =
+    let a = c.args in let f = fold_at a.i (word a.by.factor) (at (words a.src.now)) in
     let p = c.requires.0 in let out = length-words-even a.out.now (2 ^ p.m) (omega (arith, p.size)) in
     let src = length-words-even a.src.now (2 ^ suc p.m) p.size in
     let size : length (words a.out.now) ≡ length (words a.src.now) / 2 = omega (arith, out, src) in

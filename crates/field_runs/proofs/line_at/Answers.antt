@@ -1,6 +1,5 @@
 -- `field_runs::line_at` meets its contract.
 use mathlib.Core.Path.{ap, ◌∙◌}
-use borrow.Author.Rules.{rules}
 use Rattle.theory_laws.specs.Xor.{◌⊕◌}
 use Rattle.theory_field.specs.Field.{◌⊗◌}
 use Rattle.field_gf128.specs.Word.{word}
@@ -9,5 +8,5 @@ use Rattle.field_runs.proofs.line_at.Goals as goal
 
 pub returns : goal.returns
 unfolding line
-returns c =
-    let a = c.args in c.add-2.ensures ∙ ap (λ x. word a.a ⊕ x) (c.times.ensures ∙ ap (◌⊗◌ (word a.r)) c.add.ensures)
+returns g c =
+    let a = c.args in c.add-2.ensures ∙ ap (λ x. word a.a ⊕ x) (c.times.ensures ∙ ap (◌⊗◌ (word a.by.factor)) c.add.ensures)

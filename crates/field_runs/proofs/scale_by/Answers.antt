@@ -1,8 +1,7 @@
 -- `field_runs::scale_by` meets its contract. The loop's invariant: the first v words are multiplied.
-use mathlib.Core.Path.{◌≡◌, refl, sym, ap, ◌∙◌}
-use Prim.Native.Nat.{ℕ, ◌-◌, ◌≤◌}
+use mathlib.Core.Path.{refl, sym, ap, ◌∙◌}
+use Prim.Native.Nat.{ℕ}
 use native.Mathlib.Omega.{arith}
-use lib.ListN.{length}
 use Rattle.theory_laws.proofs.Table.{map_at}
 use Rattle.theory_laws.proofs.Updates.{updated, updated-all, updated-read, updated-turn}
 use Rattle.theory_field.specs.Field.{◌⊗◌}
@@ -13,24 +12,17 @@ use Rattle.field_runs.proofs.scale_by.Goals as goal
 
 pub loop-v-init : goal.loop-v-init
 unfolding updated
-loop-v-init c = (omega arith, refl, refl)
-
-pub times-requires : goal.times-requires
-times-requires c =
-    c.requires.1
+loop-v-init g c = refl
 
 pub loop-v-preserved : goal.loop-v-preserved
-loop-v-preserved c =
-    let a = c.args in let g : ℕ → ℕ → ℕ = λ k x. word a.r ⊗ x in (
-      omega arith,
-      omega (arith, c.put.auto.s),
-      c.put.ensures
-          ∙ updated-turn c.loop-v.v g (words a.s.now) (words c.loop-v.s) (word c.times.result) c.loop-v.invariant.2
-          (c.times.ensures ∙ ap (◌⊗◌ (word a.r)) (c.get-w.ensures ∙ updated-read c.loop-v.v g (words a.s.now) (words c.loop-v.s) c.loop-v.invariant.2)),
-    )
+loop-v-preserved g c =
+    let a = c.args in let g : ℕ → ℕ → ℕ = λ k x. word a.by.factor ⊗ x in
+    c.put.ensures
+    ∙ updated-turn c.loop-v.v g (words a.s.now) (words c.loop-v.s) (word c.times.result) c.loop-v.invariant
+    (c.times.ensures ∙ ap (◌⊗◌ (word a.by.factor)) (c.get-w.ensures ∙ updated-read c.loop-v.v g (words a.s.now) (words c.loop-v.s) c.loop-v.invariant))
 
 pub returns : goal.returns
-returns c =
-    let a = c.args in c.loop-v.invariant.2
-    ∙ updated-all c.loop-v.v (λ k x. word a.r ⊗ x) (words a.s.now) (omega (arith, length-words a.s.now))
-    ∙ sym (map_at (◌⊗◌ (word a.r)) (words a.s.now))
+returns g c =
+    let a = c.args in c.loop-v.invariant
+    ∙ updated-all c.loop-v.v (λ k x. word a.by.factor ⊗ x) (words a.s.now) (omega (arith, length-words a.s.now))
+    ∙ sym (map_at (◌⊗◌ (word a.by.factor)) (words a.s.now))

@@ -9,6 +9,6 @@ use Rattle.hash_four_chunks.proofs.blocks_at.Goals as goal
 pub returns : goal.returns
 returns c =
     let a = c.args in four_lanes (λ (s : List ℕ). B.block (part a.n a.from s)) a.s0.now a.s1.now a.s2.now a.s3.now
-    c.block_words-w0.ensures c.store.ensures c.block_words-w1.ensures
-    c.store-2.ensures c.block_words-w2.ensures c.store-3.ensures
-    c.block_words-w3.ensures c.store-4.ensures
+    c.block_words.ensures c.store.ensures c.block_words-2.ensures
+    c.store-2.ensures c.block_words-3.ensures c.store-3.ensures
+    c.block_words-4.ensures c.store-4.ensures

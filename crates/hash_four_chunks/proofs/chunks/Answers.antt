@@ -14,4 +14,4 @@ returns c =
     let a = c.args in let message = which a.s0.now a.s1.now a.s2.now a.s3.now in
     let whole : List ℕ → ℕ → List ℕ = λ h k.
     C.cv (B.chunk_from a.flags (15 - a.blocks) h (start_flag a.blocks) (at a.counters.now k) (message k) a.x) in
-    λ k b. c.rests.ensures k b ∙ ap (λ (h : List ℕ). whole h k) (c.spread-v.ensures k b)
+    λ k b. c.rests.ensures k b ∙ ap (λ (h : List ℕ). whole h k) (c.spread.ensures k b)

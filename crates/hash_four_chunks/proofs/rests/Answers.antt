@@ -25,7 +25,7 @@ loop-from-preserved c =
       λ k b y.
           walk_turn a.flags c.loop-from.i (at a.counters.now k) c.loop-from.from (X.lane 8 c.loop-from.v k) _ _ (message k) _ y _
           (omega (arith, f.fits)) (omega (arith, which-length _ _ _ _ _ k f)) (c.blocks_at-m.ensures k b) c.start_flag-f.ensures
-          (c.compress-w.ensures k b) (c.loop-from.invariant.3 k b y),
+          (c.compress-v.ensures k b) (c.loop-from.invariant.3 k b y),
     )
 
 pub blocks_at-m-requires-2 : goal.blocks_at-m-requires-2

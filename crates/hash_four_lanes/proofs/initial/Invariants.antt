@@ -1,6 +1,6 @@
 -- `hash_four_lanes::initial`: lane after lane.
 use mathlib.Core.Path.{◌≡◌}
-use Prim.Native.Nat.{ℕ, ◌≤◌, ◌<◌, ◌-◌}
+use Prim.Native.Nat.{ℕ, ◌<◌}
 use lib.ListN.{length}
 use Rattle.theory_laws.specs.Table.{at}
 use Rattle.theory_blake3.specs.Compression as C
@@ -8,7 +8,4 @@ use Rattle.hash_four_lanes.specs.helpers.Lane as X
 use Rattle.hash_four_lanes.proofs.initial.Given as goal
 
 abbrev pub invariant-loop-l : goal.invariant-loop-l
-invariant-loop-l l = (l.l ≤ 4) × (length l.s ≡ 64) × ((k : ℕ) → k < l.l → X.lane 16 l.s k ≡ C.initial (X.lane 8 l.h k) (at l.counters k) l.len l.flags)
-
-abbrev pub decreases-loop-l : goal.decreases-loop-l
-decreases-loop-l l = 4 - l.l
+invariant-loop-l l = (length l.s ≡ 64) × ((k : ℕ) → k < l.l → X.lane 16 l.s k ≡ C.initial (X.lane 8 l.h k) (at l.counters k) l.len l.flags)

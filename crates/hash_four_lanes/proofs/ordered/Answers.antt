@@ -11,7 +11,7 @@ use Rattle.hash_four_lanes.proofs.Laws.{ordered_at, ordered-all}
 use Rattle.hash_four_lanes.proofs.ordered.Goals as goal
 
 pub loop-i-init : goal.loop-i-init
-loop-i-init c = (omega arith, refl, λ k h. absurd (omega arith))
+loop-i-init c = (refl, λ k h. absurd (omega arith))
 
 pub overflow_cast-k : goal.overflow_cast-k
 unfolding O.Small
@@ -36,12 +36,11 @@ bounds-m-k c = omega (arith, c.requires.0 c.loop-i.i (omega arith))
 pub loop-i-preserved : goal.loop-i-preserved
 loop-i-preserved c =
     let a = c.args in (
-      omega arith,
-      simp length-set c.loop-i.invariant.1,
+      simp length-set c.loop-i.invariant.0,
       fill_step (λ (k : ℕ). at (X.lane 16 a.m.now a.l) (at a.o.now k)) c.loop-i.i c.loop-i.v _
-          (omega arith) (ordered_at a.m.now a.o.now a.l c.loop-i.i c.requires.0 (omega arith)) c.loop-i.invariant.2,
+          (omega arith) (ordered_at a.m.now a.o.now a.l c.loop-i.i c.requires.0 (omega arith)) c.loop-i.invariant.1,
     )
 
 pub returns : goal.returns
 returns c =
-    let a = c.args in ordered-all (X.lane 16 a.m.now a.l) a.o.now c.loop-i.v c.loop-i.invariant.1 (λ k h. c.loop-i.invariant.2 k (omega arith))
+    let a = c.args in ordered-all (X.lane 16 a.m.now a.l) a.o.now c.loop-i.v c.loop-i.invariant.0 (λ k h. c.loop-i.invariant.1 k (omega arith))

@@ -10,18 +10,17 @@ use Rattle.hash_four_lanes.proofs.Laws.{value_law}
 use Rattle.hash_four_lanes.proofs.output.Goals as goal
 
 pub loop-j-init : goal.loop-j-init
-loop-j-init c = (omega arith, refl, λ k h. absurd (omega arith))
+loop-j-init c = (refl, λ k h. absurd (omega arith))
 
 pub loop-j-preserved : goal.loop-j-preserved
 unfolding ◌⊕◌
 loop-j-preserved c =
     let a = c.args in (
-      omega arith,
-      simp length-set c.loop-j.invariant.1,
+      simp length-set c.loop-j.invariant.0,
       fill_step (λ (k : ℕ). at a.s.now k ⊕ at a.s.now (k + 32)) c.loop-j.j c.loop-j.h _ (omega arith) refl
-          c.loop-j.invariant.2,
+          c.loop-j.invariant.1,
     )
 
 pub returns : goal.returns
 returns c =
-    let a = c.args in λ k b. value_law c.loop-j.h a.s.now k b (λ i q. c.loop-j.invariant.2 i (omega arith))
+    let a = c.args in λ k b. value_law c.loop-j.h a.s.now k b (λ i q. c.loop-j.invariant.1 i (omega arith))

@@ -10,7 +10,6 @@ use Rattle.hash_four_lanes.proofs.rounds.Goals as goal
 pub loop-r-init : goal.loop-r-init
 unfolding O.orders O.powers
 loop-r-init c = (
-  omega arith,
   c.requires,
   c.orders-order.ensures,
   rw c.orders-order.ensures,
@@ -19,18 +18,17 @@ loop-r-init c = (
 
 pub round-requires : goal.round-requires
 round-requires c =
-    (rw c.loop-r.invariant.2 (small-orders c.loop-r.r (omega arith)), c.loop-r.invariant.1)
+    (rw c.loop-r.invariant.1 (small-orders c.loop-r.r (omega arith)), c.loop-r.invariant.0)
 
 pub loop-r-preserved : goal.loop-r-preserved
 loop-r-preserved c = (
-  omega arith,
   c.round.ensures.s_len,
+  c.loop-r.invariant.1,
   c.loop-r.invariant.2,
-  c.loop-r.invariant.3,
   λ k b. rounds-step _ _ _ _ c.loop-r.r [] (omega arith) (c.round.ensures.each k b)
-      ∙ c.loop-r.invariant.4 k b,
+      ∙ c.loop-r.invariant.3 k b,
 )
 
 pub returns : goal.returns
 returns c =
-    λ k b. rounds-all _ _ _ _ c.loop-r.r c.loop-r.invariant.2 (omega arith) (c.loop-r.invariant.4 k b)
+    λ k b. rounds-all _ _ _ _ c.loop-r.r c.loop-r.invariant.1 (omega arith) (c.loop-r.invariant.3 k b)

@@ -6,21 +6,20 @@ use Rattle.hash_four_lanes.proofs.Laws.{lane-ext, lane-all, store_at, store_othe
 use Rattle.hash_four_lanes.proofs.store.Goals as goal
 
 pub loop-i-init : goal.loop-i-init
-loop-i-init c = (omega arith, c.requires.1, (λ j h. absurd (omega arith)), λ j k p q. refl)
+loop-i-init c = (c.requires.1, (λ j h. absurd (omega arith)), λ j k p q. refl)
 
 pub loop-i-preserved : goal.loop-i-preserved
 loop-i-preserved c =
     let a = c.args in (
-      omega arith,
-      simp length-set c.loop-i.invariant.1,
-      store_at c.loop-i.s a.v a.l c.loop-i.i _ (omega arith) refl c.loop-i.invariant.2,
-      store_other c.loop-i.s a.s.now a.l c.loop-i.i _ (omega arith) c.loop-i.invariant.3,
+      simp length-set c.loop-i.invariant.0,
+      store_at c.loop-i.s a.v a.l c.loop-i.i _ (omega arith) refl c.loop-i.invariant.1,
+      store_other c.loop-i.s a.s.now a.l c.loop-i.i _ (omega arith) c.loop-i.invariant.2,
     )
 
 pub returns : goal.returns
 returns c =
     let a = c.args in record {
-      size = c.loop-i.invariant.1;
-      here = sym (lane-all 16 c.loop-i.s a.v a.l (omega arith) (λ k h. sym (c.loop-i.invariant.2 k (omega arith))));
-      others = λ k b q. lane-ext 16 c.loop-i.s a.s.now k (λ i h. c.loop-i.invariant.3 i k b q);
+      size = c.loop-i.invariant.0;
+      here = sym (lane-all 16 c.loop-i.s a.v a.l (omega arith) (λ k h. sym (c.loop-i.invariant.1 k (omega arith))));
+      others = λ k b q. lane-ext 16 c.loop-i.s a.s.now k (λ i h. c.loop-i.invariant.2 i k b q);
     }

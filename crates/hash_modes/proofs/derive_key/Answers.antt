@@ -4,10 +4,10 @@ use Rattle.hash_modes.proofs.Modes.{derive_made}
 use Rattle.hash_modes.specs.Answers.{derived_key_of}
 use Rattle.hash_modes.proofs.derive_key.Goals as goal
 
-pub returns-then-context-gt16777216 : goal.returns-then-context-gt16777216
+pub returns-then-context-gt-MOST_BYTES : goal.returns-then-context-gt-MOST_BYTES
 unfolding derived_key_of
-returns-then-context-gt16777216 c = rw (lt-leb _ _ c.if-context-gt16777216.true)
+returns-then-context-gt-MOST_BYTES c = rw (lt-leb _ _ c.if-context-gt-MOST_BYTES.true)
 
 pub returns : goal.returns
 returns c =
-    derive_made _ _ _ _ c.if-context-gt16777216.false c.material_mode-mode.ensures c.digest_with.ensures
+    derive_made _ _ _ _ c.if-context-gt-MOST_BYTES.false c.material_mode.ensures c.digest_with.ensures

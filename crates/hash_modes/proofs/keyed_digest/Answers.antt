@@ -10,4 +10,4 @@ returns-then-key-ne32 c = rw (ne_eqb _ _ c.if-key-ne32.true)
 
 pub returns : goal.returns
 returns c =
-    keyed_made _ _ _ _ c.if-key-ne32.false c.key_words-words.ensures c.digest_with.ensures
+    keyed_made _ _ _ _ c.if-key-ne32.false c.key_words.ensures c.digest_with.ensures

@@ -1,4 +1,4 @@
--- `hash_modes::keyed_hasher` meets its contract.
+-- `keyed_hasher` meets its contract.
 use borrow.Author.Tests.{ne_eqb}
 use Rattle.hash_modes.proofs.Modes.{keyed_begun}
 use Rattle.hash_modes.specs.Answers.{keyed_hasher_of}
@@ -6,9 +6,7 @@ use Rattle.hash_modes.proofs.keyed_hasher.Goals as goal
 
 pub returns-then-key-ne32 : goal.returns-then-key-ne32
 unfolding keyed_hasher_of
-returns-then-key-ne32 c =
-    rw (ne_eqb _ _ c.if-key-ne32.true) c.started.ensures
+returns-then-key-ne32 c = rw (ne_eqb _ _ c.if-key-ne32.true)
 
 pub returns : goal.returns
-returns c =
-    keyed_begun _ _ _ c.if-key-ne32.false c.key_words-words.ensures c.started-2.ensures
+returns c = keyed_begun _ _ _ c.if-key-ne32.false c.key_words.ensures c.new_with.ensures

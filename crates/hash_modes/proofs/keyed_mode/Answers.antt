@@ -3,4 +3,4 @@ use Rattle.hash_modes.proofs.Modes.{same_key}
 use Rattle.hash_modes.proofs.keyed_mode.Goals as goal
 
 pub returns : goal.returns
-returns c = same_key _ _ _ c.key_words-key.ensures
+returns c = same_key _ _ _ c.key_words.ensures

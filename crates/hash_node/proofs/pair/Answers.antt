@@ -1,11 +1,8 @@
--- `hash_node::pair` meets its contract.
-use Rattle.theory_blake3.specs.Compression.{cv}
-use Rattle.theory_laws.specs.Table.{tab}
-use mathlib.Core.Path.{refl}
-use Rattle.theory_blake3.specs.Tree as P
-use borrow.Author.Rules.{rules}
+-- `pair` meets its contract.
+use native.Mathlib.Omega.{arith}
+use Rattle.hash_node.proofs.Laws.{pair_put}
 use Rattle.hash_node.proofs.pair.Goals as goal
 
 pub returns : goal.returns
-unfolding P.pair cv tab
-returns c = refl
+returns c =
+    pair_put c.args.l c.args.r _ _ (omega arith) (omega arith) c.copy_from_slice.ensures.after c.copy_from_slice-2.ensures.after

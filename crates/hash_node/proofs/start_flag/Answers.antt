@@ -1,6 +1,5 @@
 -- `hash_node::start_flag` meets its contract.
 use Rattle.hash_node.proofs.Laws.{start_later}
-use borrow.Author.Rules.{rules}
 use Rattle.hash_node.proofs.start_flag.Goals as goal
 
 pub returns-else-blocks-eq0 : goal.returns-else-blocks-eq0

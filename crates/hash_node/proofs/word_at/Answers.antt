@@ -1,9 +1,9 @@
--- `hash_node::word_at` meets its contract.
+-- `word_at` meets its contract: the library reads the word.
 use Rattle.hash_node.proofs.Laws.{word_read}
-use borrow.Author.Rules.{rules}
 use Rattle.hash_node.proofs.word_at.Goals as goal
 
 pub returns : goal.returns
 returns c =
-    word_read _ c.args.from c.word_of.ensures c.wide.ensures.value c.wide-2.ensures.value
-    c.wide-3.ensures.value c.wide-4.ensures.value
+    let a = c.args in
+    word_read a.s.now a.from c.requires (λ k. (c.type_inv.s k).fits) (rw c.unwrap.ensures at c.try_into.ensures.1).same c.from_le_bytes.type_inv
+    c.from_le_bytes.ensures

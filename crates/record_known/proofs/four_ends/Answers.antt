@@ -1,14 +1,13 @@
 -- `record_known::four_ends` meets its contract.
-use Rattle.record_known.proofs.Lanes.{paths_there, ends_of}
+use Rattle.record_known.proofs.Lanes.{all_or_nowhere, ends_read}
 use Rattle.record_known.proofs.four_ends.Goals as goal
 
-pub climb_four-requires : goal.climb_four-requires
-climb_four-requires c =
+pub climb_lanes-digests-requires : goal.climb_lanes-digests-requires
+climb_lanes-digests-requires c =
     let p = c.requires in
-    let a = c.args in
-    (p.0, p.1, paths_there a.a a.b a.c a.d _ _ _ _ p.2 c.larger.ensures c.larger-2.ensures c.larger-deepest.ensures)
+    (p.0, p.1, all_or_nowhere _ _ _ _ _ _ p.2 c.or_nowhere-a.ensures c.or_nowhere-b.ensures c.or_nowhere-c.ensures c.or_nowhere-d.ensures)
 
 pub returns : goal.returns
 returns c =
-    let a = c.args in
-    ends_of _ _ _ _ a.a a.b a.c a.d _ _ c.four_leaves-leaves.ensures c.climb_four.ensures
+    ends_read _ _ _ _ _ _ _ _ _ _ _ _ _ _ c.or_nowhere-a.ensures c.or_nowhere-b.ensures c.or_nowhere-c.ensures c.or_nowhere-d.ensures
+    c.climb_lanes-digests.ensures c.end_in-first.ensures c.end_in-second.ensures c.end_in-third.ensures c.end_in-fourth.ensures

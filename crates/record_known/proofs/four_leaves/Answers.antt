@@ -5,16 +5,13 @@ use Rattle.record_known.proofs.four_leaves.Goals as goal
 pub leaves_four-requires : goal.leaves_four-requires
 leaves_four-requires c =
     let p = c.requires in
-    let a = c.args in
-    (p.0, p.1, groups-there a.a a.b a.c a.d _ p.2 (c.one_width.ensures c.if-one_width.true))
+    (p.0, p.1, groups-there c.args.lanes _ p.2 (c.one_width.ensures c.if-one_width.true))
 
 pub returns-then-one_width : goal.returns-then-one_width
 returns-then-one_width c =
-    let a = c.args in
-    leaves-at-once _ _ _ _ a.a a.b a.c a.d _ (c.one_width.ensures c.if-one_width.true) c.leaves_four.ensures
+    leaves-at-once _ _ _ _ c.args.lanes _ (c.one_width.ensures c.if-one_width.true) c.leaves_four.ensures
 
 pub returns : goal.returns
 returns c =
-    let a = c.args in
-    leaves-one_by_one _ _ _ _ a.a a.b a.c a.d _ _ _ _ _ c.lane_leaf-i.ensures c.lane_leaf-j.ensures c.lane_leaf-l.ensures
+    leaves-one_by_one _ _ _ _ c.args.lanes _ _ _ _ _ c.lane_leaf-i.ensures c.lane_leaf-j.ensures c.lane_leaf-l.ensures
     c.lane_leaf-m.ensures c.end_to_end.ensures

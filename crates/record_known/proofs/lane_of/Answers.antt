@@ -1,12 +1,6 @@
 -- `record_known::lane_of` meets its contract.
-use Rattle.record_known.proofs.Lanes.{none-lane, runs-sized}
+use Rattle.record_known.proofs.Lanes.{runs-sized}
 use Rattle.record_known.proofs.lane_of.Goals as goal
-
-pub returns-then-not-has_run : goal.returns-then-not-has_run
-returns-then-not-has_run c = none-lane _ _ _ _ _ _ _ c.no_lane.ensures
-
-pub returns-then-not-has_run-2 : goal.returns-then-not-has_run-2
-returns-then-not-has_run-2 c = none-lane _ _ _ _ _ _ _ c.no_lane-then-not-has_run-2.ensures
 
 pub sized_lane-requires : goal.sized_lane-requires
 sized_lane-requires c =

@@ -17,5 +17,5 @@ overflow_add-result c =
 
 pub returns : goal.returns
 returns c =
-    sized-lane _ _ _ _ _ _ _ _ _ _ _ _ _ c.requires.0 c.requires.1 c.level_length-count.ensures c.level_width-width.ensures
-    c.level_depth-depth.ensures (c.number.ensures ∙ c.group_of-g.ensures)
+    sized-lane _ _ _ _ _ _ _ _ _ _ _ _ _ c.requires.0 c.requires.1 c.level_length.ensures c.level_width-width.ensures
+    c.level_depth.ensures (c.number.ensures ∙ c.group_of-g.ensures)

@@ -1,5 +1,5 @@
 -- `group_values` meets its contract. The loop's invariant: the first i words are read.
-use Prim.Native.Nat.{◌≤◌, ◌-◌, ◌+◌, ◌*◌}
+use Prim.Native.Nat.{◌+◌, ◌*◌}
 use mathlib.Core.Path.{◌≡◌}
 use lib.ListN.{length}
 use Rattle.theory_laws.specs.Lists.{part, le_value}
@@ -8,7 +8,4 @@ use Rattle.theory_record.specs.Widths.{widest}
 use Rattle.record_opening.proofs.group_values.Given as goal
 
 abbrev pub invariant-loop-i : goal.invariant-loop-i
-invariant-loop-i l = (l.i ≤ l.width) × (length l.values ≡ 2 * widest) × Filled (λ j. le_value (part 16 (l.from + 16 * j) l.s)) l.i l.values
-
-abbrev pub decreases-loop-i : goal.decreases-loop-i
-decreases-loop-i l = l.width - l.i
+invariant-loop-i l = (length l.values ≡ 2 * widest) × Filled (λ j. le_value (part 16 (l.from + 16 * j) l.s)) l.i l.values

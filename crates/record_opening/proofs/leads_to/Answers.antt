@@ -10,18 +10,18 @@ slice_bounds-domain-end c =
     let h = sized-room _ c.requires in
     search rules
 
-pub slice_bounds-root_from-end : goal.slice_bounds-root_from-end
-slice_bounds-root_from-end c =
+pub slice_bounds-hashing-end : goal.slice_bounds-hashing-end
+slice_bounds-hashing-end c =
     let h = sized-room _ c.requires in
     message-length _ _ _ _ _ _ c.level_domain-d.ensures (omega arith)
 
-pub overflow_add-group_at : goal.overflow_add-group_at
-overflow_add-group_at c =
+pub overflow_add-at : goal.overflow_add-at
+overflow_add-at c =
     let h = sized-room _ c.requires in
     search rules
 
-pub overflow_add-path_at : goal.overflow_add-path_at
-overflow_add-path_at c =
+pub overflow_add-at-2 : goal.overflow_add-at-2
+overflow_add-at-2 c =
     let h = sized-room _ c.requires in
     search rules
 

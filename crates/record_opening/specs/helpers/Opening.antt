@@ -1,12 +1,14 @@
 -- A group and a path of a record by the bytes at which they begin, and the three questions put to both (SPECIFICATION 8.2, 16 to 18, 22 to
 -- 24, 28 to 30). Rests on the format of records and on the levels' widths and trees.
-use Rattle.std.specs.Prelude.{ℕ, ◌+◌, ◌*◌, ◌≤◌, ◌<◌, ◌≡◌, true, List, [], ◌∷◌, map, eqb, length, drop}
+use Rattle.std.specs.Prelude.{ℕ, ◌+◌, ◌*◌, ◌≤◌, ◌<◌, ◌≡◌, true, List, [], ◌∷◌, Option, Some, None, Result, Ok, Err, map, eqb, length, drop}
 use Rattle.theory_laws.specs.Questions.{Question, ◌asks◌, first_no}
 use Rattle.theory_laws.specs.Lists.{runs, same, le_value}
 use Rattle.theory_merkle.specs.Tree.{root_of_path}
 use Rattle.theory_record.specs.Trees.{leads_to}
 use Rattle.theory_record.specs.Format.{run_count, run_fits, run_items}
-use Rattle.record_opening.specs.declared.Opened.{Opened}
+use Rattle.record_reader.specs.declared.Opening.{Opening}
+use Rattle.record_opening.specs.declared.Fault.{Fault}
+use Rattle.record_opening.specs.declared.Fault.TheVariants.{Width, Depth, Root}
 use Rattle.theory_record.specs.Scheme.{Scheme, width_at, depth_at}
 use Rattle.theory_record.specs.Widths.{widest}
 
@@ -44,6 +46,17 @@ pub record Sized (S : Scheme) (l : ℕ) (s : List ℕ) (group path : ℕ) : Type
   pub width_is : run_count (drop group s) ≡ width_at S l
   pub depth_is : run_count (drop path s) ≡ depth_at S l
 
+-- the number of a fault, where the questions are numbered from `first` on
+abbrev pub fault_number : ℕ → Fault → ℕ
+fault_number first Width = first
+fault_number first Depth = first + 1
+fault_number first Root = first + 2
+
+-- the number that answers the questions: 0 where each has its yes
+abbrev pub numbered : {A : Type 0} → ℕ → Result A Fault → ℕ
+numbered first (Ok _) = 0
+numbered first (Err fault) = fault_number first fault
+
 -- the questions, numbered from `first` on, put to a group and a path for a place of level l, under this root
 abbrev pub opening_questions : Scheme → ℕ → ℕ → List ℕ → List (List ℕ) → List ℕ → ℕ → List Question
 opening_questions S l place values path root first =
@@ -71,14 +84,19 @@ pub record Leads (S : Scheme) (l place : ℕ) (s : List ℕ) (group path : ℕ) 
   pub depth_is : length (digests_at s path) ≡ depth_at S l
   pub root_is : leads_to S l place (values_at s group) (digests_at s path) ≡ root
 
+-- an opening of this record at which that is so
+abbrev pub LeadsAt : Scheme → ℕ → ℕ → List ℕ → List ℕ → Opening → Type 0
+LeadsAt S l place s root old = Leads S l place s old.group_at old.path_at root
+
 -- where an opening is known, that is so of it
-abbrev pub Known : Scheme → ℕ → ℕ → List ℕ → Opened → List ℕ → Type 0
-Known S l place s old root = old.known ≡ true → Leads S l place s old.group_at old.path_at root
+abbrev pub Known : Scheme → ℕ → ℕ → List ℕ → Option Opening → List ℕ → Type 0
+Known S l place s None root = Unit
+Known S l place s (Some old) root = LeadsAt S l place s root old
 
 -- what `opening_again` is lent: a group and a path that are all there, of a level that is queried, and what is known of an earlier opening
-abbrev pub AgainThere : Scheme → ℕ → ℕ → ℕ → List ℕ → ℕ → ℕ → Opened → List ℕ → ℕ → Type 0
-AgainThere S n l place s group path old root first = (Readable S l s group path) × (l < n) × (first < 100) × (Known S l place s old root)
+abbrev pub AgainThere : Scheme → ℕ → ℕ → List ℕ → ℕ → ℕ → Option Opening → List ℕ → Type 0
+AgainThere S l place s group path known root = (Readable S l s group path) × (l < S.n) × (Known S l place s known root)
 
 -- what `opening_known` is lent
-abbrev pub KnownThere : Scheme → ℕ → ℕ → List ℕ → ℕ → ℕ → Opened → List ℕ → ℕ → Type 0
-KnownThere S l place s group path old root first = (Readable S l s group path) × (first < 100) × (Known S l place s old root)
+abbrev pub KnownThere : Scheme → ℕ → ℕ → List ℕ → ℕ → ℕ → Option Opening → List ℕ → Type 0
+KnownThere S l place s group path known root = (Readable S l s group path) × (Known S l place s known root)

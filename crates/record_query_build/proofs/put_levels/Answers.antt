@@ -18,7 +18,6 @@ lent_level-x-requires c =
 pub loop-l-init : goal.loop-l-init
 loop-l-init c = (
   search rules,
-  search rules,
   c.lent_level-x.ensures,
   no_levels _ _ _ _ c.put_number-at.ensures.end,
   first-levels _ c.requires c.put_number-at.ensures (λ j. (c.type_inv.levels j).fits),
@@ -26,16 +25,16 @@ loop-l-init c = (
 
 pub next_level-y-requires : goal.next_level-y-requires
 next_level-y-requires c =
-    (c.requires.sizes, c.loop-l-test.true, c.loop-l.invariant.2)
+    (c.requires.sizes, c.loop-l-test.true, c.loop-l.invariant.1)
 
 pub put_level-at-requires : goal.put_level-at-requires
 put_level-at-requires c =
     let i = c.loop-l.invariant in
-    level-room _ c.requires _ c.loop-l-test.true i.2 c.next_level-y.ensures (pair_is _ _ _ c.folded-q.ensures) i.3
-    (i.1 ∙ c.put_number-at.auto.out)
+    level-room _ c.requires _ c.loop-l-test.true i.1 c.next_level-y.ensures (pair_is _ _ _ c.folded-q.ensures) i.2
+    (i.0 ∙ c.put_number-at.auto.out)
 
-pub overflow_add-l-in-loop-l : goal.overflow_add-l-in-loop-l
-overflow_add-l-in-loop-l c =
+pub overflow_add-l : goal.overflow_add-l
+overflow_add-l c =
     omega (arith, c.loop-l-test.true, c.requires.sizes.n_most)
 
 pub loop-l-preserved : goal.loop-l-preserved
@@ -44,10 +43,9 @@ loop-l-preserved c =
     let y = c.next_level-y.ensures in
     let p = c.put_level-at.ensures in (
       search rules,
-      search rules,
       y,
-      next-from _ _ _ _ _ _ _ _ i.2 y i.3 p.end,
-      levels-step _ c.requires _ i.4 p i.2 y (pair_is _ _ _ c.folded-q.ensures) c.loop-l-test.true,
+      next-from _ _ _ _ _ _ _ _ i.1 y i.2 p.end,
+      levels-step _ c.requires _ i.3 p i.1 y (pair_is _ _ _ c.folded-q.ensures) c.loop-l-test.true,
     )
 
 pub returns : goal.returns

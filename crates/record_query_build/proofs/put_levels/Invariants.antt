@@ -1,6 +1,6 @@
 -- `record_query_build::put_levels` meets its contract: what is left to store from level l on gives the record.
 use Rattle.record_query_build.proofs.Puts.{levels_left}
-use Prim.Native.Nat.{◌+◌, ◌-◌, ◌≤◌}
+use Prim.Native.Nat.{◌+◌}
 use mathlib.Core.Path.{◌≡◌}
 use lib.ListN.{length}
 use Rattle.theory_field.specs.Words.{words}
@@ -13,10 +13,7 @@ use Rattle.record_query_build.proofs.put_levels.Given as goal
 
 abbrev pub invariant-loop-l : goal.invariant-loop-l
 invariant-loop-l l =
-    (l.l ≤ l.n) × (length l.out ≡ length l.initial.out) × (l.x ≡ lent_level (widths_of l.set) l.n l.k l.l)
+    (length l.out ≡ length l.initial.out) × (l.x ≡ lent_level (widths_of l.set) l.n l.k l.l)
     × (l.at ≡ 4 + total l.l (level_size (widths_of l.set) l.n l.k))
     × (levels_left (widths_of l.set) l.out l.at l.n l.k (words l.levels) l.trees (index l.position) l.l
     ≡ query_bytes (widths_of l.set) l.n l.k (words l.levels) l.trees (index l.position))
-
-abbrev pub decreases-loop-l : goal.decreases-loop-l
-decreases-loop-l l = l.n - l.l

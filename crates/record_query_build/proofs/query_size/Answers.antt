@@ -6,7 +6,7 @@ use Rattle.theory_record.proofs.Ranges.{sizes-small}
 use Rattle.record_query_build.proofs.query_size.Goals as goal
 
 pub loop-l-init : goal.loop-l-init
-loop-l-init c = (search rules, no_levels _ _ _ _ refl)
+loop-l-init c = no_levels _ _ _ _ refl
 
 pub overflow_add-size-in-loop-l-2 : goal.overflow_add-size-in-loop-l-2
 overflow_add-size-in-loop-l-2 c =
@@ -15,7 +15,7 @@ overflow_add-size-in-loop-l-2 c =
 
 pub loop-l-preserved : goal.loop-l-preserved
 loop-l-preserved c =
-    (search rules, size_step _ _ _ _ _ _ _ c.loop-l.invariant.1 c.group_size.ensures.0 c.group_size-in-loop-l.ensures.0)
+    size_step _ _ _ _ _ _ _ c.loop-l.invariant c.group_size.ensures.0 c.group_size-in-loop-l.ensures.0
 
 pub returns : goal.returns
 returns c = search size_is

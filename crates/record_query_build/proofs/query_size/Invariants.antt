@@ -1,12 +1,9 @@
 -- `record_query_build::query_size` meets its contract.
-use Prim.Native.Nat.{◌+◌, ◌-◌, ◌≤◌}
+use Prim.Native.Nat.{◌+◌}
 use mathlib.Core.Path.{◌≡◌}
 use Rattle.theory_record.specs.Widths.{widths_of, total}
 use Rattle.theory_record.specs.Sizes.{level_size}
 use Rattle.record_query_build.proofs.query_size.Given as goal
 
 abbrev pub invariant-loop-l : goal.invariant-loop-l
-invariant-loop-l l = (l.l ≤ l.n) × (l.size ≡ 4 + total l.l (level_size (widths_of l.set) l.n l.k))
-
-abbrev pub decreases-loop-l : goal.decreases-loop-l
-decreases-loop-l l = l.n - l.l
+invariant-loop-l l = l.size ≡ 4 + total l.l (level_size (widths_of l.set) l.n l.k)

@@ -9,15 +9,12 @@ use Prim.Native.Nat.{◌-◌, ◌*◌, ◌<◌, ◌≤◌}
 use mathlib.Core.Path.{◌≡◌}
 use mathlib.Core.Bool.{true}
 use lib.ListN.{length, drop}
-use Rattle.theory_record.specs.Scheme.{scheme}
+use Rattle.theory_record.specs.Lent.{fixed_by}
 use Rattle.record_query_check.proofs.check_levels.Given as goal
 
 abbrev pub invariant-loop-l : goal.invariant-loop-l
 invariant-loop-l l =
-    (l.l ≤ l.n) × (l.at ≤ length l.s) × (whole_items level_form (l.n - l.l) (drop l.at l.s) ≡ true)
-    × (check_from (scheme l.how l.base l.n l.k) (index l.position) l.challenges l.roots l.s l.at l.l
-    ≡ all_asked (scheme l.how l.base l.n l.k) (index l.position) l.challenges l.roots l.s)
-    × (l.l < l.n → Known (scheme l.how l.base l.n l.k) l.l (2 * pair_of (index l.position) l.l) l.s l.old (root_at l.roots l.l))
-
-abbrev pub decreases-loop-l : goal.decreases-loop-l
-decreases-loop-l l = l.n - l.l
+    (l.at ≤ length l.s) × (whole_items level_form (l.deposit.n - l.l) (drop l.at l.s) ≡ true)
+    × (check_from (fixed_by l.deposit) (index l.position) l.challenges l.roots l.s l.at l.l
+    ≡ all_asked (fixed_by l.deposit) (index l.position) l.challenges l.roots l.s)
+    × (l.l < l.deposit.n → Known (fixed_by l.deposit) l.l (2 * pair_of (index l.position) l.l) l.s l.known (root_at l.roots l.l))

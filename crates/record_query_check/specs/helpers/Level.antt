@@ -1,20 +1,15 @@
 -- The questions put to a level of a query record in three parts: 16 to 21, of which 20 is retired, 22 to 25, and 26, and what code needs to put them. Rests on the
 -- three questions put to a group and its path.
-use Rattle.std.specs.Prelude.{ℕ, ◌+◌, ◌*◌, ◌^◌, ◌≤◌, ◌<◌, ◌≡◌, List, [], ◌∷◌, ◌++◌, eqb, true, length, drop}
+use Rattle.std.specs.Prelude.{ℕ, ◌+◌, ◌*◌, ◌^◌, ◌≤◌, ◌<◌, ◌≡◌, List, [], ◌∷◌, ◌++◌, Option, Some, eqb, true, length, drop}
 use Rattle.theory_laws.specs.Questions.{Question, ◌asks◌, first_no}
 use Rattle.theory_record.specs.Format.{run_count, run_fits, level_form, level_read, record_whole, record_items}
-use Rattle.theory_record.specs.Query.{Answer, pair_of, value_at, root_at, level_number, check_levels, query_number}
+use Rattle.theory_record.specs.Query.{Answer, pair_of, value_at, root_at, level_number, check_levels}
 use Rattle.record_reader.specs.declared.Level.{Level}
 use Rattle.record_reader.specs.helpers.Places.{level_at}
-use Rattle.record_opening.specs.declared.Opened.{Opened}
+use Rattle.record_reader.specs.declared.Opening.{Opening}
 use Rattle.record_opening.specs.helpers.Opening.{values_at, digests_at, opening_questions, Readable, Known}
 use Rattle.record_known.specs.helpers.Known.{LevelsKnown}
-use Rattle.theory_record.specs.declared.Trees.{Trees}
-use Rattle.theory_record.specs.Scheme.{Scheme, scheme, width_at}
-
--- r is the number of 4, 5, 7, 11, 14 and 15, whatever the set of widths
-abbrev pub BeforeLevels : List ℕ → ℕ → ℕ → ℕ → List ℕ → List ℕ → List ℕ → ℕ → Type 0
-BeforeLevels base n k position challenges roots s r = (how : Trees) → r ≡ query_number (scheme how base n k) position challenges roots s
+use Rattle.theory_record.specs.Scheme.{Scheme, width_at}
 
 -- 19 and 21
 abbrev pub pair_held : ℕ → ℕ → List ℕ → ℕ → ℕ → List Question
@@ -77,25 +72,24 @@ pub record Whole (n : ℕ) (s : List ℕ) : Type 0 where
   pub levels_are : run_count s ≡ n
 
 -- for 16 to 21: the group and the path are there, the level and the pair are in their ranges, and what is known of the opening is so
-pub record PairThere (S : Scheme) (l q : ℕ) (s : List ℕ) (group path : ℕ) (root : List ℕ) (old : Opened) : Type 0 where
+pub record PairThere (S : Scheme) (l q : ℕ) (s : List ℕ) (group path : ℕ) (root : List ℕ) (old : Option Opening) : Type 0 where
   pub readable : Readable S l s group path
   pub pair_most : q < 16777216
   pub level_low : l < S.n
   pub known : Known S l (2 * q) s old root
 
--- for 16 to 26: v is the level that was read at byte i, all of it is there, and what is known of the opening of a and b, and of c's, is so
-pub record LevelThere (S : Scheme) (position : ℕ) (challenges roots : List ℕ) (l : ℕ) (s : List ℕ) (i : ℕ) (v : Level) (old c-old : Opened) : Type 0 where
+-- for 16 to 26: v is the level that was read at byte i, and what is known of the opening of a and b, and of c's, is so
+pub record LevelThere (S : Scheme) (position : ℕ) (challenges roots : List ℕ) (l : ℕ) (s : List ℕ) (i : ℕ) (v : Level) (old c-old : Option Opening) : Type 0 where
   pub allowed : Allowed S position challenges roots
   pub level_low : l < S.n
-  pub read : v ≡ level_at s i
-  pub fits : v.fits ≡ true
+  pub read : Some v ≡ level_at s i
   pub known : Known S l (2 * pair_of position l) s old (root_at roots l)
   pub c_known : Known S (l + 1) (pair_of position l) s c-old (root_at roots (l + 1))
 
 -- for 22 to 25
-abbrev pub ValueThere : Scheme → ℕ → ℕ → List ℕ → ℕ → ℕ → List ℕ → Opened → Type 0
+abbrev pub ValueThere : Scheme → ℕ → ℕ → List ℕ → ℕ → ℕ → List ℕ → Option Opening → Type 0
 ValueThere S l q s group path root old = (Readable S l s group path) × (Known S l q s old root)
 
 -- for 16 to 26 of every level
-abbrev pub LevelsThere : Scheme → ℕ → List ℕ → List ℕ → List ℕ → List Opened → Type 0
+abbrev pub LevelsThere : Scheme → ℕ → List ℕ → List ℕ → List ℕ → List (Option Opening) → Type 0
 LevelsThere S position challenges roots s ways = (Allowed S position challenges roots) × (Whole S.n s) × (LevelsKnown S position roots s ways)

@@ -6,7 +6,4 @@ use Prim.Native.Nat.{◌-◌, ◌≤◌}
 use Rattle.record_reader.proofs.query_whole.Given as goal
 
 abbrev pub invariant-loop-l : goal.invariant-loop-l
-invariant-loop-l l = (l.l ≤ l.n) × (l.at ≤ length l.s) × (whole_items level_form (l.n - l.l) (drop l.at l.s) ≡ record_whole level_form l.s)
-
-abbrev pub decreases-loop-l : goal.decreases-loop-l
-decreases-loop-l l = l.n - l.l
+invariant-loop-l l = (l.at ≤ length l.s) × (whole_items level_form (l.n - l._l) (drop l.at l.s) ≡ record_whole level_form l.s)

@@ -4,7 +4,7 @@ use borrow.Author.Rules.{rules}
 use Rattle.record_reader.proofs.run_at.Goals as goal
 
 pub returns-then-left-lt4 : goal.returns-then-left-lt4
-returns-then-left-lt4 c = search (no_count, rules)
+returns-then-left-lt4 c = no_count _ _ _ c.if-left-lt4.true
 
 pub overflow_mul-size : goal.overflow_mul-size
 overflow_mul-size c =
@@ -17,7 +17,7 @@ overflow_add-size c =
     search rules
 
 pub returns-then-left-size : goal.returns-then-left-size
-returns-then-left-size c = search (no_items, rules)
+returns-then-left-size c = no_items _ _ _ _ c.count_at-count.ensures.0 c.if-left-lt4.false c.if-left-size.true
 
 pub returns : goal.returns
-returns c = search (all-items, rules)
+returns c = all-items _ _ _ _ c.count_at-count.ensures.0 c.if-left-lt4.false c.requires.0 c.if-left-size.false

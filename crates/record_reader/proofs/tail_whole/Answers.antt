@@ -3,25 +3,23 @@ use borrow.Author.Rules.{rules}
 use Rattle.record_reader.proofs.Places.{group_places, group_more, group_less}
 use Rattle.theory_record.proofs.Reading.{whole_begin, whole-short, whole_end}
 use Rattle.theory_record.specs.Format.{tail_form}
-use mathlib.Core.Path.{◌∙◌}
 use Rattle.record_reader.proofs.tail_whole.Goals as goal
 
 pub returns-then-s-lt4 : goal.returns-then-s-lt4
 returns-then-s-lt4 c = whole-short tail_form _ c.if-s-lt4.true
 
 pub loop-g-init : goal.loop-g-init
-loop-g-init c = (search rules, search rules, whole_begin tail_form _ _ c.if-s-lt4.false c.count_at-n.ensures.0)
+loop-g-init c = (search rules, whole_begin tail_form _ _ c.if-s-lt4.false c.count_at-n.ensures.0)
 
-pub returns-then-not-v : goal.returns-then-not-v
-returns-then-not-v c =
-    group_less _ _ _ _ _ _ c.group_at-v.ensures c.loop-g-test.true c.loop-g.invariant.2 c.if-not-v.true
+pub returns-in_default : goal.returns-in_default
+returns-in_default c = group_less _ _ _ _ _ c.loop-g-test.true c.loop-g.invariant.1 c.in_default.ensures
 
 pub loop-g-preserved : goal.loop-g-preserved
 loop-g-preserved c =
-    let v = c.group_at-v.ensures in
-    (search rules, (group_places _ _ _ v).within, group_more _ _ _ _ _ _ v c.loop-g-test.true c.loop-g.invariant.2 c.if-not-v.false)
+    let v = c.in-Some.ensures in
+    ((group_places _ _ _ v).within, group_more _ _ _ _ _ c.loop-g-test.true c.loop-g.invariant.1 _ v)
 
 pub returns : goal.returns
 returns c =
     let q = c.loop-g.invariant in
-    c.at_end.ensures ∙ whole_end tail_form _ _ _ _ _ c.loop-g-test.false q.1 q.2
+    whole_end tail_form _ _ _ _ _ c.loop-g-test.false q.0 q.1

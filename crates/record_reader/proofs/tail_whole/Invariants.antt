@@ -6,7 +6,4 @@ use Prim.Native.Nat.{◌-◌, ◌≤◌}
 use Rattle.record_reader.proofs.tail_whole.Given as goal
 
 abbrev pub invariant-loop-g : goal.invariant-loop-g
-invariant-loop-g l = (l.g ≤ l.n) × (l.at ≤ length l.s) × (whole_items tail_form (l.n - l.g) (drop l.at l.s) ≡ record_whole tail_form l.s)
-
-abbrev pub decreases-loop-g : goal.decreases-loop-g
-decreases-loop-g l = l.n - l.g
+invariant-loop-g l = (l.at ≤ length l.s) × (whole_items tail_form (l.n - l._g) (drop l.at l.s) ≡ record_whole tail_form l.s)

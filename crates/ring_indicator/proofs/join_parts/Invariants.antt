@@ -1,7 +1,5 @@
 -- `ring_indicator::join_parts` meets its contract: the words so far are joined.
 use mathlib.Core.Path.{◌≡◌}
-use Prim.Native.Nat.{◌-◌, ◌≤◌}
-use lib.ListN.{length}
 use Rattle.theory_laws.specs.Table.{at}
 use Rattle.theory_laws.proofs.Updates.{updated}
 use Rattle.theory_field.specs.Words.{words}
@@ -11,7 +9,4 @@ use Rattle.ring_indicator.proofs.join_parts.Given as goal
 
 abbrev pub invariant-loop-k : goal.invariant-loop-k
 invariant-loop-k l =
-    (l.k ≤ 128) × (length l.t ≡ 256) × (words l.t ≡ updated l.k (join_parts (word l.z) (at (words l.mixed))) (words l.initial.t))
-
-abbrev pub decreases-loop-k : goal.decreases-loop-k
-decreases-loop-k l = 128 - l.k
+    words l.t ≡ updated l.k (join_parts (word l.z) (at (words l.mixed))) (words l.initial.t)

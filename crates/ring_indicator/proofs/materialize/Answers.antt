@@ -1,5 +1,5 @@
--- `ring_indicator::materialize` meets its contract: refused it leaves what the equality table leaves, and otherwise phi of each entry.
-use mathlib.Core.Path.{◌≡◌, sym, ap, ◌∙◌}
+-- `ring_indicator::materialize` meets its contract: phi of each entry of the equality table.
+use mathlib.Core.Path.{◌≡◌, refl, sym, ap, ◌∙◌}
 use Prim.Native.Nat.{◌/◌, ◌^◌}
 use native.Mathlib.Omega.{arith}
 use lib.ListN.{length}
@@ -9,32 +9,25 @@ use Rattle.field_equality.specs.helpers.Sizes.{Sizes}
 use Rattle.field_equality.proofs.Growing.{sizes}
 use Rattle.field_pack.specs.Phi.{coefficients}
 use Rattle.ring_indicator.proofs.Materialized.{materialized}
-use Rattle.theory_laws.proofs.Questions.{on_refused}
 use Rattle.ring_indicator.proofs.materialize.Goals as goal
-use Rattle.ring_indicator.proofs.materialize.Goals.{After-eq_table-number}
+use Rattle.ring_indicator.proofs.materialize.Goals.{In_ok-eq_table}
 
 -- what is known where no question said no
-lent : (c : After-eq_table-number) → c.eq_table-number.result ≡ 0
-    → Sizes c.args.n (length c.args.z.now)
-    (length c.args.out.now)
-lent c z = sizes _ _ _ _ c.eq_table-number.ensures.value z
-
-pub returns-then-number-ne0 : goal.returns-then-number-ne0
-returns-then-number-ne0 c =
-    let no = c.if-number-ne0.true in record { value = c.eq_table-number.ensures.value; out_after = c.eq_table-number.ensures.out_after ∙ on_refused c.eq_table-number.result _ _ no ∙ sym (on_refused c.eq_table-number.result _ _ no) }
+lent : (c : In_ok-eq_table) → Sizes c.args.n (length c.args.z.now) (length c.args.out.now)
+lent c = sizes _ _ _ _ c.in_ok-eq_table.ensures.value refl
 
 pub phi_all-requires : goal.phi_all-requires
 phi_all-requires c =
-    let known = lent (goal.at.phi_all-requires c).After-eq_table-number c.if-number-ne0.false in
-    omega (arith, known.of_table, c.eq_table-number.auto.out)
+    let known = lent (goal.at.phi_all-requires c).In_ok-eq_table in
+    omega (arith, known.of_table, c.eq_table.auto.out)
 
 pub returns : goal.returns
 returns c =
-    let a = c.args in let z = c.if-number-ne0.false in let known = lent (goal.at.returns c).After-eq_table-number z in
+    let a = c.args in let known = lent (goal.at.returns c).In_ok-eq_table in
     let n : length (words a.z.now) ≡ a.n = length-words-even a.z.now a.n known.of_point in
-    let m : length c.eq_table-number.new.out / 2 ≡ 2 ^ a.n = omega (arith, known.of_table, c.eq_table-number.auto.out) in record {
-      value = sym z ∙ c.eq_table-number.ensures.value;
+    let m : length c.eq_table.new.out / 2 ≡ 2 ^ a.n = omega (arith, known.of_table, c.eq_table.auto.out) in record {
+      value = c.in_ok-eq_table.ensures.value;
       out_after = c.phi_all.ensures
-          ∙ materialized (coefficients a.rb) (words a.z.now) (words c.eq_table-number.new.out) (length c.eq_table-number.new.out / 2)
-          (rw z at c.eq_table-number.ensures.out_after) (m ∙ ap (λ k. 2 ^ k) (sym n));
+          ∙ materialized (coefficients a.rb) (words a.z.now) (words c.eq_table.new.out) (length c.eq_table.new.out / 2)
+          c.in_ok-eq_table.ensures.out_after (m ∙ ap (λ k. 2 ^ k) (sym n));
     }

@@ -1,7 +1,13 @@
 -- `ring_indicator::phi_all` meets its contract, one by one and by the tables of the coefficients.
+use borrow.Author.Rules.{rules}
+use Rattle.theory_multilinear.specs.Phi.{phi}
 use Rattle.field_pack.specs.Phi.{coefficients}
 use Rattle.ring_indicator.proofs.phi_all.Goals as goal
 
-pub returns-else-m-lt-MANY : goal.returns-else-m-lt-MANY
-returns-else-m-lt-MANY c =
-    let a = c.args in c.phi_each_by_tables.ensures (coefficients a.rb) c.phi_tab-t.ensures
+pub returns-then-out-lt-MANY : goal.returns-then-out-lt-MANY
+returns-then-out-lt-MANY c = c.each_word.ensures (phi (coefficients c.args.rb)) (λ w r p. search rules)
+
+pub returns-else-out-lt-MANY : goal.returns-else-out-lt-MANY
+returns-else-out-lt-MANY c =
+    let f = coefficients c.args.rb in
+    c.each_word-else-out-lt-MANY.ensures (phi f) (λ w r p. let e = c.phi_tab-t.ensures in search rules)

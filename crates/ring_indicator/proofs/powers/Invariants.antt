@@ -1,6 +1,5 @@
 -- `ring_indicator::powers` meets its contract: the products so far stand there.
 use mathlib.Core.Path.{◌≡◌}
-use Prim.Native.Nat.{◌-◌, ◌≤◌}
 use lib.ListN.{length}
 use Rattle.theory_field.proofs.Product.{times}
 use Rattle.field_gf128.specs.Word.{word}
@@ -9,7 +8,4 @@ use Rattle.ring_indicator.proofs.powers.Given as goal
 
 abbrev pub invariant-loop-j : goal.invariant-loop-j
 invariant-loop-j l =
-    (l.j ≤ 128) × (length l.out ≡ 256) × (word l.p ≡ times l.j (word l.initial.p)) × Filled (λ i. times i (word l.initial.p)) l.j l.out
-
-abbrev pub decreases-loop-j : goal.decreases-loop-j
-decreases-loop-j l = 128 - l.j
+    (length l.out ≡ 256) × (word l.p ≡ times l.j (word l.initial.p)) × Filled (λ i. times i (word l.initial.p)) l.j l.out

@@ -14,25 +14,19 @@ use Rattle.ring_indicator.proofs.Steps.{step_words, run_begin, run_step, run_end
 use Rattle.ring_indicator.proofs.tensor_eval.Goals as goal
 
 pub loop-i-init : goal.loop-i-init
-loop-i-init c = (
-  omega arith,
-  search rules,
-  ap (tensor_run (words c.args.z.now) (words c.args.point.now))
-      (run_begin 254),
-)
+loop-i-init c = (search rules, ap (tensor_run (words c.args.z.now) (words c.args.point.now)) (run_begin 254))
 
 pub loop-i-preserved : goal.loop-i-preserved
 loop-i-preserved c =
     let a = c.args in (
-      omega arith,
-      omega (arith, c.tensor_step.auto.t),
+      search rules,
       run_step (words a.z.now) (words a.point.now) c.loop-i.i (at (words c.loop-i.t)) (at (words c.tensor_step.new.t))
           (tensor_run (words a.z.now) (words a.point.now) unit)
           (omega (arith, length-words a.z.now)) (omega (arith, length-words a.point.now))
           (step_words (word c.get.result) (word c.get-in-loop-i.result) (words c.tensor_step.new.t) (words c.loop-i.t)
           (length-words-even c.loop-i.t 128 (omega arith)) c.tensor_step.ensures
           ∙ ap₂ (λ z q. tensor_step z q (at (words c.loop-i.t))) c.get.ensures c.get-in-loop-i.ensures)
-          c.loop-i.invariant.2,
+          c.loop-i.invariant.1,
     )
 
 pub returns : goal.returns
@@ -41,5 +35,5 @@ returns c =
     let qs = words a.point.now in
     c.fold.ensures
     ∙ ap (λ t. fold_partials t (coefficients a.rb))
-    (run_end zs qs c.loop-i.i (at (words c.loop-i.t)) (tensor_run zs qs unit) (omega (arith, length-words a.z.now)) c.loop-i.invariant.2)
+    (run_end zs qs c.loop-i.i (at (words c.loop-i.t)) (tensor_run zs qs unit) (omega (arith, length-words a.z.now)) c.loop-i.invariant.1)
     ∙ tensor_indicator (coefficients a.rb) zs qs (omega (arith, length-words a.z.now, length-words a.point.now))

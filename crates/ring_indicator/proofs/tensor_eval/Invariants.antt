@@ -1,6 +1,5 @@
 -- `ring_indicator::tensor_eval` meets its contract: what is left of the steps gives the final words, and their fold is the indicator.
 use mathlib.Core.Path.{◌≡◌}
-use Prim.Native.Nat.{◌-◌, ◌≤◌}
 use lib.ListN.{length, drop}
 use Rattle.theory_laws.specs.Table.{at}
 use Rattle.theory_field.specs.Words.{words}
@@ -9,7 +8,4 @@ use Rattle.ring_indicator.proofs.tensor_eval.Given as goal
 
 abbrev pub invariant-loop-i : goal.invariant-loop-i
 invariant-loop-i l =
-    (l.i ≤ l.n) × (length l.t ≡ 256) × (tensor_run (drop l.i (words l.z)) (drop l.i (words l.point)) (at (words l.t)) ≡ tensor_run (words l.z) (words l.point) unit)
-
-abbrev pub decreases-loop-i : goal.decreases-loop-i
-decreases-loop-i l = l.n - l.i
+    (length l.t ≡ 256) × (tensor_run (drop l.i (words l.z)) (drop l.i (words l.point)) (at (words l.t)) ≡ tensor_run (words l.z) (words l.point) unit)

@@ -1,6 +1,6 @@
 -- `tree_build::put_leaves_from` meets its contract.
 -- The loop's invariant: storing the leaves of the groups that are left gives the final buffer, and the message's prefix is kept.
-use Prim.Native.Nat.{◌≤◌, ◌-◌, ◌+◌, ◌*◌}
+use Prim.Native.Nat.{◌-◌, ◌+◌, ◌*◌}
 use mathlib.Core.Path.{◌≡◌}
 use lib.ListN.{length, take, drop}
 use Rattle.theory_laws.specs.Lists.{runs, flat, stored}
@@ -12,10 +12,7 @@ use Rattle.tree_build.proofs.put_leaves_from.Given as goal
 
 abbrev pub invariant-loop-g : goal.invariant-loop-g
 invariant-loop-g l =
-    (l.g ≤ l.groups) × (l.from ≡ 2 * (l.width * l.g)) × (l.to ≡ 32 * l.g) × (length l.out ≡ length l.initial.out) × (length l.message ≡ length l.initial.message)
-    × (take l.prefix l.message ≡ leaf_prefix l.domain l.count l.width)
-    × (stored l.out l.to (flat (leaves_from (under l.mode) l.domain l.count l.width (l.first + l.g) (runs l.width (l.groups - l.g) (drop (l.width * l.g) (words l.values)))))
-    ≡ stored l.initial.out l.initial.to (flat (leaves_from (under l.mode) l.domain l.count l.width (l.first + l.done) (runs l.width (l.groups - l.done) (drop (l.width * l.done) (words l.values))))))
-
-abbrev pub decreases-loop-g : goal.decreases-loop-g
-decreases-loop-g l = l.groups - l.g
+    (length l.out ≡ length l.initial.out) × (length l.message ≡ length l.initial.message)
+    × (take l.prefix l.message ≡ leaf_prefix l.hashing.domain.now l.fn.shape.count l.width)
+    × (stored l.out (32 * l.g) (flat (leaves_from (under l.hashing.mode) l.hashing.domain.now l.fn.shape.count l.width (l.first + l.g) (runs l.width (l.groups - l.g) (drop (l.width * l.g) (words l.values)))))
+    ≡ stored l.initial.out (32 * l.fn.done) (flat (leaves_from (under l.hashing.mode) l.hashing.domain.now l.fn.shape.count l.width (l.first + l.fn.done) (runs l.width (l.groups - l.fn.done) (drop (l.width * l.fn.done) (words l.values))))))

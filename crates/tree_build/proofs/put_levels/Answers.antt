@@ -9,7 +9,6 @@ use Rattle.tree_build.proofs.put_levels.Goals as goal
 
 pub loop-level-init : goal.loop-level-init
 loop-level-init c = (
-  search rules,
   power_begin _ _ c.requires.1,
   search rules,
   refl,
@@ -21,28 +20,27 @@ put_parents-requires c = (
   c.requires.0,
   omega (
     arith,
-    half-even _ _ _ c.loop-level-test.true c.loop-level.invariant.1,
-    half_some _ _ _ c.loop-level-test.true c.loop-level.invariant.1,
+    half-even _ _ _ c.loop-level-test.true c.loop-level.invariant.0,
+    half_some _ _ _ c.loop-level-test.true c.loop-level.invariant.0,
   ),
 )
 
 pub overflow_mul-from : goal.overflow_mul-from
 overflow_mul-from c =
-    omega (arith, half-even _ _ _ c.loop-level-test.true c.loop-level.invariant.1)
+    omega (arith, half-even _ _ _ c.loop-level-test.true c.loop-level.invariant.0)
 
 pub overflow_add-from : goal.overflow_add-from
 overflow_add-from c =
-    omega (arith, half-even _ _ _ c.loop-level-test.true c.loop-level.invariant.1)
+    omega (arith, half-even _ _ _ c.loop-level-test.true c.loop-level.invariant.0)
 
 pub loop-level-preserved : goal.loop-level-preserved
 loop-level-preserved c =
-    let e = half-even _ _ _ c.loop-level-test.true c.loop-level.invariant.1 in (
-      search rules,
-      next_power _ _ _ c.loop-level-test.true c.loop-level.invariant.1,
+    let e = half-even _ _ _ c.loop-level-test.true c.loop-level.invariant.0 in (
+      next_power _ _ _ c.loop-level-test.true c.loop-level.invariant.0,
       omega arith,
       search rules,
-      levels-step _ (length-under _) _ _ _ _ _ _ _ _ _ c.loop-level-test.true c.loop-level.invariant.1 refl c.loop-level.invariant.2 c.put_parents.ensures c.loop-level.invariant.4,
+      levels-step _ (length-under _) _ _ _ _ _ _ _ _ _ c.loop-level-test.true c.loop-level.invariant.0 refl c.loop-level.invariant.1 c.put_parents.ensures c.loop-level.invariant.3,
     )
 
 pub returns : goal.returns
-returns c = levels_end _ (length-under _) _ _ _ _ _ _ _ c.loop-level-test.false c.loop-level.invariant.1 c.loop-level.invariant.4
+returns c = levels_end _ (length-under _) _ _ _ _ _ _ _ c.loop-level-test.false c.loop-level.invariant.0 c.loop-level.invariant.3

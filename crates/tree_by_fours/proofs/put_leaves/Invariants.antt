@@ -13,10 +13,9 @@ use Rattle.tree_by_fours.proofs.put_leaves.Given as goal
 
 abbrev pub invariant-loop-g : goal.invariant-loop-g
 invariant-loop-g l =
-    (l.from ≡ 2 * (l.width * l.g)) × (l.to ≡ 32 * l.g)
-    × Walk l.mode (leaf_prefix l.domain l.count l.width) l.h l.prefix (24 + 16 * l.width) l.all l.groups l.g l.initial.out l.initial.messages l.out l.messages
-    × (stored l.out l.to (flat (leaves_from (under l.mode) l.domain l.count l.width (l.first + l.g) (runs l.width (l.all - l.g) (drop (l.width * l.g) (words l.values)))))
-    ≡ stored l.initial.out 0 (flat (leaves_from (under l.mode) l.domain l.count l.width l.first (runs l.width l.all (words l.values)))))
+    Walk l.hashing.mode (leaf_prefix l.hashing.domain.now l.fn.shape.count l.width) l.h l.prefix (24 + 16 * l.width) l.all l.groups l.g l.initial.out l.initial.messages l.out l.messages
+    × (stored l.out (32 * l.g) (flat (leaves_from (under l.hashing.mode) l.hashing.domain.now l.fn.shape.count l.width (l.first + l.g) (runs l.width (l.all - l.g) (drop (l.width * l.g) (words l.values)))))
+    ≡ stored l.initial.out 0 (flat (leaves_from (under l.hashing.mode) l.hashing.domain.now l.fn.shape.count l.width l.first (runs l.width l.all (words l.values)))))
 
 abbrev pub decreases-loop-g : goal.decreases-loop-g
 decreases-loop-g l = l.all - l.g

@@ -12,10 +12,10 @@ use Rattle.tree_by_fours.proofs.put_parents.Given as goal
 
 abbrev pub invariant-loop-j : goal.invariant-loop-j
 invariant-loop-j l =
-    (l.src ≡ l.from + 64 * l.j) × (l.dst ≡ l.from + 64 * l.half + 32 * l.j) × Walk l.mode (node_prefix l.domain l.level) l.h l.prefix 80 l.all l.half l.j l.initial.tree l.initial.messages l.tree l.messages
+    Walk l.hashing.mode (node_prefix l.hashing.domain.now l.level) l.h l.prefix 80 l.all l.half l.j l.initial.tree l.initial.messages l.tree l.messages
     × (take (l.from + 64 * l.half) l.tree ≡ take (l.from + 64 * l.half) l.initial.tree)
-    × (stored l.tree l.dst (flat (parents (under l.mode) l.domain l.level (runs 32 (2 * (l.all - l.j)) (drop l.src l.initial.tree))))
-    ≡ stored l.initial.tree (l.from + 64 * l.half) (flat (parents (under l.mode) l.domain l.level (runs 32 (2 * l.all) (drop l.from l.initial.tree)))))
+    × (stored l.tree (l.from + 64 * l.half + 32 * l.j) (flat (parents (under l.hashing.mode) l.hashing.domain.now l.level (runs 32 (2 * (l.all - l.j)) (drop (l.from + 64 * l.j) l.initial.tree))))
+    ≡ stored l.initial.tree (l.from + 64 * l.half) (flat (parents (under l.hashing.mode) l.hashing.domain.now l.level (runs 32 (2 * l.all) (drop l.from l.initial.tree)))))
 
 abbrev pub decreases-loop-j : goal.decreases-loop-j
 decreases-loop-j l = l.all - l.j

@@ -4,4 +4,4 @@ use Rattle.tree_digest.proofs.digest_after.Goals as goal
 
 pub returns : goal.returns
 returns c =
-    after_hashed _ _ _ _ c.requires c.bytes_of.ensures c.value-v.ensures (c.chunk_rest-n.ensures 8)
+    after_hashed _ _ _ _ c.requires c.bytes_of.ensures c.value.ensures (c.chunk_rest-n.ensures 8)

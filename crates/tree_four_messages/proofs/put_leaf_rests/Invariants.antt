@@ -1,5 +1,5 @@
 -- `tree_four_messages::put_leaf_rests` meets its contract. The loop's invariant: the messages so far are whole, and the prefixes of the others stand.
-use Prim.Native.Nat.{◌≤◌, ◌-◌, ◌+◌, ◌*◌}
+use Prim.Native.Nat.{◌+◌, ◌*◌}
 use mathlib.Core.Path.{◌≡◌}
 use lib.ListN.{length}
 use Rattle.theory_laws.specs.Lists.{part}
@@ -11,8 +11,5 @@ use Rattle.tree_four_messages.proofs.put_leaf_rests.Given as goal
 
 abbrev pub invariant-loop-k : goal.invariant-loop-k
 invariant-loop-k l =
-    (l.k ≤ 4) × (l.from ≡ 2 * (l.width * l.k)) × (l.at ≡ 1024 * l.k + l.prefix) × (length l.messages ≡ length l.initial.messages)
+    (length l.messages ≡ length l.initial.messages)
     × StridesFilled l.initial.messages l.prefix (24 + 16 * l.width) (λ j. leaf_rest l.width (number l.group + j) (part l.width (l.width * j) (words l.values))) l.k l.messages
-
-abbrev pub decreases-loop-k : goal.decreases-loop-k
-decreases-loop-k l = 4 - l.k

@@ -6,18 +6,15 @@ use Rattle.tree_four_messages.proofs.Filling.{strides_begin, strides_step, strid
 use Rattle.tree_four_messages.proofs.put_node_rests.Goals as goal
 
 pub loop-k-init : goal.loop-k-init
-loop-k-init c = (search rules, search rules, search rules, refl, strides_begin _ _ _ _)
+loop-k-init c = (refl, strides_begin _ _ _ _)
 
 pub loop-k-preserved : goal.loop-k-preserved
 loop-k-preserved c = (
   search rules,
-  search rules,
-  search rules,
-  search rules,
-  strides_step _ _ _ _ _ _ _ _ _ c.loop-k-test.true (omega arith) (omega arith) c.loop-k.invariant.2
-      (node_rest_put _ _ _ _ _ _ _ _ _ c.loop-k.invariant.1 c.load-l.ensures c.load-r.ensures
-      c.node_rest.ensures) c.loop-k.invariant.4,
+  strides_step _ _ _ _ _ _ _ _ _ c.loop-k-test.true (omega arith) (omega arith) refl
+      (node_rest_put _ _ _ _ _ _ _ _ _ refl c.load-l.ensures c.load-r.ensures
+      c.node_rest.ensures) c.loop-k.invariant.1,
 )
 
 pub returns : goal.returns
-returns c = strides_end _ _ _ _ _ _ c.loop-k.invariant.0 (omega arith) c.loop-k.invariant.4
+returns c = strides_end _ _ _ _ _ _ (omega arith) (omega arith) c.loop-k.invariant.1

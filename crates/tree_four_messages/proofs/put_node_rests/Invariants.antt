@@ -1,5 +1,5 @@
 -- `tree_four_messages::put_node_rests` meets its contract. The loop's invariant: the messages so far are whole, and the prefixes of the others stand.
-use Prim.Native.Nat.{◌≤◌, ◌-◌, ◌+◌, ◌*◌}
+use Prim.Native.Nat.{◌+◌, ◌*◌}
 use mathlib.Core.Path.{◌≡◌}
 use mathlib.Core.List.{◌++◌}
 use lib.ListN.{length}
@@ -10,8 +10,5 @@ use Rattle.tree_four_messages.proofs.put_node_rests.Given as goal
 
 abbrev pub invariant-loop-k : goal.invariant-loop-k
 invariant-loop-k l =
-    (l.k ≤ 4) × (l.from ≡ l.src + 64 * l.k) × (l.at ≡ 1024 * l.k + l.prefix) × (length l.messages ≡ length l.initial.messages)
+    (length l.messages ≡ length l.initial.messages)
     × StridesFilled l.initial.messages l.prefix 80 (λ j. prefixed (part 32 (l.src + 64 * j) l.tree) ++ prefixed (part 32 (l.src + 64 * j + 32) l.tree)) l.k l.messages
-
-abbrev pub decreases-loop-k : goal.decreases-loop-k
-decreases-loop-k l = 4 - l.k

@@ -5,5 +5,5 @@ use Rattle.tree_four_ways.proofs.chosen.Goals as goal
 pub returns-then-level-depth : goal.returns-then-level-depth
 returns-then-level-depth c = search (lt-ltb, le-ltb)
 
-pub returns : goal.returns
-returns c = search (lt-ltb, le-ltb)
+pub returns-else-level-depth : goal.returns-else-level-depth
+returns-else-level-depth c = search (lt-ltb, le-ltb)

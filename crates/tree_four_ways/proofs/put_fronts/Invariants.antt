@@ -1,5 +1,5 @@
 -- `tree_four_ways::put_fronts` meets its contract. The loop's invariant: the first k messages have their fronts.
-use Prim.Native.Nat.{◌≤◌, ◌-◌, ◌+◌, ◌*◌}
+use Prim.Native.Nat.{◌+◌}
 use mathlib.Core.Path.{◌≡◌}
 use lib.ListN.{length}
 use Rattle.tree_four_messages.proofs.Filling.{StridesFilled}
@@ -9,8 +9,5 @@ use Rattle.tree_four_ways.proofs.put_fronts.Given as goal
 
 abbrev pub invariant-loop-k : goal.invariant-loop-k
 invariant-loop-k l =
-    (l.k ≤ 4) × (l.from ≡ 256 * l.k) × (l.at ≡ 1024 * l.k) × (length l.messages ≡ length l.initial.messages) × (length l.front ≡ 311)
+    (length l.messages ≡ length l.initial.messages) × (length l.front ≡ 311)
     × StridesFilled l.initial.messages 0 (48 + l.size) (λ j. node_front (domain_of l.domains l.size j)) l.k l.messages
-
-abbrev pub decreases-loop-k : goal.decreases-loop-k
-decreases-loop-k l = 4 - l.k

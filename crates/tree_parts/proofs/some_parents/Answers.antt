@@ -6,6 +6,6 @@ use Rattle.tree_parts.proofs.some_parents.Goals as goal
 
 pub returns : goal.returns
 returns c =
-    let a = c.args in let made = some_made _ (length-under _) a.domain.now a.level a.some a.children.now _ _ _ c.requires.pairs (omega (arith, c.requires.few))
+    let a = c.args in let made = some_made _ (length-under _) a.hashing.domain.now a.level a.some a.children.now _ _ _ c.requires.pairs (omega (arith, c.requires.few))
     c.put.ensures.bytes c.put_parents.ensures in
-    rw (made, length_some _ (length-under _) a.domain.now a.level a.some a.children.now) at c.put-2.ensures
+    rw (made, length_some _ (length-under _) a.hashing.domain.now a.level a.some a.children.now) at c.put-2.ensures

@@ -1,20 +1,12 @@
--- `groups::is_power` meets its contract. The loop's invariant: the exponents that are left decide.
-use mathlib.Core.Path.{refl}
-use Rattle.tree_place.proofs.Loops.{power_halves, power_step, power_yes, power_no}
-use borrow.Author.Rules.{rules}
+-- `is_power` meets its contract.
+use Rattle.std.proofs.lemmas.Nat.{one_shl}
+use mathlib.Core.Path.{◌∙◌}
+use native.Mathlib.Omega.{arith}
+use Rattle.tree_place.proofs.Loops.{power_found, power_none}
 use Rattle.tree_place.proofs.is_power.Goals as goal
 
-pub loop-left-init : goal.loop-left-init
-loop-left-init c = (search rules, refl)
-
-pub returns-then-x-p : goal.returns-then-x-p
-returns-then-x-p c = search power_yes
-
-pub loop-left-preserved : goal.loop-left-preserved
-loop-left-preserved c = (search power_halves, search power_step)
-
-pub returns-then-x-p-2 : goal.returns-then-x-p-2
-returns-then-x-p-2 c = search power_yes
+pub returns-then-x-k : goal.returns-then-x-k
+returns-then-x-k c = power_found _ _ c.loop-k.k (omega arith) (c.if-x-k.true ∙ one_shl c.loop-k.k 64 (omega arith))
 
 pub returns : goal.returns
-returns c = search power_no
+returns c = power_none _ _ (λ j h. c.loop-k.invariant j (omega arith))

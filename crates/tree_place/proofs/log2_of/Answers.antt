@@ -1,14 +1,12 @@
--- `groups::log2_of` meets its contract. The loop's invariant: the halvings done and the logarithm of what is left make the whole.
-use Rattle.tree_place.proofs.Loops.{log2-turn, log2-done}
-use borrow.Author.Rules.{rules}
+-- `log2_of` meets its contract.
+use Rattle.theory_merkle.proofs.Sizes.{log2_end}
+use Rattle.tree_place.proofs.Loops.{log2-counted}
 use native.Mathlib.Omega.{arith}
+use mathlib.Core.Path.{sym}
 use Rattle.tree_place.proofs.log2_of.Goals as goal
 
-pub loop-rest-init : goal.loop-rest-init
-loop-rest-init c = (search rules, omega arith)
-
-pub loop-rest-preserved : goal.loop-rest-preserved
-loop-rest-preserved c = (search rules, search log2-turn)
+pub returns-then-x-eq0 : goal.returns-then-x-eq0
+returns-then-x-eq0 c = rw c.if-x-eq0.true (sym (log2_end 0 (omega arith)))
 
 pub returns : goal.returns
-returns c = search log2-done
+returns c = log2-counted c.args.x (omega arith) c.ranges.x.fits

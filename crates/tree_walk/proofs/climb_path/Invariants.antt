@@ -1,5 +1,4 @@
 -- `climb_path` meets its contract. The loop's invariant: the way that is left from here leads to the same root.
-use Prim.Native.Nat.{◌≤◌, ◌-◌}
 use mathlib.Core.Path.{◌≡◌}
 use lib.ListN.{length, drop}
 use Rattle.theory_laws.specs.Lists.{runs}
@@ -12,8 +11,6 @@ use Rattle.tree_walk.proofs.climb_path.Given as goal
 
 abbrev pub invariant-loop-l : goal.invariant-loop-l
 invariant-loop-l l =
-    (l.l ≤ l.depth) × (length l.message ≡ 391) × (NodesBegun l.mode l.h l.domain l.message)
-    × (climb_from (under l.mode) l.domain l.s l.from l.depth l.l (number l.g) l.d ≡ climb (under l.mode) l.domain 0 (number l.initial.g) l.initial.d (runs 32 l.depth (drop l.from l.s)))
-
-abbrev pub decreases-loop-l : goal.decreases-loop-l
-decreases-loop-l l = l.depth - l.l
+    (length l.message ≡ 391) × (NodesBegun l.hashing.mode l.h l.hashing.domain.now l.message)
+    × (climb_from (under l.hashing.mode) l.hashing.domain.now l.s l.from l.depth l.l (number l.g) l.d
+    ≡ climb (under l.hashing.mode) l.hashing.domain.now 0 (number l.initial.g) l.initial.d (runs 32 l.depth (drop l.from l.s)))

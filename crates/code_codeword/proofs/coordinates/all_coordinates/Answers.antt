@@ -7,11 +7,11 @@ use Rattle.theory_laws.proofs.Updates.{fill_step}
 use Rattle.code_codeword.proofs.coordinates.all_coordinates.Goals as goal
 
 pub loop-i-init : goal.loop-i-init
-loop-i-init c = (omega arith, refl, λ v h. absurd (omega arith))
+loop-i-init c = (refl, λ v h. absurd (omega arith))
 
 pub loop-i-preserved : goal.loop-i-preserved
 loop-i-preserved c =
-    (omega arith, simp length-set (omega arith), fill_step (λ v. v) c.loop-i.i c.loop-i.list c.loop-i.i (omega arith) refl c.loop-i.invariant.2)
+    (simp length-set (omega arith), fill_step (λ v. v) c.loop-i.i c.loop-i.list c.loop-i.i (omega arith) refl c.loop-i.invariant.1)
 
 pub returns : goal.returns
-returns c = is-tab c.loop-i.list _ (λ v. v) c.loop-i.invariant.1 (λ v h. c.loop-i.invariant.2 v (omega arith))
+returns c = is-tab c.loop-i.list _ (λ v. v) c.loop-i.invariant.0 (λ v h. c.loop-i.invariant.1 v (omega arith))

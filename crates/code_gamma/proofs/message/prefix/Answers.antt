@@ -24,7 +24,7 @@ counted_is keyed started_so fed_so =
 
 labelled-is : (c : After-feed_part-labelled) → c.feed_part-labelled.result ≡ fed new labelled
 unfolding prefixed gamma_label
-labelled-is c = fed_then _ _ _ (counted_is c.iv-key.ensures c.start-empty.ensures c.feed_number-counted.ensures) c.feed_part-labelled.ensures
+labelled-is c = fed_then _ _ _ (counted_is c.iv.ensures c.start-empty.ensures c.feed_number-counted.ensures) c.feed_part-labelled.ensures
 
 named-is : (c : After-feed_part-named) → c.feed_part-named.result ≡ fed new (named c.args.domain.now)
 unfolding prefixed
@@ -36,10 +36,10 @@ sized-is c = fed_then _ _ _ (named-is (goal.at.feed_number_part-requires c).Afte
 
 pub feed_number-counted-requires : goal.feed_number-counted-requires
 unfolding fed
-feed_number-counted-requires c = fits-new _ [] 0 8 (c.start-empty.ensures ∙ ap (λ (key : List ℕ). started key 0 0) c.iv-key.ensures) refl (lit≤ tt)
+feed_number-counted-requires c = fits-new _ [] 0 8 (c.start-empty.ensures ∙ ap (λ (key : List ℕ). started key 0 0) c.iv.ensures) refl (lit≤ tt)
 
 pub feed_part-labelled-requires : goal.feed_part-labelled-requires
-feed_part-labelled-requires c = fits-new _ (le_bytes 8 6) 8 29 (counted_is c.iv-key.ensures c.start-empty.ensures c.feed_number-counted.ensures) (length-le_bytes 8 6) (lit≤ tt)
+feed_part-labelled-requires c = fits-new _ (le_bytes 8 6) 8 29 (counted_is c.iv.ensures c.start-empty.ensures c.feed_number-counted.ensures) (length-le_bytes 8 6) (lit≤ tt)
 
 pub feed_part-named-requires : goal.feed_part-named-requires
 feed_part-named-requires c = fits-new _ labelled 37 _ (labelled-is c) length-labelled (omega arith)

@@ -1,5 +1,4 @@
 -- `keys::mode_of` meets its contract.
-use borrow.Author.Rules.{rules}
 use Rattle.theory_laws.proofs.Questions.{yes_eq, no_eq}
 use Rattle.export_dequmlo.specs.Keys.{mode_of}
 use Rattle.export_dequmlo.proofs.keys.mode_of.Goals as goal

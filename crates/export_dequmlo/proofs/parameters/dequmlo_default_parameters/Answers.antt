@@ -1,6 +1,5 @@
 -- `export_dequmlo::parameters::dequmlo_default_parameters` meets its contract.
 use mathlib.Core.Path.{◌∙◌}
-use borrow.Author.Rules.{rules}
 use Rattle.export_dequmlo.proofs.parameters.dequmlo_default_parameters.Goals as goal
 
 pub returns : goal.returns

@@ -1,6 +1,5 @@
 -- `export_dequmlo::parameters::exported_of` meets its contract.
 use mathlib.Core.Path.{◌∙◌}
-use borrow.Author.Rules.{rules}
 use Rattle.export_dequmlo.proofs.parameters.exported_of.Goals as goal
 
 pub returns : goal.returns

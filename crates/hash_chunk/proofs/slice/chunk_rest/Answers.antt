@@ -11,8 +11,8 @@ loop-from-init c = (omega arith, omega arith, λ x. refl)
 pub loop-from-preserved : goal.loop-from-preserved
 loop-from-preserved c =
     let a = c.args in let next =
-    next_law a.flags a.t c.loop-from.h _ _ _ _ _ _ c.words_at-m.ensures c.start_flag-f.ensures c.compress-w.ensures
-    c.first_eight-v.ensures in (
+    next_law a.flags a.t c.loop-from.h _ _ _ _ _ _ c.words_at-m.ensures c.start_flag-f.ensures c.compress.ensures
+    c.first_eight-h.ensures in (
       omega arith,
       omega arith,
       λ x.

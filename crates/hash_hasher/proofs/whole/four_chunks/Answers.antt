@@ -4,4 +4,4 @@ use Rattle.hash_hasher.proofs.whole.four_chunks.Goals as goal
 
 pub returns : goal.returns
 returns c =
-    let a = c.args in four-values a.key a.flags a.t a.from a.input.now c.chunks.result c.chunks.ensures
+    let a = c.args in four-values a.mode.key a.mode.flags a.t a.from a.input.now c.chunks.result c.chunks.ensures

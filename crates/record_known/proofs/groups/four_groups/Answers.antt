@@ -1,18 +1,15 @@
 -- `record_known::groups::four_groups` meets its contract: one group after the other.
-use Rattle.theory_record.specs.Scheme.{scheme}
 use native.Mathlib.Omega.{arith}
+use Rattle.theory_record.specs.Lent.{fixed_by}
 use Rattle.record_known.specs.helpers.Known.{groups}
 use Rattle.record_known.proofs.Known.{one-settled}
 use Rattle.record_known.proofs.groups.four_groups.Goals as goal
 
-pub returns : goal.returns
-returns c =
-    let f = c.requires in
-    let a = c.args in
-    let S = scheme a.how a.base.now a.n a.k in
-    let end = c.group_ends-ends.ensures in
-    let at_one = one-settled S (groups S) _ _ a.openings _ _ _ _ _ (omega (arith, f.group_most)) end.first f.known_so_far
-    c.settle-one.ensures in
-    let at-two = one-settled S (groups S) _ _ a.openings _ _ _ _ _ (omega (arith, f.group_most)) end.second at_one c.settle-two.ensures in
-    let at-three = one-settled S (groups S) _ _ a.openings _ _ _ _ _ (omega (arith, f.group_most)) end.third at-two c.settle-three.ensures in
-    one-settled S (groups S) _ _ a.openings _ _ _ _ _ (omega (arith, f.group_most)) end.fourth at-three c.settle.ensures
+pub loop-j-init : goal.loop-j-init
+loop-j-init c = c.requires.known_so_far
+
+pub loop-j-preserved : goal.loop-j-preserved
+loop-j-preserved c =
+    let S = fixed_by c.args.deposit in
+    one-settled S (groups S) _ _ c.args.openings _ _ _ _ (omega (arith, c.requires.group_most, c.loop-j-test.true))
+    (c.group_ends-ends.ensures.end_of _ c.loop-j-test.true) c.loop-j.invariant c.settle-more.ensures

@@ -1,12 +1,7 @@
--- `record_known::groups::group_openings` meets its contract: none of those found so far is known.
-use Prim.Native.Nat.{◌-◌, ◌≤◌}
-use mathlib.Core.Path.{◌≡◌}
+-- `record_known::groups::group_openings` meets its contract: what is read next is in the record.
+use Prim.Native.Nat.{◌≤◌}
 use lib.ListN.{length}
-use Rattle.record_known.specs.helpers.Known.{NoneKnown}
 use Rattle.record_known.proofs.groups.group_openings.Given as goal
 
 abbrev pub invariant-loop-g : goal.invariant-loop-g
-invariant-loop-g l = (l.g ≤ l.count) × (l.at ≤ length l.s) × (length l.ways ≡ 21) × NoneKnown l.ways
-
-abbrev pub decreases-loop-g : goal.decreases-loop-g
-decreases-loop-g l = l.count - l.g
+invariant-loop-g l = l.at ≤ length l.s

@@ -1,11 +1,7 @@
 -- `record_known::groups::known_groups` meets its contract: what is known so far is so.
-use Prim.Native.Nat.{◌-◌, ◌≤◌}
-use Rattle.theory_record.specs.Scheme.{scheme}
+use Rattle.theory_record.specs.Lent.{fixed_by}
 use Rattle.record_known.specs.helpers.Known.{GroupsKnown}
 use Rattle.record_known.proofs.groups.known_groups.Given as goal
 
-abbrev pub invariant-loop-g : goal.invariant-loop-g
-invariant-loop-g l = (l.g ≤ l.count) × GroupsKnown (scheme l.how l.base l.n l.k) l.root l.s l.ways
-
-abbrev pub decreases-loop-g : goal.decreases-loop-g
-decreases-loop-g l = l.count - l.g
+abbrev pub invariant-loop-four : goal.invariant-loop-four
+invariant-loop-four l = GroupsKnown (fixed_by l.deposit) l.root l.s l.ways

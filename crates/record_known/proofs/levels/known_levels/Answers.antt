@@ -1,12 +1,11 @@
 -- `record_known::levels::known_levels` meets its contract: what is known so far is so.
 use borrow.Author.Rules.{rules}
-use native.Mathlib.Omega.{arith}
 use Rattle.record_known.proofs.Known.{none-known}
 use Rattle.record_known.proofs.levels.known_levels.Goals as goal
 
 pub loop-e-init : goal.loop-e-init
 loop-e-init c =
-    (search rules, none-known _ _ _ _ _ (omega arith) c.level_openings-openings.ensures)
+    (search rules, none-known _ _ _ _)
 
 pub four_levels-more-requires : goal.four_levels-more-requires
 four_levels-more-requires c =

@@ -1,7 +1,6 @@
 -- `ring_partials::sums::gather_half` meets its contract: the nibbles so far came in.
 use mathlib.Core.Path.{◌≡◌}
-use Prim.Native.Nat.{ℕ, ◌-◌, ◌≤◌}
-use lib.ListN.{length}
+use Prim.Native.Nat.{ℕ}
 use Rattle.theory_laws.specs.Xor.{◌⊕◌}
 use Rattle.theory_laws.specs.Sum.{sum}
 use Rattle.theory_field.specs.Words.{words}
@@ -12,8 +11,4 @@ use Rattle.ring_partials.proofs.sums.gather_half.Given as goal
 
 abbrev pub invariant-loop-i : goal.invariant-loop-i
 invariant-loop-i l =
-    (l.i ≤ 16) × (length l.buckets ≡ length l.initial.buckets)
-    × ((b : ℕ) → gathered (words l.buckets) b ≡ gathered (words l.initial.buckets) b ⊕ sum l.i (share l.half l.from (word l.e) b))
-
-abbrev pub decreases-loop-i : goal.decreases-loop-i
-decreases-loop-i l = 16 - l.i
+    ((b : ℕ) → gathered (words l.buckets) b ≡ gathered (words l.initial.buckets) b ⊕ sum l.i (share l.half l.from (word l.e) b))

@@ -1,6 +1,6 @@
 -- `ring_partials::sums::partials` meets its contract: the words so far came into the buckets, and the bits so far out of them.
 use mathlib.Core.Path.{◌≡◌}
-use Prim.Native.Nat.{ℕ, ◌-◌, ◌≤◌}
+use Prim.Native.Nat.{ℕ}
 use lib.ListN.{length}
 use Rattle.theory_laws.specs.Table.{at}
 use Rattle.theory_field.specs.Words.{words}
@@ -11,14 +11,8 @@ use Rattle.ring_partials.proofs.sums.partials.Given as goal
 
 abbrev pub invariant-loop-v : goal.invariant-loop-v
 invariant-loop-v l =
-    (l.v ≤ l.m) × (length l.buckets ≡ 1024) × ((b : ℕ) → gathered (words l.buckets) b ≡ partial l.v (at (words l.ws)) (at (words l.es)) b)
-
-abbrev pub decreases-loop-v : goal.decreases-loop-v
-decreases-loop-v l = l.m - l.v
+    (b : ℕ) → gathered (words l.buckets) b ≡ partial l.v (at (words l.ws)) (at (words l.es)) b
 
 abbrev pub invariant-loop-b : goal.invariant-loop-b
 invariant-loop-b l =
-    (l.b ≤ 128) × (length l.out ≡ 256) × Filled (gathered (words l.buckets)) l.b l.out
-
-abbrev pub decreases-loop-b : goal.decreases-loop-b
-decreases-loop-b l = 128 - l.b
+    (length l.out ≡ 256) × Filled (gathered (words l.buckets)) l.b l.out

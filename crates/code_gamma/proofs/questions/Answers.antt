@@ -1,0 +1,32 @@
+-- `code_gamma::questions` meets its contract.
+use native.Mathlib.Omega.{arith}
+use Rattle.theory_laws.proofs.Questions.{asks}
+use Rattle.code_codeword.proofs.Lengths.{gammas_fit}
+use Rattle.theory_code.specs.Questions.{derive_number}
+use Rattle.code_gamma.proofs.questions.Goals as goal
+
+pub returns-then-n-gt20 : goal.returns-then-n-gt20
+unfolding derive_number
+returns-then-n-gt20 c = search asks depth 14 fits 4000
+
+pub returns-then-k-gt4 : goal.returns-then-k-gt4
+unfolding derive_number
+returns-then-k-gt4 c = search asks depth 14 fits 4000
+
+pub overflow_mul-k : goal.overflow_mul-k
+overflow_mul-k c = omega (arith, gammas_fit {n = c.args.n} {k = c.args.k} (omega arith) (omega arith))
+
+pub overflow_mul-k-2 : goal.overflow_mul-k-2
+overflow_mul-k-2 c = omega (arith, gammas_fit {n = c.args.n} {k = c.args.k} (omega arith) (omega arith))
+
+pub returns-then-out-k : goal.returns-then-out-k
+unfolding derive_number
+returns-then-out-k c = search asks depth 14 fits 4000
+
+pub returns-then-domain-gt200 : goal.returns-then-domain-gt200
+unfolding derive_number
+returns-then-domain-gt200 c = search asks depth 14 fits 4000
+
+pub returns : goal.returns
+unfolding derive_number
+returns c = search asks depth 14 fits 4000

@@ -1,7 +1,0 @@
--- `test_lines::draw::product` is safe: a product of two numbers of 32 bits has 64.
-use Rattle.std.proofs.Common.{mul-le-mul, arith}
-use Rattle.test_lines.proofs.draw.product.Goals as goal
-
-pub overflow_mul-result : goal.overflow_mul-result
-overflow_mul-result c =
-    omega (arith, mul-le-mul {n₁ = c.args.a} {m₁ = c.args.b} {n₂ = 4294967295} {m₂ = 4294967295} (omega arith) (omega arith))

@@ -1,7 +1,0 @@
--- `digests::leaf_of` meets its contract.
-use Rattle.tree_digest.proofs.Messages.{leaf_hashed}
-use native.Mathlib.Omega.{arith}
-use Rattle.tree_digest.proofs.leaf_of.Goals as goal
-
-pub returns : goal.returns
-returns c = leaf_hashed _ _ _ _ _ _ _ _ _ _ _ c.leaf_prefix-prefix.ensures (omega arith) c.hash_group.ensures
