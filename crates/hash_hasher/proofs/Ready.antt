@@ -56,11 +56,11 @@ refused s n f = ⊎_elim (λ (e : number_of s n ≡ 0). absurd (f (ready s n e))
 -- ---- what the calls answer
 
 module _ (s : Hasher) (bs : List ℕ) where
-  pub update_refused : (e : Refusal) → no.number_of e ≡ number_of s (length bs) → updated {A = Unit} s (Err e) ≡ update_of s bs
+  pub update_refused : (e : Refusal) → no.number_of e ≡ number_of s (length bs) → updated s (Err e) ≡ update_of s bs
   unfolding update_of
   update_refused e q = rw (← q, not-done e)
 
-  pub update_done : {t : Hasher} → 0 ≡ number_of s (length bs) → t ≡ absorbed s bs → updated {A = Unit} t (Ok tt) ≡ update_of s bs
+  pub update_done : {t : Hasher} → 0 ≡ number_of s (length bs) → t ≡ absorbed s bs → updated s (Ok t) ≡ update_of s bs
   unfolding update_of
   update_done q f = rw (← q) (ap (λ (t : Hasher). record { number = 0; state = t }) f)
 

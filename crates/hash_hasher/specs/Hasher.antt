@@ -1,6 +1,6 @@
 -- What the hasher's calls answer, for every state: also for one whose counters agree but whose contents nobody made. That a state which
 -- was made by `new` and any sequence of updates gives the digest of all the bytes is a law (proofs/Sequence).
-use Rattle.std.specs.Prelude.{ℕ, ◌+◌, ◌*◌, min, List, [], ◌∷◌, Result, leb, eqb, length, replicate}
+use Rattle.std.specs.Prelude.{ℕ, ◌+◌, ◌*◌, min, List, [], ◌∷◌, Result, Ok, Err, leb, eqb, length, replicate}
 use Rattle.std.specs.Int.Count.{ones, count_trailing_zeros}
 use Rattle.theory_laws.specs.Questions.{pick, Question, ◌asks◌, first_no, on_done}
 use Rattle.theory_laws.specs.Refusals as refusals
@@ -83,9 +83,10 @@ pub record Updated : Type 0 where
   pub number : ℕ
   pub state : Hasher
 
--- the same of the state that a call leaves and of what it returns
-abbrev pub updated : {A : Type 0} → Hasher → Result A Refusal → Updated
-updated s r = record { number = refusals.answered r; state = s }
+-- the same of what a call on a state returns: the next state, or a refusal, which leaves the old one
+abbrev pub updated : Hasher → Result Hasher Refusal → Updated
+updated s (Ok next) = record { number = 0; state = next }
+updated s (Err e) = record { number = refusals.number_of e; state = s }
 
 -- an update: the state with the bytes, or the old state whole
 unfoldable pub update_of : Hasher → List ℕ → Updated

@@ -1,4 +1,4 @@
-// The hasher, fed by repeated calls.
+// The hasher, fed by repeated calls: its state goes in by value and comes back.
 ghost use Rattle.std.specs.Prelude.{◌≡◌, ◌+◌, ◌*◌, ◌≤◌, ◌<◌, length};
 ghost use Rattle.theory_blake3.specs.Compression as C;
 ghost use Rattle.theory_laws.specs.Refusals.{answered};
@@ -120,13 +120,14 @@ impl Hasher {
         }
     }
 
-    // The bytes of a slice more: 13, and the old state, where its counters do not agree or the bytes would be more than 2^24.
-    pub fn update(&mut self, input: &[u8]) -> Result<(), Refusal>
-        ensures { updated self.new result ≡ S.update_of self.old input.now }
+    // The state with the bytes of a slice more: 13, and the old state stays, where its counters do not agree or the bytes would be more than 2^24.
+    pub fn update(self, input: &[u8]) -> Result<Hasher, Refusal>
+        ensures { updated self result ≡ S.update_of self input.now }
     {
         self.questions(input.len())?;
-        self.absorb(input);
-        Ok(())
+        let mut next = self;
+        next.absorb(input);
+        Ok(next)
     }
 
     // The digest of the bytes so far.

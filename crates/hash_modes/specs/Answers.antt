@@ -37,8 +37,7 @@ begun_under q m = on_done q (begun 0 m.key m.flags) (begun q (replicate 8 0) 0)
 
 -- the same of what a call that starts a hasher returns
 abbrev pub started : Result Hasher Refusal → Updated
-started (Ok s) = updated s (Ok s)
-started (Err e) = updated {A = Hasher} (new_of (replicate 8 0) 0) (Err e)
+started r = updated (new_of (replicate 8 0) 0) r
 
 unfoldable pub keyed_hasher_of : List ℕ → Updated
 keyed_hasher_of key = begun_under (first_no (key_questions key)) (keyed_mode key)

@@ -4,7 +4,7 @@ ghost use Rattle.theory_record.specs.Lent.{fixed_by};
 ghost use Rattle.tree_place.specs.Place.{index};
 ghost use Rattle.record_known.specs.helpers.Domains.{level_in, OneDigitCount};
 ghost use Rattle.record_known.specs.helpers.Lanes.{InRange};
-ghost use Rattle.record_known.specs.helpers.Known.{LaneAt, EndsAt, levels, LevelsLent, FourLevels, LevelsKnown};
+ghost use Rattle.record_known.specs.helpers.Known.{LaneAt, EndsAt, levels, LevelsLent, FourLevels, LevelsKnown, four_known};
 
 use crate::{NO_OPENING, OPENINGS, four_ends, lane_of, level_in, put_domains, settle};
 use bytes_numbers::load;
@@ -124,13 +124,12 @@ fn four_levels(
 // Are all openings of four levels from e on known?
 fn four_known(ways: [Option<Opening>; OPENINGS], e: usize, last: usize) -> bool
     requires { (e ≤ last) × (last ≤ 20) }
+    ensures { result ≡ four_known ways e last }
 {
-    for j in 0..4 {
-        if ways[level_in(e, last, j)].is_none() {
-            return false;
-        }
-    }
-    true
+    ways[level_in(e, last, 0)].is_some()
+        && ways[level_in(e, last, 1)].is_some()
+        && ways[level_in(e, last, 2)].is_some()
+        && ways[level_in(e, last, 3)].is_some()
 }
 
 // What is known of the openings of levels 0 to n of a query record for a position. After four of which one is not known, none is looked at: the

@@ -80,7 +80,7 @@ fn digest_of_pieces(
     // The sizes differ from piece to piece.
     while 0 < rest.len() {
         let (piece, after) = rest.split_at(size_at(k).min(rest.len()));
-        hasher.update(piece)?;
+        hasher = hasher.update(piece).unwrap_or(hasher);
         rest = after;
         k = (k + step % 2) % 8;
     }
@@ -122,7 +122,7 @@ pub fn derived_pieces(request: &Request, lent: &mut Lent) -> Answer {
 fn fed_times(input: &[u8], times: usize) -> Hasher {
     let mut hasher = Hasher::new();
     for _ in 0..times {
-        let _ = hasher.update(input);
+        hasher = hasher.update(input).unwrap_or(hasher);
     }
     hasher
 }
@@ -130,10 +130,10 @@ fn fed_times(input: &[u8], times: usize) -> Hasher {
 // The number that a last piece gets, and the digest of the state that is left.
 pub fn fed(request: &Request, lent: &mut Lent) -> Answer {
     let [times, ..] = request.numbers();
-    let mut hasher = fed_times(request.bytes(0), times);
-    let number = number(&hasher.update(request.bytes(1)));
-    done_or_refused(lent, hasher.finalize());
-    Answer::One(number)
+    let hasher = fed_times(request.bytes(0), times);
+    let updated = hasher.update(request.bytes(1));
+    done_or_refused(lent, updated.unwrap_or(hasher).finalize());
+    Answer::One(number(&updated))
 }
 
 // A state with these counters: blocks, fill, chunks, depth and byte count. What else it holds tells its fields apart.
@@ -189,13 +189,13 @@ fn state_bytes(alloc: Global, hasher: &Hasher) -> Result<Vec<u8>, AllocError> {
 // What update and finalize answer for a state whose counters are given: both numbers; finalize's digest, and the state that update leaves.
 pub fn state(alloc: Global, request: &Request, lent: &mut Lent) -> Result<Answer, AllocError> {
     let given = state_of(request.list(0));
-    let mut left = given;
-    let updated = number(&left.update(request.bytes(0)));
+    let updated = given.update(request.bytes(0));
+    let left = updated.unwrap_or(given);
     let digest = given.finalize();
     let finalized = number(&digest);
     let mut out = Vec::new(alloc);
     out.extend_from_slice(&digest.unwrap_or([0; 32]))?;
     out.extend_from_slice(state_bytes(alloc, &left)?.as_slice())?;
     put(first(&mut lent.bytes), out.as_slice());
-    Ok(Answer::Two(updated, finalized))
+    Ok(Answer::Two(number(&updated), finalized))
 }

@@ -1,5 +1,7 @@
 -- What a first pass knows of the openings of a record.
-use Rattle.std.specs.Prelude.{ℕ, ◌+◌, ◌*◌, ◌/◌, ◌^◌, ◌≤◌, ◌<◌, ◌≡◌, List, Option, Some, None, length, get_or, set}
+use Rattle.std.specs.Prelude.{ℕ, ◌+◌, ◌*◌, ◌/◌, ◌^◌, ◌≤◌, ◌<◌, ◌≡◌, Bool, List, Option, Some, None, length, get_or, set}
+use Rattle.std.specs.Option.{is_some}
+use Rattle.theory_laws.specs.Questions.{both}
 use Rattle.theory_laws.specs.Lists.{same}
 use Rattle.theory_record.specs.Query.{root_at}
 use Rattle.theory_record.specs.Scheme.{Scheme, width_at}
@@ -7,7 +9,7 @@ use Rattle.record_reader.specs.declared.Opening.{Opening}
 use Rattle.record_reader.specs.helpers.Places.{where_there}
 use Rattle.record_opening.specs.helpers.Opening.{Known}
 use Rattle.tree_four_ways.specs.declared.Lane.{Lane}
-use Rattle.record_known.specs.helpers.Domains.{OneDigitCount}
+use Rattle.record_known.specs.helpers.Domains.{level_in, OneDigitCount}
 use Rattle.record_known.specs.helpers.Lanes.{InRange, MaybeLaneOf, Ended}
 
 -- ---- any openings
@@ -79,6 +81,13 @@ pub record FourLevels (S : Scheme) (position : ℕ) (roots s : List ℕ) (e last
   pub last_most : last ≤ S.n
   pub one_count : OneDigitCount e last
   pub known_so_far : LevelsKnown S position roots s ways
+
+-- all openings of four levels from e on are known
+abbrev pub four_known : List (Option Opening) → ℕ → ℕ → Bool
+four_known ways e last =
+    both (is_some (known_of ways (level_in e last 0)))
+    (both (is_some (known_of ways (level_in e last 1)))
+    (both (is_some (known_of ways (level_in e last 2))) (is_some (known_of ways (level_in e last 3)))))
 
 -- ---- the groups of a tail record
 
