@@ -2,13 +2,13 @@
 // and prints what `tail` finds in it: `refused` and the number; or n and k, and then each entry.
 #![tactic(auto)]
 
+use export_text::read_full;
 use std::io;
-use std::io::Read;
 
 fn main(rt: HostRuntime) -> io::Result<()> {
-    let mut input = Vec::new(rt.alloc());
-    rt.stdin().take(4227).read_to_end(&mut input)?;
-    match export_tail_entries::tails(input.as_slice()) {
+    let mut input = [0u8; 4227];
+    let count = read_full(&mut rt.stdin(), &mut input)?;
+    match export_tail_entries::tails(&input[..count]) {
         Ok(level) => print!(&rt; "{level}"),
         Err(refusal) => println!(&rt; "refused {}", refusal.number()),
     }

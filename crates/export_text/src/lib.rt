@@ -1,8 +1,13 @@
-// Values as the programs print them. Nothing above rests on what is printed; the functions are proved safe and ending.
+// Values as the programs print them, and the input that they read into a buffer. Nothing above rests on what is printed; the functions are proved safe
+// and ending.
 #![tactic(auto)]
+
+ghost use Rattle.std.specs.Prelude.{◌≤◌, length, IfOk};
 
 use field_gf128::Word;
 use std::fmt;
+use std::io;
+use std::io::Read;
 
 // A word in 32 hexadecimal digits, the highest first.
 #[derive(Clone, Copy)]
@@ -26,4 +31,19 @@ impl<'a> fmt::Display for Bytes<'a> {
         }
         Ok(())
     }
+}
+
+// Reads until the buffer is full or the input ends, and answers how many bytes it put at the buffer's start; fails where a read does.
+pub fn read_full(reader: &mut impl Read, buffer: &mut [u8]) -> io::Result<usize>
+    ensures { IfOk result (λ n. n ≤ length buffer.new) }
+{
+    let mut done = 0;
+    while done < buffer.len() {
+        let count = reader.read(&mut buffer[done..])?;
+        if count == 0 {
+            break;
+        }
+        done += count;
+    }
+    Ok(done)
 }

@@ -2,7 +2,7 @@
 // is stated in specs/Identities, in the terms of their contracts.
 #![tactic(auto)]
 
-ghost use Rattle.std.specs.Prelude.{◌≡◌, ◌*◌, ◌/◌, length, IfOk};
+ghost use Rattle.std.specs.Prelude.{◌≡◌, ◌*◌, ◌/◌, length};
 ghost use Rattle.theory_laws.specs.Sum.{sum};
 ghost use Rattle.theory_laws.specs.Table.{at};
 ghost use Rattle.theory_laws.specs.Questions.{on_done};
@@ -13,7 +13,7 @@ ghost use Rattle.theory_multilinear.specs.Equality.{eq_table};
 ghost use Rattle.theory_multilinear.specs.Phi.{phi};
 ghost use Rattle.field_gf128.specs.Word.{word};
 ghost use Rattle.field_pack.specs.Phi.{numbers, coefficients};
-ghost use Rattle.ring_identities.specs.Numbers.{sides_number};
+ghost use Rattle.ring_identities.specs.Numbers.{sides_number, sided};
 ghost use Rattle.ring_identities.specs.Identities.{row_sum, extension_of_bits, sum_with_table, Evaluated};
 ghost use Rattle.ring_identities.specs.Identities.{partials_under_row, folded_partials, indicator_table};
 ghost use Rattle.ring_identities.specs.helpers.Sizes.{Sizes};
@@ -102,9 +102,9 @@ pub fn extension_sides(
     table: &mut [u64],
 ) -> Result<Sides, Refusal>
     ensures number_value { answered result ≡ sides_number n (length packed.now) (length point.now) (length table.old) }
-    ensures left_value { IfOk result (λ sides. word sides.left ≡ partials_under_row n packed.now point.now row) }
-    ensures right_value { IfOk result (λ sides. word sides.right ≡ extension_of_bits packed.now point.now row) }
-    ensures same { IfOk result (λ sides. sides.left ≡ sides.right) }
+    ensures left_value { word (sided result).left ≡ on_done (answered result) (partials_under_row n packed.now point.now row) 0 }
+    ensures right_value { word (sided result).right ≡ on_done (answered result) (extension_of_bits packed.now point.now row) 0 }
+    ensures same { (sided result).left ≡ (sided result).right }
     ensures table_after { words table.new ≡ on_done (answered result) (eq_table (words point.now)) (words table.old) }
 {
     questions(n, packed.len(), point.len(), table.len())?;
@@ -127,9 +127,9 @@ pub fn fold_sides(
     table: &mut [u64],
 ) -> Result<Sides, Refusal>
     ensures number_value { answered result ≡ sides_number n (length packed.now) (length point.now) (length table.old) }
-    ensures left_value { IfOk result (λ sides. word sides.left ≡ folded_partials n packed.now point.now rb) }
-    ensures right_value { IfOk result (λ sides. word sides.right ≡ sum_with_table n packed.now (indicator_table point.now rb)) }
-    ensures same { IfOk result (λ sides. sides.left ≡ sides.right) }
+    ensures left_value { word (sided result).left ≡ on_done (answered result) (folded_partials n packed.now point.now rb) 0 }
+    ensures right_value { word (sided result).right ≡ on_done (answered result) (sum_with_table n packed.now (indicator_table point.now rb)) 0 }
+    ensures same { (sided result).left ≡ (sided result).right }
     ensures table_after { words table.new ≡ on_done (answered result) (indicator_table point.now rb) (words table.old) }
 {
     questions(n, packed.len(), point.len(), table.len())?;

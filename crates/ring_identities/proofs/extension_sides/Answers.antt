@@ -4,13 +4,23 @@ use Prim.Native.Nat.{◌/◌, ◌^◌, ◌<◌}
 use native.Mathlib.Omega.{arith}
 use borrow.Author.Rules.{rules}
 use lib.ListN.{length}
+use Rattle.std.proofs.lemmas.Result.{err_from_is_err_and}
 use Rattle.field_gf128.proofs.Halves.{word_settles}
 use Rattle.ring_identities.specs.Identities.{row_sum}
 use Rattle.ring_identities.specs.helpers.Sizes.{Sizes}
 use Rattle.ring_identities.proofs.Identities.{evaluated, identities, rows_extension}
-use Rattle.ring_identities.proofs.Sizes.{sizes}
+use Rattle.ring_identities.proofs.Sizes.{err-sides, sizes}
 use Rattle.ring_identities.proofs.extension_sides.Goals as goal
 use Rattle.ring_identities.proofs.extension_sides.Goals.{After-row_sum, After-sum_of_rows, In_ok-questions, Start}
+
+-- where one did
+pub returns-in_err-questions-clause-left_value : goal.returns-in_err-questions-clause-left_value
+returns-in_err-questions-clause-left_value c =
+    let p = err_from_is_err_and c.from_residual.result c.from_residual.ensures.1 in (err-sides _ p.0 _ 0 p.1).0
+
+pub returns-in_err-questions-clause-right_value : goal.returns-in_err-questions-clause-right_value
+returns-in_err-questions-clause-right_value c =
+    let p = err_from_is_err_and c.from_residual.result c.from_residual.ensures.1 in (err-sides _ p.0 0 _ p.1).1
 
 -- what is known where no question said no
 lent : (c : In_ok-questions)

@@ -6,15 +6,25 @@ use borrow.Author.Rules.{rules}
 use lib.ListN.{length}
 use Rattle.theory_laws.specs.Table.{at}
 use Rattle.theory_multilinear.specs.Partials.{fold_partials}
+use Rattle.std.proofs.lemmas.Result.{err_from_is_err_and}
 use Rattle.field_gf128.proofs.Halves.{word_settles}
 use Rattle.field_pack.specs.Phi.{coefficients}
 use Rattle.ring_identities.specs.Identities.{sum_with_table}
 use Rattle.ring_identities.specs.helpers.Sizes.{Sizes}
 use Rattle.ring_identities.proofs.Identities.{evaluated, identities}
 use Rattle.theory_laws.proofs.Refusals.{not-refused}
-use Rattle.ring_identities.proofs.Sizes.{sizes, eq-passes, fold-passes}
+use Rattle.ring_identities.proofs.Sizes.{err-sides, sizes, eq-passes, fold-passes}
 use Rattle.ring_identities.proofs.fold_sides.Goals as goal
 use Rattle.ring_identities.proofs.fold_sides.Goals.{After-unwrap-left, After-sum_of_products, In_ok-questions}
+
+-- where one did
+pub returns-in_err-questions-clause-left_value : goal.returns-in_err-questions-clause-left_value
+returns-in_err-questions-clause-left_value c =
+    let p = err_from_is_err_and c.from_residual.result c.from_residual.ensures.1 in (err-sides _ p.0 _ 0 p.1).0
+
+pub returns-in_err-questions-clause-right_value : goal.returns-in_err-questions-clause-right_value
+returns-in_err-questions-clause-right_value c =
+    let p = err_from_is_err_and c.from_residual.result c.from_residual.ensures.1 in (err-sides _ p.0 0 _ p.1).1
 
 -- what is known where no question said no
 lent : (c : In_ok-questions)
