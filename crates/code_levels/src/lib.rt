@@ -8,7 +8,7 @@ ghost use Rattle.theory_laws.specs.Refusals.{answered};
 ghost use Rattle.theory_field.specs.Words.{words};
 ghost use Rattle.field_gf128.specs.Word.{word};
 ghost use Rattle.theory_code.specs.Questions.{fold_number};
-ghost use Rattle.code_codeword.specs.Answers.{dropped_of};
+ghost use Rattle.code_codeword.specs.Answers.{folded, folded_of, dropped_of};
 ghost use Rattle.theory_record.specs.Widths.{level_length};
 ghost use Rattle.code_levels.specs.helpers.Levels.{laid, level_folded, LevelLent};
 
@@ -35,7 +35,7 @@ pub fn fold_level(
     half: &mut [u64],
 ) -> Result<usize, Refusal>
     requires { LevelLent n k l from (length levels.now) (length half.old) × (room ≤ length half.old) }
-    ensures value { answered result ≡ fold_number cn ck original var coordinates.old (2 * level_length n k l) room }
+    ensures value { folded result ≡ folded_of cn (fold_number cn ck original var coordinates.old (2 * level_length n k l) room) }
     ensures coordinates_after { coordinates.new ≡ on_done (answered result) (dropped_of var coordinates.old) coordinates.old }
     ensures half_after { words (take room half.new)
         ≡ on_done (answered result) (level_folded n k l var (word r) levels.now) (words (take room half.old)) }

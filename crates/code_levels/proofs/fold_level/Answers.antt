@@ -7,7 +7,7 @@ use Rattle.theory_laws.specs.Refusals.{answered}
 use Rattle.field_gf128.specs.Word.{word}
 use Rattle.theory_record.proofs.Offsets.{values_of_part}
 use Rattle.code_levels.proofs.Laying.{within}
-use Rattle.code_levels.proofs.Slices.{length_of_part, fold-number, fold-front}
+use Rattle.code_levels.proofs.Slices.{length_of_part, fold-lent, fold-front}
 use borrow.Author.Rules.{rules}
 use Rattle.code_levels.proofs.fold_level.Goals as goal
 
@@ -41,7 +41,7 @@ returns c =
     let room = length-take-le _ _ c.requires.1 in
     let out = c.fold.auto.out ∙ room in
     record {
-      value = fold-number _ _ _ _ _ _ _ e.value (length_of_part _ _ _ p.from= es _ (omega arith) ∙ ap (λ (x : ℕ). 2 * x) es) room;
+      value = fold-lent _ _ _ _ _ _ _ e.value (length_of_part _ _ _ p.from= es _ (omega arith) ∙ ap (λ (x : ℕ). 2 * x) es) room;
       coordinates_after = e.coordinates_after;
       half_after = fold-front _ (answered c.fold.result) a.var (word a.r) a.half.now _ _ _ _ out e.out_after (values_of_part _ _ _ p.from= es _);
       half_unchanged = drop_at c.fold.new.out _ _ out;
