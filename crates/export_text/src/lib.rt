@@ -5,9 +5,8 @@
 ghost use Rattle.std.specs.Prelude.{◌≤◌, length, IfOk};
 
 use field_gf128::Word;
-use std::fmt;
-use std::io;
 use std::io::Read;
+use std::{fmt, io};
 
 // A word in 32 hexadecimal digits, the highest first.
 #[derive(Clone, Copy)]
