@@ -14,13 +14,20 @@ use Rattle.hash_chunk.specs.helpers.Blocks.{blocks_from}
 use Rattle.hash_chunk.proofs.Blocks.{blocks_step}
 use Rattle.hash_chunk.proofs.Chunk.{next_law}
 
--- the blocks that are left after block i give the chaining value r
-pub lane-step : (d n i : ℕ) (h v m bs r : List ℕ) (f t : ℕ) → i < n → m ≡ block (part 64 (64 * i) bs) → f ≡ start_flag i → t ≡ 0
+-- block i stands at `from`; the blocks that are left give the chaining value r
+pub lane-step : (d n i from : ℕ) (h v m bs r : List ℕ) (f t : ℕ) → i < n → m ≡ block (part 64 from bs) → f ≡ start_flag i → t ≡ 0
+    → v ≡ cv (compress h m t 64 (bit_or d f)) → blocks_from d (n - i) i h (drop from bs) ≡ r
+    → blocks_from d (n - (i + 1)) (i + 1) v (drop (from + 64) bs) ≡ r
+lane-step d n i from h v m bs r f t lt em ef et ev old =
+    blocks_step d n i from h v bs r lt (next_law d 0 h m (part 64 from bs) _ v f (start_flag i) em ef refl (rw et at ev)) old
+
+-- where it is the place of block i, the next one stands at its own
+pub lane-next : (d n i : ℕ) (h v m bs r : List ℕ) (f t : ℕ) → i < n → m ≡ block (part 64 (64 * i) bs) → f ≡ start_flag i → t ≡ 0
     → v ≡ cv (compress h m t 64 (bit_or d f)) → blocks_from d (n - i) i h (drop (64 * i) bs) ≡ r
     → blocks_from d (n - (i + 1)) (i + 1) v (drop (64 * (i + 1)) bs) ≡ r
-lane-step d n i h v m bs r f t lt em ef et ev old =
+lane-next d n i h v m bs r f t lt em ef et ev old =
     let e : 64 * (i + 1) ≡ 64 * i + 64 = omega arith in
-    rw e (blocks_step d n i (64 * i) h v bs r lt (next_law d 0 h m (part 64 (64 * i) bs) _ v f (start_flag i) em ef refl (rw et at ev)) old)
+    rw e (lane-step d n i (64 * i) h v m bs r f t lt em ef et ev old)
 
 -- the counters of four messages of at most a chunk
 pub no_count : (k : ℕ) → at (0 ∷ 0 ∷ 0 ∷ 0 ∷ []) k ≡ 0
