@@ -1,13 +1,13 @@
 -- Stores one after the other, in the form in which the functions ask for them.
-use Prim.Native.Nat.{ℕ, ◌+◌, ◌-◌, ◌<◌, ◌≤◌}
+use Prim.Native.Nat.{ℕ, suc, ◌+◌, ◌-◌, ◌<◌, ◌≤◌}
 use mathlib.Core.Path.{◌≡◌, refl, sym, ◌∙◌, ap}
 use mathlib.Core.List.{List, ◌++◌, append_assoc}
 use native.Mathlib.Omega.{arith}
 use borrow.Rule.Slice.PartMut.{put_mid}
-use lib.ListN.{length, take, drop, replicate, length-append, length-take, length-drop, length-replicate}
-use lib.Seq.{drop-drop, sets-eq}
+use lib.ListN.{length, get_or, take, drop, set, replicate, length-append, length-take, length-drop, length-replicate, drop_of_length-le}
+use lib.Seq.{drop-drop, drop-cons, sets-eq}
 use Rattle.theory_laws.specs.Lists.{stored}
-use Rattle.theory_laws.proofs.Lists.{stored-append}
+use Rattle.theory_laws.proofs.Lists.{stored-append, stored-cons, stored-nil}
 use Rattle.bytes_numbers.specs.helpers.Put.{Put}
 
 -- a put ends as far from its place as its bytes are many
@@ -53,3 +53,23 @@ pub fill_end : (o : List ℕ) (from : ℕ) (ys : List ℕ) → from < length o �
 fill_end o from ys h e =
     let z : length (take (length o - from) (drop from o)) ≡ length o - from = simp (length-take, length-drop) (omega arith) in
     rw (e, z) (put_mid-stored o from (length o - from) (replicate (length o - from) 0) (omega arith) (length-replicate {A = ℕ} (length o - from) 0))
+
+-- ---- a list stored byte by byte: what is left to store from here on gives the whole
+
+module _ (out : List ℕ) (at : ℕ) (src : List ℕ) (i : ℕ) (r : List ℕ) where
+  pub put_step : i < length src → stored out (at + i) (drop i src) ≡ r → stored (set out (at + i) (get_or src i 0)) (at + (i + 1)) (drop (i + 1) src) ≡ r
+  put_step h e =
+      let z : at + (i + 1) ≡ suc (at + i) = omega arith in
+      let w : suc i ≡ i + 1 = omega arith in
+      rw (z, sym w) (rw (drop-cons src i 0, stored-cons) at e)
+
+  pub put_end : length src ≤ i → stored out (at + i) (drop i src) ≡ r → out ≡ r
+  put_end h e = rw (drop_of_length-le src, stored-nil) at e
+
+pub put_begin : (out : List ℕ) (at : ℕ) (src : List ℕ) → stored out (at + 0) src ≡ stored out at src
+put_begin out at src = ap (λ (k : ℕ). stored out k src) (let e : at + 0 ≡ at = omega arith in e)
+
+-- all of src is copied
+pub put_all : (o : List ℕ) (from : ℕ) (src out : List ℕ) (i : ℕ) → length src ≤ i → stored out (from + i) (drop i src) ≡ stored o from src
+    → Put o from (length src) src out (from + length src)
+put_all o from src out i h e = record { bytes = put_end out from src i (stored o from src) h e; size = refl; end = refl }

@@ -36,9 +36,11 @@ pub fn put(out: &mut [u8], from: usize, src: &[u8]) -> usize
     requires { from + length src.now ≤ length out.old }
     ensures { Put out.old from (length src.now) src.now out.new result }
 {
-    let end = from + src.len();
-    out[from..end].copy_from_slice(src);
-    end
+    // No `copy_from_slice`: where both lie in one buffer the compiler makes a call of memmove of it, a name that the archive for C does not need otherwise.
+    for i in 0..src.len() {
+        out[from + i] = src[i];
+    }
+    from + src.len()
 }
 
 // A number, put in this many bytes, the lowest first; the place after them.

@@ -41,7 +41,10 @@ pub fn copy(from: &[u64], to: &mut [u64])
     requires { length to.old ≡ length from.now }
     ensures { to.new ≡ from.now }
 {
-    to.copy_from_slice(from);
+    // no `copy_from_slice`, for the reason that `bytes_numbers::put` names
+    for i in 0..from.len() {
+        to[i] = from[i];
+    }
 }
 
 // Every half set to 0.

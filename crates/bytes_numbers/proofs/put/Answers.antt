@@ -1,7 +1,14 @@
--- `put` meets its contract: the part that is written holds the bytes of src.
+-- `put` meets its contract. The loop's invariant: storing the bytes that are left from here on gives the final buffer.
 use mathlib.Core.Path.{refl}
-use Rattle.bytes_numbers.proofs.Stores.{put_part}
+use borrow.Author.Rules.{rules}
+use Rattle.bytes_numbers.proofs.Stores.{put_begin, put_step, put_all}
 use Rattle.bytes_numbers.proofs.put.Goals as goal
 
+pub loop-i-init : goal.loop-i-init
+loop-i-init c = (refl, search put_begin)
+
+pub loop-i-preserved : goal.loop-i-preserved
+loop-i-preserved c = (search rules, search put_step)
+
 pub returns : goal.returns
-returns c = put_part c.args.out.now c.args.from _ c.args.src.now _ c.requires refl c.copy_from_slice.ensures.after
+returns c = search put_all
