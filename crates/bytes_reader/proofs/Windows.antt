@@ -2,9 +2,9 @@
 use Prim.Native.Nat.{ℕ, zero, suc, min, ◌+◌, ◌-◌, ◌*◌, ◌<◌, ◌≤◌}
 use mathlib.Core.Path.{◌≡◌, refl, sym, ◌∙◌, ap, ap₂}
 use mathlib.Core.Logic.{◌⊎◌, inl, inr, ⊎_elim}
-use mathlib.Core.List.{List, [], ◌∷◌, ◌++◌}
+use mathlib.Core.List.{List, [], ◌∷◌, ◌++◌, append-nil}
 use native.Mathlib.Omega.{arith}
-use lib.ListN.{length, take, drop, replicate, length-append, length-drop, get_or-append, get_or-eq_default, drop_of_length-le}
+use lib.ListN.{length, take, drop, replicate, length-append, length-drop, length-replicate, get_or-append, get_or-eq_default, drop_of_length-le}
 use lib.Seq.{get_or-drop, get_or-take, length-take-le, take-nil}
 use Rattle.std.proofs.lemmas.List.{get_or-append_right}
 use Rattle.std.proofs.lemmas.Slice.{between_to_end}
@@ -85,3 +85,13 @@ window_filled s rest d i n e f g =
     pick k h (inr l) =
         get_or-append_right d zeros n k 0 size l ∙ get_or-drop n (replicate {A = ℕ} 32 0) (k - n) 0 ∙ zeros-at 32 (n + (k - n))
         ∙ sym (get_or-eq_default s 0 {n = i + k} (omega (arith, left)))
+
+-- a whole window
+pub window_whole : (s rest d : List ℕ) (i : ℕ) → rest ≡ drop i s → 32 ≤ length rest → d ≡ take 32 rest
+    → ◌≡◌ {A = Window} (record { bytes = d; left = length rest }) (window_at s i)
+window_whole s rest d i e h g =
+    let z : drop 32 (replicate {A = ℕ} 32 0) ≡ [] = drop_of_length-le (replicate {A = ℕ} 32 0) {i = 32} (omega (arith, length-replicate {A = ℕ} 32 0)) in
+    ap (λ (b : List ℕ). held b) (sym (append-nil d) ∙ ap (λ (b : List ℕ). d ++ b) (sym z)) ∙ window_filled s rest d i 32 e (omega arith) g
+  where
+    held : List ℕ → Window
+    held b = record { bytes = b; left = length rest }

@@ -2,7 +2,7 @@
 // anything. `digest_at` requires.
 #![tactic(auto)]
 
-ghost use Rattle.std.specs.Prelude.{◌≡◌, ◌+◌, ◌-◌, ◌≤◌, length};
+ghost use Rattle.std.specs.Prelude.{◌≡◌, ◌+◌, ◌-◌, ◌≤◌, length, take};
 ghost use Rattle.theory_laws.specs.Lists.{part};
 ghost use Rattle.bytes_reader.specs.Windows.{window_at};
 
@@ -20,11 +20,26 @@ pub struct Window {
     pub left: usize,
 }
 
+// The first 32 bytes.
+fn front(s: &[u8]) -> [u8; 32]
+    requires { 32 ≤ length s.now }
+    ensures { result ≡ take 32 s.now }
+{
+    s[..32].try_into().unwrap()
+}
+
 // What is read at a place.
 pub fn window_at(s: &[u8], at: usize) -> Window
     ensures { result ≡ window_at s.now at }
 {
     let rest = s.get(at..).unwrap_or(&[]);
+    // A whole window is moved at once: where its length is not known, records of many counts take half as long again to read.
+    if rest.len() >= 32 {
+        return Window {
+            bytes: front(rest),
+            left: rest.len(),
+        };
+    }
     let n = rest.len().min(32);
     let mut bytes = [0u8; 32];
     bytes[..n].copy_from_slice(&rest[..n]);

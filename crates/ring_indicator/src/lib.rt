@@ -37,14 +37,14 @@ fn each_word<F: Fn(Word) -> Word>(out: &mut [u64], f: F)
 const MANY: usize = 32;
 
 // phi of each word in place, under the row coefficients rb: tables are filled only for many.
-fn phi_all(rb: [Word; 128], out: &mut [u64])
+fn phi_all(rb: &[Word; 128], out: &mut [u64])
     requires { length out.old % 2 ≡ 0 }
-    ensures { words out.new ≡ phi_of_each (coefficients rb) (length out.old / 2) (words out.old) }
+    ensures { words out.new ≡ phi_of_each (coefficients rb.now) (length out.old / 2) (words out.old) }
 {
     if out.len() / 2 < MANY {
-        each_word(out, |w| field_pack::phi_c(w, rb));
+        each_word(out, |w| field_pack::phi_c(w, *rb));
     } else {
-        let t = field_pack::phi_tab(rb);
+        let t = field_pack::phi_tab(*rb);
         each_word(out, |w| field_pack::phi_tab_apply(&t, w));
     }
 }
@@ -57,7 +57,7 @@ pub fn materialize(n: usize, z: &[u64], rb: [Word; 128], out: &mut [u64]) -> Res
     ensures out_after { words out.new ≡ on_done (answered result) (materialize (coefficients rb) (words z.now)) (words out.old) }
 {
     field_equality::eq_table(n, z, out)?;
-    phi_all(rb, out);
+    phi_all(&rb, out);
     Ok(())
 }
 

@@ -5,9 +5,9 @@ use Rattle.field_pack.specs.Phi.{coefficients}
 use Rattle.ring_indicator.proofs.phi_all.Goals as goal
 
 pub returns-then-out-lt-MANY : goal.returns-then-out-lt-MANY
-returns-then-out-lt-MANY c = c.each_word.ensures (phi (coefficients c.args.rb)) (λ w r p. search rules)
+returns-then-out-lt-MANY c = c.each_word.ensures (phi (coefficients c.args.rb.now)) (λ w r p. search rules)
 
 pub returns-else-out-lt-MANY : goal.returns-else-out-lt-MANY
 returns-else-out-lt-MANY c =
-    let f = coefficients c.args.rb in
+    let f = coefficients c.args.rb.now in
     c.each_word-else-out-lt-MANY.ensures (phi f) (λ w r p. let e = c.phi_tab-t.ensures in search rules)
