@@ -159,7 +159,8 @@ fn end_to_end(a: [u8; 32], b: [u8; 32], c: [u8; 32], d: [u8; 32]) -> [u8; 128]
 fn one_width(lanes: [Lane; 4]) -> bool
     ensures { result ≡ true → OneWidth lanes }
 {
-    lanes[1].width == lanes[0].width
+    lanes[0].width != 0
+        && lanes[1].width == lanes[0].width
         && lanes[2].width == lanes[0].width
         && lanes[3].width == lanes[0].width
 }
@@ -167,8 +168,11 @@ fn one_width(lanes: [Lane; 4]) -> bool
 // The digest of a lane's group.
 fn lane_leaf(mode: Mode, domain: &[u8], s: &[u8], lane: Lane) -> [u8; 32]
     requires { (length domain.now ≤ 255) × (LaneThere (length s.now) lane) }
-    ensures { result ≡ leaf_in (under mode) domain.now s.now lane }
+    ensures { 0 < lane.width → result ≡ leaf_in (under mode) domain.now s.now lane }
 {
+    if lane.width == 0 {
+        return [0u8; 32];
+    }
     let group = Group::numbered(lane.group);
     let hashing = Hashing { mode, domain };
     let shape = Shape {
