@@ -12,7 +12,7 @@ use std::alloc::{AllocError, Global};
 use std::io;
 use test_lines::answer::{Answer, no_room};
 use test_lines::files::answer_files;
-use test_lines::request::{Lent, Operation, Request};
+use test_lines::request::{Lent, Operation, Request, Rooms};
 
 const OPERATIONS: [Operation; 32] = [
     Operation {
@@ -145,6 +145,13 @@ const OPERATIONS: [Operation; 32] = [
     },
 ];
 
+// What a request has room for; no line sets a key.
+const ROOMS: Rooms = Rooms {
+    words: [8192, 4],
+    bytes: [8192, 0],
+    key: false,
+};
+
 // What a request is answered.
 fn answer(_alloc: Global, request: &Request, lent: &mut Lent) -> Result<Answer, AllocError> {
     Ok(match request.name.as_str() {
@@ -188,6 +195,7 @@ fn main(rt: HostRuntime) -> io::Result<()> {
     answer_files(
         &rt,
         &OPERATIONS,
+        ROOMS,
         answer,
         &[
             "small.txt",

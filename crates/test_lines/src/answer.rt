@@ -78,7 +78,7 @@ impl<'a> fmt::Display for List<'a> {
     }
 }
 
-// An output of bytes as it is printed; no test has one that is too long for a digest.
+// An output of bytes as it is printed; none that there is room for is too long for a digest.
 #[derive(Clone, Copy)]
 struct Output<'a>(&'a [u8]);
 

@@ -1,28 +1,72 @@
-// What an argument of a line stands for. It is pieces joined by commas: hexadecimal digits, `x` and a count after them for as many times; `~`, a kind,
-// a stream, `x` and a count for what is drawn; `@`, a place, `+` and a length for stored bytes; `%` and a length for bytes i modulo 251; `-` for nothing.
-// In a list of words digits are a word, the highest first, and after `h` half of one; in a list of numbers a number.
+// What an argument of a line stands for. It is pieces, each but the last ended by a comma: hexadecimal digits, `x` and a count after them for as many times;
+// `~`, a kind, a stream, `x` and a count for what is drawn; `@`, a place, `+` and a length for stored bytes; `%` and a length for bytes i modulo 251; `-` for
+// nothing. In a list of words digits are a word, the highest first, and after `h` half of one; in a list of numbers a number. Every text stands for something,
+// and what there is no room for is dropped.
 use crate::draw;
+use crate::values::part;
 use field_gf128::Word;
 use std::alloc::{AllocError, Global};
+
+// How many halves of words the inputs of a line have room for.
+const ROOM: usize = 16336;
+
+// Where an argument lies: from a place up to another.
+#[derive(Clone, Copy)]
+pub struct Place {
+    pub from: usize,
+    pub to: usize,
+}
 
 // What the digits of an argument are.
 #[derive(Clone, Copy, Debug, PartialEq, Eq)]
 pub enum Digits {
     Bytes,
     Words,
+    Numbers,
 }
 
-// The number of decimal digits; 0 for any other text.
-pub fn number(text: &str) -> u64 {
-    text.parse::<u64>().unwrap_or(0)
-}
-
-// The two numbers that a mark parts.
-fn pair(text: &str, mark: char) -> (u64, u64) {
-    match text.split_once(mark) {
-        Some((first, last)) => (number(first), number(last)),
-        None => (number(text), 0),
+impl Digits {
+    // How many bytes so many digits are.
+    fn size(self, digits: usize) -> usize {
+        match self {
+            Digits::Bytes => digits / 2,
+            Digits::Words => 16,
+            Digits::Numbers => 8,
+        }
     }
+}
+
+// The last two numbers of a text, in decimal digits modulo 2^64; 0 where there is none.
+#[derive(Clone, Copy)]
+struct Two {
+    first: u64,
+    last: u64,
+}
+
+// Every byte that is no digit ends a number.
+fn last_two(text: &[u8]) -> Two {
+    let mut found = Two { first: 0, last: 0 };
+    for c in text {
+        found = match *c {
+            b'0'..=b'9' => Two {
+                first: found.first,
+                last: found
+                    .last
+                    .wrapping_mul(10)
+                    .wrapping_add(u64::from(*c - b'0')),
+            },
+            _ => Two {
+                first: found.last,
+                last: 0,
+            },
+        };
+    }
+    found
+}
+
+// The number that ends a text.
+pub fn number(text: &[u8]) -> usize {
+    last_two(text).last as usize
 }
 
 // The number of a hexadecimal digit; 0 for any other byte.
@@ -46,117 +90,166 @@ fn word(digits: &[u8]) -> Word {
     w
 }
 
-fn push_half(out: &mut Vec<u8>, half: u64) -> Result<(), AllocError> {
-    out.extend_from_slice(&half.to_le_bytes())
+// The byte of the two digits at a place, or of the one that is left there; past them, of the first two.
+fn byte_of_digits(digits: &[u8], at: usize) -> u8 {
+    let from = if at < digits.len() { at } else { 0 };
+    match part(digits, from, from.saturating_add(2)) {
+        [high, low] => (digit(*high) << 4) ^ digit(*low),
+        [low] => digit(*low),
+        _ => 0,
+    }
 }
 
-fn push_word(out: &mut Vec<u8>, w: Word) -> Result<(), AllocError> {
-    push_half(out, w.lo)?;
-    push_half(out, w.hi)
+// Byte i of a number's 8, little-endian, over and over.
+fn byte_of_number(x: u64, i: usize) -> u8 {
+    x.to_le_bytes()[i % 8]
 }
 
-// The bytes that digits are, little-endian of a word.
-fn push_digits(out: &mut Vec<u8>, kind: Digits, digits: &[u8]) -> Result<(), AllocError> {
-    match (kind, digits) {
-        (Digits::Bytes, _) => {
-            for two in digits.chunks_exact(2) {
-                out.push((digit(two[0]) << 4) ^ digit(two[1]))?;
+// Byte i of a word's 16, little-endian, over and over.
+fn byte_of_word(w: Word, i: usize) -> u8 {
+    byte_of_number(if i % 16 < 8 { w.lo } else { w.hi }, i)
+}
+
+// Where the bytes of a piece come from: a stream of words or of bytes of a kind, the stored bytes from a place on, their own places, or digits.
+#[derive(Clone, Copy)]
+enum Source<'a> {
+    DrawnWords(u64),
+    Drawn(u8, u64),
+    Stored(usize),
+    Places,
+    Bytes(&'a [u8]),
+    Word,
+    Number(u64),
+}
+
+// What stands before `x`, and whether an `x` follows.
+fn before_times(piece: &[u8]) -> (&[u8], bool) {
+    match piece.iter().position(|c| *c == b'x') {
+        Some(at) => (part(piece, 0, at), true),
+        None => (piece, false),
+    }
+}
+
+// A piece: how many bytes it stands for, and where they come from; and the word that it is, or of which the last byte was that was drawn.
+#[derive(Clone, Copy)]
+struct Piece<'a> {
+    count: usize,
+    source: Source<'a>,
+    word: Word,
+}
+
+impl<'a> Piece<'a> {
+    fn read(kind: Digits, text: &'a [u8]) -> Piece<'a> {
+        let Two { first, last } = last_two(text);
+        let (once, many) = before_times(text);
+        let count = match text {
+            _ if many => last.wrapping_mul(kind.size(2) as u64) as usize,
+            [b'-', ..] => 0,
+            [b'h', ..] => 8,
+            [b'@' | b'%', ..] => last as usize,
+            _ => kind.size(text.len()),
+        };
+        let source = match (once, kind) {
+            ([b'~', b'w', ..], _) => Source::DrawnWords(first),
+            ([b'~', rest @ ..], _) => Source::Drawn(rest.first().copied().unwrap_or(0), first),
+            ([b'@', ..], _) => Source::Stored(first as usize),
+            ([b'%', ..], _) => Source::Places,
+            (_, Digits::Bytes) => Source::Bytes(once),
+            (_, Digits::Words) => Source::Word,
+            (_, Digits::Numbers) => Source::Number(last_two(once).last),
+        };
+        Piece {
+            count,
+            source,
+            word: word(once),
+        }
+    }
+
+    // Byte i, of those from 0 on in turn, where these bytes are stored.
+    fn byte(&mut self, stored: &[u8], i: usize) -> u8 {
+        match self.source {
+            Source::DrawnWords(stream) => {
+                if i % 16 == 0 {
+                    self.word = draw::word(stream, i as u64 / 16);
+                }
+                byte_of_word(self.word, i)
             }
-            Ok(())
-        }
-        (Digits::Words, [b'h', half @ ..]) => push_half(out, word(half).lo),
-        (Digits::Words, _) => push_word(out, word(digits)),
-    }
-}
-
-// The words, or the bytes of another kind, that are drawn from a stream.
-fn push_drawn(out: &mut Vec<u8>, drawn: &str) -> Result<(), AllocError> {
-    let mut rest = drawn.chars();
-    let kind = rest.next().unwrap_or('b');
-    let (stream, count) = pair(rest.as_str(), 'x');
-    for i in 0..count {
-        if kind == 'w' {
-            push_word(out, draw::word(stream, i))?;
-        } else {
-            out.push(draw::byte(kind, stream, i))?;
+            Source::Drawn(kind, stream) => draw::byte(kind, stream, i as u64),
+            Source::Stored(place) => stored.get(place.wrapping_add(i)).copied().unwrap_or(0),
+            Source::Places => (i % 251) as u8,
+            Source::Bytes(digits) => byte_of_digits(digits, i.wrapping_mul(2)),
+            Source::Word => byte_of_word(self.word, i),
+            Source::Number(x) => byte_of_number(x, i),
         }
     }
-    Ok(())
 }
 
-// Bytes that earlier lines keep, from a place on: as many as there are.
-fn push_kept(out: &mut Vec<u8>, part: &str, kept: &[u8]) -> Result<(), AllocError> {
-    let (from, count) = pair(part, '+');
-    for b in kept.iter().skip(from as usize).take(count as usize) {
-        out.push(*b)?;
-    }
-    Ok(())
-}
-
-// The bytes i modulo 251.
-fn push_counted(out: &mut Vec<u8>, count: u64) -> Result<(), AllocError> {
-    for i in 0..count {
-        out.push((i % 251) as u8)?;
-    }
-    Ok(())
-}
-
-// Digits so many times.
-fn push_times(out: &mut Vec<u8>, kind: Digits, piece: &str) -> Result<(), AllocError> {
-    let (digits, times) = times(piece);
-    for _ in 0..times {
-        push_digits(out, kind, digits.as_bytes())?;
-    }
-    Ok(())
-}
-
-// What stands before `x`, and how many times.
-fn times(piece: &str) -> (&str, u64) {
-    match piece.split_once('x') {
-        Some((once, count)) => (once, number(count)),
-        None => (piece, 1),
-    }
-}
-
-fn push_piece(out: &mut Vec<u8>, kind: Digits, piece: &str, kept: &[u8]) -> Result<(), AllocError> {
-    let mut rest = piece.chars();
-    match rest.next() {
-        None | Some('-') => Ok(()),
-        Some('~') => push_drawn(out, rest.as_str()),
-        Some('@') => push_kept(out, rest.as_str(), kept),
-        Some('%') => push_counted(out, number(rest.as_str())),
-        Some(_) => push_times(out, kind, piece),
-    }
-}
-
-// The bytes of an argument.
-pub fn bytes(alloc: Global, kind: Digits, text: &str, kept: &[u8]) -> Result<Vec<u8>, AllocError> {
-    let mut out = Vec::new(alloc);
-    for piece in text.split(',') {
-        push_piece(&mut out, kind, piece, kept)?;
-    }
-    Ok(out)
-}
-
-// The halves of the words of an argument, the low one of each first.
-pub fn words(alloc: Global, text: &str, kept: &[u8]) -> Result<Vec<u64>, AllocError> {
-    let bytes = bytes(alloc, Digits::Words, text, kept)?;
-    let mut halves = Vec::new(alloc);
-    for half in bytes.chunks_exact(8) {
-        let half: [u8; 8] = half.try_into().unwrap_or([0; 8]);
-        halves.push(u64::from_le_bytes(half))?;
-    }
-    Ok(halves)
-}
-
-// The numbers of a list.
-pub fn numbers(alloc: Global, text: &str) -> Result<Vec<usize>, AllocError> {
-    let mut out = Vec::new(alloc);
-    for piece in text.split(',').filter(|piece| *piece != "-") {
-        let (once, times) = times(piece);
-        for _ in 0..times {
-            out.push(number(once) as usize)?;
+// Puts the bytes of a piece at a place of the stored bytes, as many as there is room for, and answers the next place. It may have bytes that it has just put.
+fn put_piece(stored: &mut [u8], from: usize, mut piece: Piece) -> usize {
+    let end = from.saturating_add(piece.count).min(stored.len());
+    for at in from..end {
+        let byte = piece.byte(stored, at - from);
+        if let Some(place) = stored.get_mut(at) {
+            *place = byte;
         }
     }
-    Ok(out)
+    end
+}
+
+// Puts the bytes of an argument at a place of the stored bytes, as many as there is room for, and answers the next place.
+pub fn put_bytes(stored: &mut [u8], from: usize, text: &[u8]) -> usize {
+    let mut at = from;
+    for piece in text.split_inclusive(|c| *c == b',') {
+        let piece = piece.strip_suffix(b",").unwrap_or(piece);
+        at = put_piece(stored, at, Piece::read(Digits::Bytes, piece));
+    }
+    at
+}
+
+// Halves of words, those of one argument after those of another, as many as there is room for; and where the last one ends, by bytes.
+#[derive(Clone, Drop)]
+pub struct Halves {
+    items: Vec<u64>,
+    end: usize,
+}
+
+impl Halves {
+    pub fn new(alloc: Global) -> Halves {
+        Halves {
+            items: Vec::new(alloc),
+            end: 0,
+        }
+    }
+
+    // The halves at a place.
+    pub fn at(&self, place: Place) -> &[u64] {
+        part(self.items.as_slice(), place.from, place.to)
+    }
+
+    // Puts the bytes of a piece, little-endian. A half of which an argument has a part only goes on with the next one.
+    fn put_piece(&mut self, mut piece: Piece, stored: &[u8]) -> Result<(), AllocError> {
+        let from = self.end;
+        self.end = from.saturating_add(piece.count);
+        self.items.resize(self.end.div_ceil(8).min(ROOM), 0)?;
+        for at in from..self.end.min(8 * ROOM) {
+            let byte = piece.byte(stored, at - from);
+            if let Some(half) = self.items.get_mut(at / 8) {
+                *half ^= u64::from(byte) << (8 * (at % 8));
+            }
+        }
+        Ok(())
+    }
+
+    // Puts what an argument stands for, and answers its place: the whole halves that it ends.
+    pub fn put(&mut self, kind: Digits, text: &[u8], stored: &[u8]) -> Result<Place, AllocError> {
+        let from = self.end;
+        for piece in text.split_inclusive(|c| *c == b',') {
+            let piece = piece.strip_suffix(b",").unwrap_or(piece);
+            self.put_piece(Piece::read(kind, piece), stored)?;
+        }
+        Ok(Place {
+            from: from / 8,
+            to: self.end / 8,
+        })
+    }
 }

@@ -41,11 +41,11 @@ pub fn word(stream: u64, i: u64) -> Word {
 }
 
 // Byte i of a stream of bytes that are 0 or 1, of printable characters, or of any bytes.
-pub fn byte(kind: char, stream: u64, i: u64) -> u8 {
+pub fn byte(kind: u8, stream: u64, i: u64) -> u8 {
     let x = number(stream, i);
     match kind {
-        'i' => (x % 2) as u8,
-        't' => (32 + x % 95) as u8,
+        b'i' => (x % 2) as u8,
+        b't' => (32 + x % 95) as u8,
         _ => (x % 256) as u8,
     }
 }

@@ -2,9 +2,16 @@
 // argument. `n` is a number; `w` words, `l` a list of numbers, `b` bytes; `L` is a list of numbers that is lent for writing; `W` and `B` are how many
 // halves of words and bytes an output has. With no argument, at the end, `o` is an output of one word, `p` of two words, `c` of 128 words, `d` of a digest.
 use crate::arguments;
-use crate::arguments::Digits;
+use crate::arguments::{Digits, Halves, Place};
+use crate::values::{part, put};
 use std::alloc::{AllocError, Global};
 use std::array;
+
+// How many bytes there is room for that lines keep, with those of the line that is answered behind them.
+const STORED: usize = 131072;
+
+// How many numbers a list has room for that is lent for writing.
+const LISTED: usize = 32;
 
 // An operation of a program: its name, and the letters of its arguments.
 #[derive(Clone, Copy)]
@@ -13,57 +20,81 @@ pub struct Operation {
     pub letters: &'static str,
 }
 
-// What lines set for those after them: the bytes that they keep, and the key of trees.
-#[derive(Drop)]
+// What a program has room for: halves of its outputs of words, bytes of the others, and whether its lines may set a key of trees.
+#[derive(Clone, Copy)]
+pub struct Rooms {
+    pub words: [usize; 2],
+    pub bytes: [usize; 2],
+    pub key: bool,
+}
+
+// What lines set for those after them: the bytes that they keep, at the front, and the key of trees, at the end. Behind the bytes that are kept lie those of
+// the line that was read last. The key is 32 bytes, and after them how many of them a line gave: none is set where it gave none.
+#[derive(Clone, Drop)]
 pub struct Kept {
-    bytes: Vec<u8>,
-    key: Option<[u8; 32]>,
+    stored: Vec<u8>,
+    end: usize,
+    rooms: Rooms,
 }
 
 impl Kept {
-    pub fn new(alloc: Global) -> Kept {
-        Kept {
-            bytes: Vec::new(alloc),
-            key: None,
+    pub fn new(alloc: Global, rooms: Rooms) -> Result<Kept, AllocError> {
+        let key = if rooms.key { 33 } else { 0 };
+        Ok(Kept {
+            stored: vec![in alloc; 0u8; STORED + key]?,
+            end: 0,
+            rooms,
+        })
+    }
+
+    // Puts the bytes of an argument at a place, and answers the next place.
+    fn put(&mut self, from: usize, text: &[u8]) -> usize {
+        arguments::put_bytes(self.stored.as_mut_slice(), from, text)
+    }
+
+    // Sets the key to the bytes of an argument: zeros follow where they are fewer, and what is more is dropped.
+    fn set_key(&mut self, text: &[u8]) {
+        let end = self.put(self.end, text);
+        let given = part(self.stored.as_slice(), self.end, end);
+        let mut key = [0u8; 33];
+        put(&mut key, given);
+        key[32] = given.len().min(33) as u8;
+        if let Some(place) = self.stored.last_chunk_mut::<33>() {
+            *place = key;
         }
     }
 
-    // Whether a line asks for nothing: it keeps bytes or sets the key, is empty or begins with `# `.
-    pub fn takes(&mut self, alloc: Global, line: &str) -> Result<bool, AllocError> {
-        let (name, text) = line.split_once(' ').unwrap_or((line, ""));
+    // Whether a line asks for nothing: it keeps bytes or sets the key, or it has no name, or one of those for lines that are passed over.
+    pub fn takes(&mut self, line: &[u8]) -> bool {
+        let mut texts = line.split(|c| *c == b' ');
+        let name = texts.next().unwrap_or(&[]);
+        let text = texts.next().unwrap_or(&[]);
         match name {
-            "=" => {
-                let more = arguments::bytes(alloc, Digits::Bytes, text, self.bytes.as_slice())?;
-                self.bytes.extend_from_slice(more.as_slice())?;
-                Ok(true)
+            b"=" => {
+                self.end = self.put(self.end, text);
+                true
             }
-            "key" => {
-                let key = arguments::bytes(alloc, Digits::Bytes, text, self.bytes.as_slice())?;
-                self.key = key.as_slice().try_into().ok();
-                Ok(true)
+            b"key" if self.rooms.key => {
+                self.set_key(text);
+                true
             }
-            _ => Ok(name == "#" || name == ""),
+            b"" | b"#" | b"none" => true,
+            _ => false,
         }
     }
 }
 
-// What an operation is lent for reading, in the order of the arguments: numbers, lists of numbers, words by halves, and bytes; and the key that is set.
-#[derive(Drop)]
+// What an operation is lent for reading, in the order of the arguments: numbers, lists of numbers, words by their places in a row of halves, and bytes by
+// their places in what is stored; and the key that is set.
+#[derive(Clone, Drop)]
 pub struct Request {
     pub name: String,
-    pub key: Option<[u8; 32]>,
     numbers: Vec<usize>,
     lists: Vec<Vec<usize>>,
-    words: Vec<Vec<u64>>,
-    bytes: Vec<Vec<u8>>,
-}
-
-// Item i of lists; an empty one where there is none.
-fn item<T>(lists: &Vec<Vec<T>>, i: usize) -> &[T] {
-    match lists.get(i) {
-        Some(list) => list.as_slice(),
-        None => &[],
-    }
+    halves: Halves,
+    words: Vec<Place>,
+    bytes: Vec<Place>,
+    kept: Kept,
 }
 
 impl Request {
@@ -72,19 +103,55 @@ impl Request {
         array::from_fn(|i| self.numbers.get(i).copied().unwrap_or(0))
     }
 
-    // List i of numbers.
+    // List i of numbers; an empty one where there is none.
     pub fn list(&self, i: usize) -> &[usize] {
-        item(&self.lists, i)
+        match self.lists.get(i) {
+            Some(list) => list.as_slice(),
+            None => &[],
+        }
     }
 
-    // Input i of those that are words.
+    // Input i of those that are words; an empty one where there is none.
     pub fn words(&self, i: usize) -> &[u64] {
-        item(&self.words, i)
+        match self.words.get(i) {
+            Some(place) => self.halves.at(*place),
+            None => &[],
+        }
     }
 
-    // Input i of those that are bytes.
+    // Input i of those that are bytes; an empty one where there is none.
     pub fn bytes(&self, i: usize) -> &[u8] {
-        item(&self.bytes, i)
+        match self.bytes.get(i) {
+            Some(place) => part(self.kept.stored.as_slice(), place.from, place.to),
+            None => &[],
+        }
+    }
+
+    // Changes byte j of input i of those that are bytes.
+    pub fn set_byte(&mut self, i: usize, j: usize, byte: u8) {
+        if let Some(place) = self.bytes.get(i) {
+            if let Some(old) = self.kept.stored.get_mut(place.from.wrapping_add(j)) {
+                *old = byte;
+            }
+        }
+    }
+
+    // The key of trees, in a program whose lines may set one; none where none is set.
+    pub fn key(&self) -> Option<[u8; 32]> {
+        match self.kept.stored.split_last() {
+            Some((given, rest)) if *given != 0 => rest.last_chunk::<32>().copied(),
+            _ => None,
+        }
+    }
+
+    // Puts words or a list of numbers behind those before.
+    fn put_halves(&mut self, kind: Digits, text: &[u8]) -> Result<Place, AllocError> {
+        self.halves.put(kind, text, self.kept.stored.as_slice())
+    }
+
+    // What lines have set, once a request is answered.
+    pub fn into_kept(self) -> Kept {
+        self.kept
     }
 }
 
@@ -96,16 +163,23 @@ pub struct Lent {
     pub bytes: Vec<Vec<u8>>,
 }
 
+// As many as there is room for in the next output, of those that rooms are for.
+fn fitting(rooms: [usize; 2], outputs: usize, count: usize) -> usize {
+    rooms.get(outputs).copied().unwrap_or(0).min(count)
+}
+
 impl Lent {
     // An output of words more, of so many halves.
-    fn push_words(&mut self, alloc: Global, halves: usize) -> Result<(), AllocError> {
+    fn push_words(&mut self, alloc: Global, rooms: Rooms, halves: usize) -> Result<(), AllocError> {
+        let halves = fitting(rooms.words, self.words.len(), halves);
         let output = vec![in alloc; 0xa5a5_a5a5_a5a5_a5a5u64; halves]?;
         self.words.push(output)?;
         Ok(())
     }
 
     // An output of bytes more, of so many.
-    fn push_bytes(&mut self, alloc: Global, count: usize) -> Result<(), AllocError> {
+    fn push_bytes(&mut self, alloc: Global, rooms: Rooms, count: usize) -> Result<(), AllocError> {
+        let count = fitting(rooms.bytes, self.bytes.len(), count);
         let output = vec![in alloc; 0xa5u8; count]?;
         self.bytes.push(output)?;
         Ok(())
@@ -137,54 +211,77 @@ pub fn listed(list: &mut Option<Vec<usize>>) -> &mut [usize] {
     }
 }
 
-// What a line of a program with these operations asks for, and is lent; none where it names no operation.
+// The first numbers of those that halves are, at most so many.
+fn numbers_of(alloc: Global, halves: &[u64], most: usize) -> Result<Vec<usize>, AllocError> {
+    let mut numbers = Vec::new(alloc);
+    for half in halves.iter().take(most) {
+        numbers.push(*half as usize)?;
+    }
+    Ok(numbers)
+}
+
+// The operation that a line names.
+pub fn named<'a>(operations: &'a [Operation], line: &[u8]) -> Option<&'a Operation> {
+    let name = line.split(|c| *c == b' ').next().unwrap_or(&[]);
+    operations
+        .iter()
+        .find(|operation| operation.name.as_bytes() == name)
+}
+
+// What a line asks for that names an operation, and is lent. Its bytes lie behind those that are kept.
 pub fn read(
     alloc: Global,
-    operations: &[Operation],
-    line: &str,
-    kept: &Kept,
-) -> Result<Option<(Request, Lent)>, AllocError> {
-    let mut texts = line.split(' ');
-    let name = texts.next().unwrap_or("");
-    let Some(operation) = operations.iter().find(|operation| operation.name == name) else {
-        return Ok(None);
-    };
+    operation: &Operation,
+    line: &[u8],
+    kept: Kept,
+) -> Result<(Request, Lent), AllocError> {
+    let rooms = kept.rooms;
+    let mut end = kept.end;
     let mut request = Request {
-        name: String::from_str(alloc, name)?,
-        key: kept.key,
+        name: String::from_str(alloc, operation.name)?,
         numbers: Vec::new(alloc),
         lists: Vec::new(alloc),
+        halves: Halves::new(alloc),
         words: Vec::new(alloc),
         bytes: Vec::new(alloc),
+        kept,
     };
     let mut lent = Lent {
         list: None,
         words: Vec::new(alloc),
         bytes: Vec::new(alloc),
     };
+    let mut texts = line.split(|c| *c == b' ').skip(1);
     for letter in operation.letters.chars() {
-        let text = texts.next().unwrap_or("");
-        let number = arguments::number(text) as usize;
+        let text = texts.next().unwrap_or(&[]);
+        let number = arguments::number(text);
         match letter {
-            'l' => request.lists.push(arguments::numbers(alloc, text)?)?,
-            'w' => request
-                .words
-                .push(arguments::words(alloc, text, kept.bytes.as_slice())?)?,
-            'b' => request.bytes.push(arguments::bytes(
-                alloc,
-                Digits::Bytes,
-                text,
-                kept.bytes.as_slice(),
-            )?)?,
-            'L' => lent.list = Some(arguments::numbers(alloc, text)?),
-            'W' => lent.push_words(alloc, number)?,
-            'B' => lent.push_bytes(alloc, number)?,
-            'o' => lent.push_words(alloc, 2)?,
-            'p' => lent.push_words(alloc, 4)?,
-            'c' => lent.push_words(alloc, 256)?,
-            'd' => lent.push_bytes(alloc, 32)?,
+            'l' => {
+                let place = request.put_halves(Digits::Numbers, text)?;
+                let list = numbers_of(alloc, request.halves.at(place), usize::MAX)?;
+                request.lists.push(list)?;
+            }
+            'w' => {
+                let place = request.put_halves(Digits::Words, text)?;
+                request.words.push(place)?;
+            }
+            'b' => {
+                let from = end;
+                end = request.kept.put(from, text);
+                request.bytes.push(Place { from, to: end })?;
+            }
+            'L' => {
+                let place = request.put_halves(Digits::Numbers, text)?;
+                lent.list = Some(numbers_of(alloc, request.halves.at(place), LISTED)?);
+            }
+            'W' => lent.push_words(alloc, rooms, number)?,
+            'B' => lent.push_bytes(alloc, rooms, number)?,
+            'o' => lent.push_words(alloc, rooms, 2)?,
+            'p' => lent.push_words(alloc, rooms, 4)?,
+            'c' => lent.push_words(alloc, rooms, 256)?,
+            'd' => lent.push_bytes(alloc, rooms, 32)?,
             _ => request.numbers.push(number)?,
         }
     }
-    Ok(Some((request, lent)))
+    Ok((request, lent))
 }

@@ -2,6 +2,12 @@
 use field_gf128::Word;
 use std::array;
 
+// As much of a list as lies between two places.
+pub fn part<T>(list: &[T], from: usize, to: usize) -> &[T] {
+    let end = to.min(list.len());
+    &list[from.min(end)..end]
+}
+
 // Word i of a list of halves.
 pub fn word(halves: &[u64], i: usize) -> Word {
     match halves.chunks(2).nth(i) {

@@ -6,7 +6,7 @@ use theory_record::{Deposit, Trees, WidthSet};
 
 // The mode that trees are hashed under.
 pub fn mode_of(request: &Request) -> Mode {
-    match request.key {
+    match request.key() {
         Some(key) => keyed_mode(key),
         None => hash_mode(),
     }

@@ -15,7 +15,7 @@ use std::alloc::{AllocError, Global};
 use std::io;
 use test_lines::answer::{Answer, no_room};
 use test_lines::files::answer_files;
-use test_lines::request::{Lent, Operation, Request};
+use test_lines::request::{Lent, Operation, Request, Rooms};
 
 const OPERATIONS: [Operation; 43] = [
     Operation {
@@ -192,6 +192,13 @@ const OPERATIONS: [Operation; 43] = [
     },
 ];
 
+// What a request has room for; lines set the key of trees.
+const ROOMS: Rooms = Rooms {
+    words: [8192, 2048],
+    bytes: [65536, 2048],
+    key: true,
+};
+
 // What a request is answered.
 fn answer(alloc: Global, request: &Request, lent: &mut Lent) -> Result<Answer, AllocError> {
     Ok(match request.name.as_str() {
@@ -246,6 +253,7 @@ fn main(rt: HostRuntime) -> io::Result<()> {
     answer_files(
         &rt,
         &OPERATIONS,
+        ROOMS,
         answer,
         &[
             "tree/vectors.txt",

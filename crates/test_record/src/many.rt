@@ -37,7 +37,7 @@ impl Tally {
     }
 }
 
-// What the query check answers for a record.
+// What the query check answers for a record, of the deposit of a request.
 fn query_number(request: &Request, deposit: Deposit, position: usize, record: &[u8]) -> u64 {
     let place = Place::at(position);
     let (challenges, roots) = (request.words(0), request.bytes(1));
@@ -47,49 +47,46 @@ fn query_number(request: &Request, deposit: Deposit, position: usize, record: &[
     }
 }
 
-// What the tail check answers for a record.
+// What the tail check answers for a record, of the deposit of a request.
 fn tail_number(request: &Request, deposit: Deposit, record: &[u8]) -> u64 {
     let claim = word(request.words(0), 0);
     number(&record_tail_check::check_tail(deposit, request.bytes(1), claim, record))
 }
 
-// The answers for the record with each byte changed by each mask from 1 to 255 that is a number of steps after 1.
-fn damaged<F: Fn(&[u8]) -> u64>(
+// The answers for the third input with each byte changed by each mask from 1 to 255 that is a number of steps after 1; of its length modulo 65536 bytes.
+fn damaged<F: Fn(&Request) -> u64>(
     alloc: Global,
-    record: &[u8],
+    request: &Request,
     step: usize,
     check: F,
 ) -> Result<Answer, AllocError>
     requires { F.IsAlwaysCallable check }
 {
     let mut tally = Tally([0; 34]);
-    let mut changed = Vec::new(alloc);
-    changed.extend_from_slice(record)?;
-    for (i, right) in record.iter().enumerate() {
+    let record = request.bytes(2);
+    let mut changed = request.clone()?;
+    for (i, right) in record.iter().enumerate().take(record.len() % 65536) {
         for mask in 1..=255u8 {
             if step != 0 && usize::from(mask - 1) % step == 0 {
-                if let Some(byte) = changed.get_mut(i) {
-                    *byte = *right ^ mask;
-                }
-                tally.count(check(changed.as_slice()));
+                changed.set_byte(2, i, *right ^ mask);
+                tally.count(check(&changed));
             }
         }
-        if let Some(byte) = changed.get_mut(i) {
-            *byte = *right;
-        }
+        changed.set_byte(2, i, *right);
     }
     tally.answer(alloc)
 }
 
-// The answers for every proper prefix of the record.
+// The answers for every proper prefix of the third input.
 fn prefixes<F: Fn(&[u8]) -> u64>(
     alloc: Global,
-    record: &[u8],
+    request: &Request,
     check: F,
 ) -> Result<Answer, AllocError>
     requires { F.IsAlwaysCallable check }
 {
     let mut tally = Tally([0; 34]);
+    let record = request.bytes(2);
     for count in 0..record.len() {
         tally.count(check(&record[..count]));
     }
@@ -98,24 +95,23 @@ fn prefixes<F: Fn(&[u8]) -> u64>(
 
 pub fn damaged_query(alloc: Global, request: &Request) -> Result<Answer, AllocError> {
     let [step, set, n, k, position] = request.numbers();
-    let deposit = deposit_of(request, set, n, k);
-    damaged(alloc, request.bytes(2), step, |record| {
-        query_number(request, deposit, position, record)
+    damaged(alloc, request, step, |changed| {
+        let deposit = deposit_of(changed, set, n, k);
+        query_number(changed, deposit, position, changed.bytes(2))
     })
 }
 
 pub fn damaged_tail(alloc: Global, request: &Request) -> Result<Answer, AllocError> {
     let [step, set, n, k, ..] = request.numbers();
-    let deposit = deposit_of(request, set, n, k);
-    damaged(alloc, request.bytes(2), step, |record| {
-        tail_number(request, deposit, record)
+    damaged(alloc, request, step, |changed| {
+        tail_number(changed, deposit_of(changed, set, n, k), changed.bytes(2))
     })
 }
 
 pub fn prefixes_query(alloc: Global, request: &Request) -> Result<Answer, AllocError> {
     let [set, n, k, position, ..] = request.numbers();
     let deposit = deposit_of(request, set, n, k);
-    prefixes(alloc, request.bytes(2), |record| {
+    prefixes(alloc, request, |record| {
         query_number(request, deposit, position, record)
     })
 }
@@ -123,7 +119,7 @@ pub fn prefixes_query(alloc: Global, request: &Request) -> Result<Answer, AllocE
 pub fn prefixes_tail(alloc: Global, request: &Request) -> Result<Answer, AllocError> {
     let [set, n, k, ..] = request.numbers();
     let deposit = deposit_of(request, set, n, k);
-    prefixes(alloc, request.bytes(2), |record| {
+    prefixes(alloc, request, |record| {
         tail_number(request, deposit, record)
     })
 }

@@ -47,8 +47,9 @@ fn put_counts(out: &mut [u8], answers: &Answers) {
         first as u64,
         second as u64,
     ];
-    for (place, x) in out.chunks_exact_mut(8).zip(counts) {
-        place.copy_from_slice(&x.to_le_bytes());
+    let bytes = counts.iter().flat_map(|x| x.to_le_bytes());
+    for (place, byte) in out.iter_mut().zip(bytes) {
+        *place = byte;
     }
 }
 
