@@ -4,12 +4,14 @@ use mathlib.Core.Bool.{Bool, true, false, ◌&&◌}
 use mathlib.Core.List.{List, [], ◌∷◌}
 use Prim.Native.Nat.{ℕ, zero, suc, ◌+◌, ◌*◌, ◌/◌, ◌%◌, ◌^◌, ◌≤◌, ◌<◌}
 use native.Mathlib.Nat.{mod-eq_of_lt}
+use native.Mathlib.Numerals.{add-one}
 use native.Mathlib.Omega.{arith}
-use borrow.Author.Tests.{leb-true, eqb-true}
+use borrow.Author.Tests.{le-leb, lt-leb, leb-true, eqb-true}
 use lib.Bits.{bit_xor}
 use lib.Dec.{leb}
-use lib.ListN.{length}
+use lib.ListN.{length, get_or, drop, drop_of_length-le}
 use lib.Pow.{pow_mono, shl_lt}
+use lib.Seq.{drop-cons}
 use Rattle.std.specs.List.{list_all}
 use Rattle.theory_laws.specs.Questions.{both}
 use Rattle.theory_laws.specs.Sum.{sum}
@@ -36,6 +38,20 @@ all-listed (b ∷ s) = go (leb b 1) (all-listed s)
     go : (t : Bool) → list_all (λ b. leb b 1) s ≡ all_bits s → (t && list_all (λ b. leb b 1) s) ≡ both t (all_bits s)
     go true e = e
     go false e = refl
+
+-- as a loop over the bytes finds it: what is left of them gives the answer
+module _ (s : List ℕ) (i : ℕ) (r : Bool) where
+  pub bits-step : i < length s → get_or s i 0 ≤ 1 → all_bits (drop i s) ≡ r → all_bits (drop (i + 1) s) ≡ r
+  unfolding all_bits
+  bits-step h t e = rw add-one (rw (drop-cons s i 0, le-leb (get_or s i 0) 1) at e)
+
+  pub bits_stop : i < length s → 1 < get_or s i 0 → all_bits (drop i s) ≡ r → false ≡ r
+  unfolding all_bits
+  bits_stop h t e = rw (drop-cons s i 0, lt-leb (get_or s i 0) 1) at e
+
+  pub bits_end : length s ≤ i → all_bits (drop i s) ≡ r → true ≡ r
+  unfolding all_bits
+  bits_end h e = rw (drop_of_length-le s) at e
 
 pub is-bit : (s : List ℕ) → all_bits s ≡ true → (k : ℕ) → at s k < 2
 unfolding all_bits

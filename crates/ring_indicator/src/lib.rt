@@ -36,7 +36,9 @@ fn each_word<F: Fn(Word) -> Word>(out: &mut [u64], f: F)
 // The number of words from which on it is quicker to fill tables for them than to take them one by one (docs/DECISIONS.md, 77).
 const MANY: usize = 32;
 
-// phi of each word in place, under the row coefficients rb: tables are filled only for many.
+// phi of each word in place, under the row coefficients rb: tables are filled only for many. Its copies of the coefficients stand in a frame of its own,
+// and not below the table of an equality point that `materialize` has made before.
+#[inline(never)]
 fn phi_all(rb: &[Word; 128], out: &mut [u64])
     requires { length out.old % 2 ≡ 0 }
     ensures { words out.new ≡ phi_of_each (coefficients rb.now) (length out.old / 2) (words out.old) }

@@ -8,13 +8,14 @@ use std::fmt;
 use theory_laws::Refusal;
 
 // The numbers of an answer.
-#[derive(Drop)]
+#[derive(Clone, Copy)]
 pub enum Answer {
     One(u64),
     Two(u64, u64),
     Three(u64, u64, u64),
     Four(u64, u64, u64, u64),
-    Many(Vec<u64>),
+    // How often each number from 0 to 33 was the answer: printed as how many calls were refused, of how many, and each number but 0, with how often it was.
+    Many([u64; 34]),
 }
 
 // The number that answers a call: 0 where it is done.
@@ -49,9 +50,15 @@ impl fmt::Display for Answer {
             Answer::Two(a, b) => write!(f, " {a} {b}"),
             Answer::Three(a, b, c) => write!(f, " {a} {b} {c}"),
             Answer::Four(a, b, c, d) => write!(f, " {a} {b} {c} {d}"),
-            Answer::Many(numbers) => {
-                for x in numbers.iter() {
-                    write!(f, " {x}")?;
+            Answer::Many(counts) => {
+                let total = counts
+                    .iter()
+                    .fold(0u64, |sum, times| sum.saturating_add(*times));
+                write!(f, " {} {total}", total.saturating_sub(counts[0]))?;
+                for (number, times) in counts.iter().enumerate().skip(1) {
+                    if *times != 0 {
+                        write!(f, " {number} {times}")?;
+                    }
                 }
                 Ok(())
             }

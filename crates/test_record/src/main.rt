@@ -202,10 +202,10 @@ const ROOMS: Rooms = Rooms {
 // What a request is answered.
 fn answer(alloc: Global, request: &Request, lent: &mut Lent) -> Result<Answer, AllocError> {
     Ok(match request.name.as_str() {
-        "damaged_query" => many::damaged_query(alloc, request)?,
-        "damaged_tail" => many::damaged_tail(alloc, request)?,
-        "prefixes_query" => many::prefixes_query(alloc, request)?,
-        "prefixes_tail" => many::prefixes_tail(alloc, request)?,
+        "damaged_query" => many::damaged_query(request)?,
+        "damaged_tail" => many::damaged_tail(request)?,
+        "prefixes_query" => many::prefixes_query(request),
+        "prefixes_tail" => many::prefixes_tail(request),
         "blake3" => hash::blake3(request, lent),
         "serialize_parts" => hash::serialize_parts(alloc, request, lent)?,
         "pieces" => hash::pieces(request, lent),

@@ -2,7 +2,7 @@
 ghost use Rattle.std.specs.Prelude.{◌≡◌};
 
 use crate::key::deposit_of;
-use std::alloc::{AllocError, Global};
+use std::alloc::AllocError;
 use test_lines::answer::{Answer, number};
 use test_lines::request::Request;
 use test_lines::values::word;
@@ -18,22 +18,6 @@ impl Tally {
         if let Some(times) = self.0.get_mut(number as usize) {
             *times = times.saturating_add(1);
         }
-    }
-
-    // How many records are refused, of how many, and each number but 0 that was the answer, with how often it was.
-    fn answer(&self, alloc: Global) -> Result<Answer, AllocError> {
-        let total = self
-            .0
-            .iter()
-            .fold(0u64, |sum, times| sum.saturating_add(*times));
-        let mut out = vec![in alloc; total.saturating_sub(self.0[0]), total]?;
-        for (number, times) in self.0.iter().enumerate().skip(1) {
-            if *times != 0 {
-                out.push(number as u64)?;
-                out.push(*times)?;
-            }
-        }
-        Ok(Answer::Many(out))
     }
 }
 
@@ -55,7 +39,6 @@ fn tail_number(request: &Request, deposit: Deposit, record: &[u8]) -> u64 {
 
 // The answers for the third input with each byte changed by each mask from 1 to 255 that is a number of steps after 1; of its length modulo 65536 bytes.
 fn damaged<F: Fn(&Request) -> u64>(
-    alloc: Global,
     request: &Request,
     step: usize,
     check: F,
@@ -74,15 +57,11 @@ fn damaged<F: Fn(&Request) -> u64>(
         }
         changed.set_byte(2, i, *right);
     }
-    tally.answer(alloc)
+    Ok(Answer::Many(tally.0))
 }
 
 // The answers for every proper prefix of the third input.
-fn prefixes<F: Fn(&[u8]) -> u64>(
-    alloc: Global,
-    request: &Request,
-    check: F,
-) -> Result<Answer, AllocError>
+fn prefixes<F: Fn(&[u8]) -> u64>(request: &Request, check: F) -> Answer
     requires { F.IsAlwaysCallable check }
 {
     let mut tally = Tally([0; 34]);
@@ -90,36 +69,34 @@ fn prefixes<F: Fn(&[u8]) -> u64>(
     for count in 0..record.len() {
         tally.count(check(&record[..count]));
     }
-    tally.answer(alloc)
+    Answer::Many(tally.0)
 }
 
-pub fn damaged_query(alloc: Global, request: &Request) -> Result<Answer, AllocError> {
+pub fn damaged_query(request: &Request) -> Result<Answer, AllocError> {
     let [step, set, n, k, position] = request.numbers();
-    damaged(alloc, request, step, |changed| {
+    damaged(request, step, |changed| {
         let deposit = deposit_of(changed, set, n, k);
         query_number(changed, deposit, position, changed.bytes(2))
     })
 }
 
-pub fn damaged_tail(alloc: Global, request: &Request) -> Result<Answer, AllocError> {
+pub fn damaged_tail(request: &Request) -> Result<Answer, AllocError> {
     let [step, set, n, k, ..] = request.numbers();
-    damaged(alloc, request, step, |changed| {
+    damaged(request, step, |changed| {
         tail_number(changed, deposit_of(changed, set, n, k), changed.bytes(2))
     })
 }
 
-pub fn prefixes_query(alloc: Global, request: &Request) -> Result<Answer, AllocError> {
+pub fn prefixes_query(request: &Request) -> Answer {
     let [set, n, k, position, ..] = request.numbers();
     let deposit = deposit_of(request, set, n, k);
-    prefixes(alloc, request, |record| {
+    prefixes(request, |record| {
         query_number(request, deposit, position, record)
     })
 }
 
-pub fn prefixes_tail(alloc: Global, request: &Request) -> Result<Answer, AllocError> {
+pub fn prefixes_tail(request: &Request) -> Answer {
     let [set, n, k, ..] = request.numbers();
     let deposit = deposit_of(request, set, n, k);
-    prefixes(alloc, request, |record| {
-        tail_number(request, deposit, record)
-    })
+    prefixes(request, |record| { tail_number(request, deposit, record) })
 }

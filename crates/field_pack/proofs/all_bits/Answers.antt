@@ -1,13 +1,16 @@
--- `field_pack::all_bits` meets its contract: `all` answers what the definition says of the bytes.
-use mathlib.Core.Path.{◌∙◌}
-use Rattle.std.proofs.Common.{rules, tests}
-use Rattle.std.proofs.lemmas.Iterator.{YieldsList-from_slice}
-use Rattle.std.proofs.lemmas.Iterator.Search.{all_from_yields_List}
-use lib.Dec.{leb}
-use Rattle.field_pack.proofs.Groups.{all-listed}
+-- `field_pack::all_bits` meets its contract: what is left of the bytes gives the answer.
+use native.Mathlib.Omega.{arith}
+use borrow.Author.Rules.{rules}
+use Rattle.field_pack.proofs.Groups.{bits-step, bits_stop, bits_end}
 use Rattle.field_pack.proofs.all_bits.Goals as goal
 
+pub returns-then-bytes-i-gt1 : goal.returns-then-bytes-i-gt1
+returns-then-bytes-i-gt1 c =
+    bits_stop c.args.bytes.now c.loop-i.i _ (omega arith) (omega arith) c.loop-i.invariant
+
+pub loop-i-preserved : goal.loop-i-preserved
+loop-i-preserved c =
+    bits-step c.args.bytes.now c.loop-i.i _ (omega arith) (omega arith) c.loop-i.invariant
+
 pub returns : goal.returns
-returns c =
-    all_from_yields_List (λ b. leb b 1) _ _ _ c.all.ensures.ran (YieldsList-from_slice c.args.bytes.now cc) (λ x b q k. search (rules, tests))
-    ∙ all-listed c.args.bytes.now
+returns c = search (bits_end, rules)
