@@ -9,6 +9,7 @@ ghost use Rattle.theory_laws.specs.Refusals.{answered};
 ghost use Rattle.theory_field.specs.Field.{◌⊗◌};
 ghost use Rattle.theory_field.specs.Words.{words};
 ghost use Rattle.field_gf128.specs.Word.{word};
+ghost use Rattle.theory_multilinear.specs.Equality.{eq_table};
 ghost use Rattle.theory_multilinear.specs.Partials.{materialize};
 ghost use Rattle.theory_multilinear.proofs.Tensor.{tensor_step};
 ghost use Rattle.field_equality.specs.Eq.{eq_number};
@@ -36,8 +37,7 @@ fn each_word<F: Fn(Word) -> Word>(out: &mut [u64], f: F)
 // The number of words from which on it is quicker to fill tables for them than to take them one by one (docs/DECISIONS.md, 77).
 const MANY: usize = 32;
 
-// phi of each word in place, under the row coefficients rb: tables are filled only for many. Its copies of the coefficients stand in a frame of its own,
-// and not below the table of an equality point that `materialize` has made before.
+// phi of each word in place, under the row coefficients rb: tables are filled only for many.
 #[inline(never)]
 fn phi_all(rb: &[Word; 128], out: &mut [u64])
     requires { length out.old % 2 ≡ 0 }
@@ -51,6 +51,16 @@ fn phi_all(rb: &[Word; 128], out: &mut [u64])
     }
 }
 
+// The equality table of z. It and `phi_all` stand in frames of their own, one after the other, so that the room for multiples in the one and the copies
+// of coefficients in the other are not on the stack together.
+#[inline(never)]
+fn entries(n: usize, z: &[u64], out: &mut [u64]) -> Result<(), Refusal>
+    ensures value { answered result ≡ eq_number n (length z.now) (length out.old) }
+    ensures out_after { words out.new ≡ on_done (answered result) (eq_table (words z.now)) (words out.old) }
+{
+    field_equality::eq_table(n, z, out)
+}
+
 // The indicator's table for the equality point z of n coordinates under the row coefficients rb: phi of each of the 2^n entries of
 // z's equality table. It is refused where that table is: with 4 where n is above 20, with 5 where a lent length is another; `out`
 // then stays.
@@ -58,7 +68,7 @@ pub fn materialize(n: usize, z: &[u64], rb: [Word; 128], out: &mut [u64]) -> Res
     ensures value { answered result ≡ eq_number n (length z.now) (length out.old) }
     ensures out_after { words out.new ≡ on_done (answered result) (materialize (coefficients rb) (words z.now)) (words out.old) }
 {
-    field_equality::eq_table(n, z, out)?;
+    entries(n, z, out)?;
     phi_all(&rb, out);
     Ok(())
 }
