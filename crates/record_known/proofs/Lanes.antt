@@ -23,6 +23,7 @@ use Rattle.record_reader.specs.declared.Opening.{Opening}
 use Rattle.record_reader.proofs.Runs.{run_found}
 use Rattle.record_reader.specs.helpers.Places.{where_there}
 use Rattle.std.specs.Prelude.{Option, Some, None}
+use Rattle.std.specs.Option.{is_some}
 use Rattle.record_opening.specs.helpers.Opening.{values_from, Sized, Known}
 use Rattle.record_opening.proofs.Levels.{sized-room, leads_is}
 use Rattle.record_opening.proofs.Numbers.{length-values, length-digests}
@@ -30,7 +31,7 @@ use Rattle.tree_four_ways.specs.declared.Lane.{Lane}
 use Rattle.tree_four_ways.specs.helpers.Lists.{nowhere, lane_at, counts, groups, places, froms, depths}
 use Rattle.record_known.specs.helpers.Known.{Sought, opened_by, LaneAt, EndAt, EndsAt}
 use Rattle.record_known.specs.helpers.Lanes.{InRange, farthest, RunSized, or_nowhere, leaf_in, end_from, lane_end, LaneThere, LaneOf, MaybeLaneOf}
-use Rattle.record_known.specs.helpers.Lanes.{maybe_at, MaybeFilled, OneWidth, FourThere, AllThere, FourDigests, FourLeaves, FourClimbed, end_read, end_at, FourEnds, Ended}
+use Rattle.record_known.specs.helpers.Lanes.{maybe_at, is_there, OneWidth, FourThere, AllThere, FourDigests, FourLeaves, FourClimbed, end_read, end_at, FourEnds, Ended}
 
 nowhere-there : (s : ℕ) → LaneThere s nowhere
 nowhere-there s = record { wide = omega arith; values-there = omega arith; there = omega arith; deep = omega arith; low = omega arith }
@@ -40,11 +41,6 @@ pub maybe-there : (S : Scheme) (l place : ℕ) (s : List ℕ) (group path : ℕ)
     → LaneThere (length s) (or_nowhere lane)
 maybe-there S l place s group path None z = nowhere-there (length s)
 maybe-there S l place s group path (Some lane) z = z.lane_there
-
--- and then its group has values
-pub maybe-filled : (S : Scheme) (l place : ℕ) (s : List ℕ) (group path : ℕ) (lane : Option Lane) → MaybeLaneOf S l place s group path lane → MaybeFilled lane
-maybe-filled S l place s group path None z = tt
-maybe-filled S l place s group path (Some lane) z = z.filled
 
 -- ---- a group and a path that are sized
 
@@ -91,7 +87,6 @@ sized-lane how base n k l place s group path count width depth g z near ec ew eh
         deep = omega (arith, most, eh, z.readable.n_most, z.readable.k_most);
         low = omega arith;
       };
-      filled = omega (arith, room.width-pos, ew);
       both_sized = z;
       leads = leads;
     }
@@ -142,10 +137,11 @@ paths_there v s x y z f ab cd all =
       low = four (λ k. at (froms v) k < 2 ^ 62) (t 0 (omega arith)).low (t 1 (omega arith)).low (t 2 (omega arith)).low (t 3 (omega arith)).low;
     }
 
-pub ends_of : (H : List ℕ → List ℕ) (domains : List ℕ) (size : ℕ) (s : List ℕ) (v : List Lane) (leaves r : List ℕ) → FourLeaves H domains size s v leaves
-    → ((k : ℕ) → k < 4 → digest_of r k ≡ way_up H domains size (groups v) leaves s (froms v) (depths v) k) → FourClimbed H domains size s v r
-ends_of H domains size s v leaves r l e = record {
-  climbed = four (λ k. 0 < (lane_at v k).width → digest_of r k ≡ lane_end H (domain_of domains size k) s (lane_at v k))
+pub ends_of : (H : List ℕ → List ℕ) (domains : List ℕ) (size : ℕ) (s : List ℕ) (v : List Lane) (there : List Bool) (leaves r : List ℕ)
+    → FourLeaves H domains size s v there leaves
+    → ((k : ℕ) → k < 4 → digest_of r k ≡ way_up H domains size (groups v) leaves s (froms v) (depths v) k) → FourClimbed H domains size s v there r
+ends_of H domains size s v there leaves r l e = record {
+  climbed = four (λ k. is_there there k ≡ true → digest_of r k ≡ lane_end H (domain_of domains size k) s (lane_at v k))
       (λ h. e 0 (omega arith) ∙ ap (end_from H (domain_of domains size 0) s (lane_at v 0)) (l.leaf 0 (omega arith) h))
       (λ h. e 1 (omega arith) ∙ ap (end_from H (domain_of domains size 1) s (lane_at v 1)) (l.leaf 1 (omega arith) h))
       (λ h. e 2 (omega arith) ∙ ap (end_from H (domain_of domains size 2) s (lane_at v 2)) (l.leaf 2 (omega arith) h))
@@ -164,16 +160,16 @@ groups-there v s f w =
           (let h = (t 3 (omega arith)).values-there in omega (arith, h, w.fourth)),
     )
 
-pub leaves-at-once : (H : List ℕ → List ℕ) (domains : List ℕ) (size : ℕ) (s : List ℕ) (v : List Lane) (r : List ℕ) → OneWidth v
+pub leaves-at-once : (H : List ℕ → List ℕ) (domains : List ℕ) (size : ℕ) (s : List ℕ) (v : List Lane) (there : List Bool) (r : List ℕ) → OneWidth v
     → ((k : ℕ) → k < 4 → digest_of r k
     ≡ leaf_digest H (domain_of domains size k) (at (counts v) k) (lane_at v 0).width (at (groups v) k) (lane_values s (places v) (lane_at v 0).width k))
-    → FourLeaves H domains size s v r
+    → FourLeaves H domains size s v there r
 unfolding values_from
-leaves-at-once H domains size s v r w e =
+leaves-at-once H domains size s v there r w e =
     let leaf : ℕ → Lane → ℕ → List ℕ =
     λ k lane width. leaf_digest H (domain_of domains size k) lane.count width lane.group (map le_value (runs 16 width (drop lane.values s))) in
     record {
-      leaf = four (λ k. 0 < (lane_at v k).width → digest_of r k ≡ leaf_in H (domain_of domains size k) s (lane_at v k))
+      leaf = four (λ k. is_there there k ≡ true → digest_of r k ≡ leaf_in H (domain_of domains size k) s (lane_at v k))
           (λ h. e 0 (omega arith))
           (λ h. e 1 (omega arith) ∙ ap (leaf 1 (lane_at v 1)) (sym w.second))
           (λ h. e 2 (omega arith) ∙ ap (leaf 2 (lane_at v 2)) (sym w.third))
@@ -187,15 +183,15 @@ lent_as domains from to size k e et =
     let z : to - from ≡ size = omega arith in
     rw (z, e)
 
-pub leaves-one_by_one : (H : List ℕ → List ℕ) (domains : List ℕ) (size : ℕ) (s : List ℕ) (v : List Lane) (i j l m r : List ℕ)
-    → (0 < (lane_at v 0).width → i ≡ leaf_in H (take (size - 0) (drop 0 domains)) s (lane_at v 0))
-    → (0 < (lane_at v 1).width → j ≡ leaf_in H (take (256 + size - 256) (drop 256 domains)) s (lane_at v 1))
-    → (0 < (lane_at v 2).width → l ≡ leaf_in H (take (512 + size - 512) (drop 512 domains)) s (lane_at v 2))
-    → (0 < (lane_at v 3).width → m ≡ leaf_in H (take (768 + size - 768) (drop 768 domains)) s (lane_at v 3))
-    → FourDigests i j l m r → FourLeaves H domains size s v r
+pub leaves-one_by_one : (H : List ℕ → List ℕ) (domains : List ℕ) (size : ℕ) (s : List ℕ) (v : List Lane) (there : List Bool) (i j l m r : List ℕ)
+    → (is_there there 0 ≡ true → i ≡ leaf_in H (take (size - 0) (drop 0 domains)) s (lane_at v 0))
+    → (is_there there 1 ≡ true → j ≡ leaf_in H (take (256 + size - 256) (drop 256 domains)) s (lane_at v 1))
+    → (is_there there 2 ≡ true → l ≡ leaf_in H (take (512 + size - 512) (drop 512 domains)) s (lane_at v 2))
+    → (is_there there 3 ≡ true → m ≡ leaf_in H (take (768 + size - 768) (drop 768 domains)) s (lane_at v 3))
+    → FourDigests i j l m r → FourLeaves H domains size s v there r
 unfolding part
-leaves-one_by_one H domains size s v i j l m r ei ej el em f = record {
-  leaf = four (λ k. 0 < (lane_at v k).width → digest_of r k ≡ leaf_in H (domain_of domains size k) s (lane_at v k))
+leaves-one_by_one H domains size s v there i j l m r ei ej el em f = record {
+  leaf = four (λ k. is_there there k ≡ true → digest_of r k ≡ leaf_in H (domain_of domains size k) s (lane_at v k))
       (λ h. f.first ∙ ei h ∙ ap (λ (x : List ℕ). leaf_in H x s (lane_at v 0)) (lent_as domains 0 size size 0 refl (omega arith)))
       (λ h. f.second ∙ ej h ∙ ap (λ (x : List ℕ). leaf_in H x s (lane_at v 1)) (lent_as domains 256 _ size 1 refl refl))
       (λ h. f.third ∙ el h ∙ ap (λ (x : List ℕ). leaf_in H x s (lane_at v 2)) (lent_as domains 512 _ size 2 refl refl))
@@ -213,25 +209,25 @@ all_or_nowhere s lanes a b c d z ea eb ec ed = record {
 }
 
 -- what is read of a lane that is there is where it leads to
-read-lane : (H : List ℕ → List ℕ) (domain s digest : List ℕ) (o : Option Lane) (lane : Lane) → MaybeFilled o
-    → (0 < lane.width → digest ≡ lane_end H domain s lane) → lane ≡ or_nowhere o → end_read o digest ≡ end_at H domain s o
-read-lane H domain s digest None lane p e f = refl
-read-lane H domain s digest (Some x) lane p e f = ap (λ (d : List ℕ). Some d) (e (rw f p) ∙ ap (lane_end H domain s) f)
+read-lane : (H : List ℕ → List ℕ) (domain s digest : List ℕ) (o : Option Lane) (lane : Lane) (there : Bool) → there ≡ is_some o
+    → (there ≡ true → digest ≡ lane_end H domain s lane) → lane ≡ or_nowhere o → end_read o digest ≡ end_at H domain s o
+read-lane H domain s digest None lane there p e f = refl
+read-lane H domain s digest (Some x) lane there p e f = ap (λ (d : List ℕ). Some d) (e p ∙ ap (lane_end H domain s) f)
 
-pub ends_read : (H : List ℕ → List ℕ) (domains : List ℕ) (size : ℕ) (s : List ℕ) (lanes : List (Option Lane)) (a b c d : Lane) (digests : List ℕ)
-    (i j l m : Option (List ℕ)) → AllThere (length s) lanes → a ≡ or_nowhere (maybe_at lanes 0) → b ≡ or_nowhere (maybe_at lanes 1)
-    → c ≡ or_nowhere (maybe_at lanes 2) → d ≡ or_nowhere (maybe_at lanes 3) → FourClimbed H domains size s (a ∷ b ∷ c ∷ d ∷ []) digests
+pub ends_read : (H : List ℕ → List ℕ) (domains : List ℕ) (size : ℕ) (s : List ℕ) (lanes : List (Option Lane)) (a b c d : Lane) (p q u v : Bool)
+    (digests : List ℕ) (i j l m : Option (List ℕ)) → p ≡ is_some (maybe_at lanes 0) → q ≡ is_some (maybe_at lanes 1) → u ≡ is_some (maybe_at lanes 2)
+    → v ≡ is_some (maybe_at lanes 3) → a ≡ or_nowhere (maybe_at lanes 0) → b ≡ or_nowhere (maybe_at lanes 1) → c ≡ or_nowhere (maybe_at lanes 2)
+    → d ≡ or_nowhere (maybe_at lanes 3) → FourClimbed H domains size s (a ∷ b ∷ c ∷ d ∷ []) (p ∷ q ∷ u ∷ v ∷ []) digests
     → i ≡ end_read (maybe_at lanes 0) (digest_of digests 0) → j ≡ end_read (maybe_at lanes 1) (digest_of digests 1)
     → l ≡ end_read (maybe_at lanes 2) (digest_of digests 2) → m ≡ end_read (maybe_at lanes 3) (digest_of digests 3)
     → FourEnds H domains size s lanes (i ∷ j ∷ l ∷ m ∷ [])
-ends_read H domains size s lanes a b c d digests i j l m there ea eb ec ed z ei ej el em =
-    let one : (k : ℕ) (lane : Lane) → k < 4 → lane ≡ or_nowhere (maybe_at lanes k) → lane_at (a ∷ b ∷ c ∷ d ∷ []) k ≡ lane
-    → end_read (maybe_at lanes k) (digest_of digests k) ≡ end_at H (domain_of domains size k) s (maybe_at lanes k) =
-    λ k lane h e f. read-lane H _ s _ (maybe_at lanes k) (lane_at (a ∷ b ∷ c ∷ d ∷ []) k) (there.filled_at k h) (z.climbed k h) (f ∙ e) in
-    record {
-      ends = four (λ k. get_or (i ∷ j ∷ l ∷ m ∷ []) k None ≡ end_at H (domain_of domains size k) s (maybe_at lanes k))
-          (ei ∙ one 0 a (omega arith) ea refl) (ej ∙ one 1 b (omega arith) eb refl) (el ∙ one 2 c (omega arith) ec refl) (em ∙ one 3 d (omega arith) ed refl);
-    }
+ends_read H domains size s lanes a b c d p q u v digests i j l m ep eq eu ev ea eb ec ed z ei ej el em = record {
+  ends = four (λ k. get_or (i ∷ j ∷ l ∷ m ∷ []) k None ≡ end_at H (domain_of domains size k) s (maybe_at lanes k))
+      (ei ∙ read-lane H _ s _ (maybe_at lanes 0) a p ep (z.climbed 0 (omega arith)) ea)
+      (ej ∙ read-lane H _ s _ (maybe_at lanes 1) b q eq (z.climbed 1 (omega arith)) eb)
+      (el ∙ read-lane H _ s _ (maybe_at lanes 2) c u eu (z.climbed 2 (omega arith)) ec)
+      (em ∙ read-lane H _ s _ (maybe_at lanes 3) d v ev (z.climbed 3 (omega arith)) ed);
+}
 
 -- ---- what a lane makes known
 
@@ -276,6 +272,4 @@ pub lanes-there : (S : Scheme) (w : Sought) (s : List ℕ) (openings : List Open
 lanes-there S w s openings p q r t a b c d la lb lc ld = record {
   there_at = four (λ k. LaneThere (length s) (or_nowhere (maybe_at (a ∷ b ∷ c ∷ d ∷ []) k))) (maybe-there S _ _ s _ _ a la) (maybe-there S _ _ s _ _ b lb)
       (maybe-there S _ _ s _ _ c lc) (maybe-there S _ _ s _ _ d ld);
-  filled_at = four (λ k. MaybeFilled (maybe_at (a ∷ b ∷ c ∷ d ∷ []) k)) (maybe-filled S _ _ s _ _ a la) (maybe-filled S _ _ s _ _ b lb)
-      (maybe-filled S _ _ s _ _ c lc) (maybe-filled S _ _ s _ _ d ld);
 }

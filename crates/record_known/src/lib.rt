@@ -155,22 +155,25 @@ fn end_to_end(a: [u8; 32], b: [u8; 32], c: [u8; 32], d: [u8; 32]) -> [u8; 128]
     r
 }
 
-// Are the groups of four lanes of one width?
-fn one_width(lanes: [Lane; 4]) -> bool
+// Do four lanes go somewhere, and are their groups of one width?
+fn one_width(lanes: [Lane; 4], there: [bool; 4]) -> bool
     ensures { result ≡ true → OneWidth lanes }
 {
-    lanes[0].width != 0
+    there[0]
+        && there[1]
+        && there[2]
+        && there[3]
         && lanes[1].width == lanes[0].width
         && lanes[2].width == lanes[0].width
         && lanes[3].width == lanes[0].width
 }
 
-// The digest of a lane's group.
-fn lane_leaf(mode: Mode, domain: &[u8], s: &[u8], lane: Lane) -> [u8; 32]
+// The digest of a lane's group, where the lane goes somewhere.
+fn lane_leaf(mode: Mode, domain: &[u8], s: &[u8], lane: Lane, there: bool) -> [u8; 32]
     requires { (length domain.now ≤ 255) × (LaneThere (length s.now) lane) }
-    ensures { 0 < lane.width → result ≡ leaf_in (under mode) domain.now s.now lane }
+    ensures { there ≡ true → result ≡ leaf_in (under mode) domain.now s.now lane }
 {
-    if lane.width == 0 {
+    if !there {
         return [0u8; 32];
     }
     let group = Group::numbered(lane.group);
@@ -183,30 +186,44 @@ fn lane_leaf(mode: Mode, domain: &[u8], s: &[u8], lane: Lane) -> [u8; 32]
 }
 
 // The digests of four lanes' groups: at once where they are of one width.
-fn four_leaves(mode: Mode, domains: &[u8], size: usize, s: &[u8], lanes: [Lane; 4]) -> [u8; 128]
+fn four_leaves(
+    mode: Mode,
+    domains: &[u8],
+    size: usize,
+    s: &[u8],
+    lanes: [Lane; 4],
+    there: [bool; 4],
+) -> [u8; 128]
     requires { (size ≤ 255) × (1024 ≤ length domains.now) × (FourThere (length s.now) lanes) }
-    ensures { FourLeaves (under mode) domains.now size s.now lanes result }
+    ensures { FourLeaves (under mode) domains.now size s.now lanes there result }
 {
     let a = lanes[0];
     let b = lanes[1];
     let c = lanes[2];
     let d = lanes[3];
-    if one_width(lanes) {
+    if one_width(lanes, there) {
         return leaves_four(mode, domains, size, a.width, lanes, s);
     }
-    let i = lane_leaf(mode, &domains[0..size], s, a);
-    let j = lane_leaf(mode, &domains[256..256 + size], s, b);
-    let l = lane_leaf(mode, &domains[512..512 + size], s, c);
-    let m = lane_leaf(mode, &domains[768..768 + size], s, d);
+    let i = lane_leaf(mode, &domains[0..size], s, a, there[0]);
+    let j = lane_leaf(mode, &domains[256..256 + size], s, b, there[1]);
+    let l = lane_leaf(mode, &domains[512..512 + size], s, c, there[2]);
+    let m = lane_leaf(mode, &domains[768..768 + size], s, d, there[3]);
     end_to_end(i, j, l, m)
 }
 
 // Where four lanes lead to, under the domains that stand in strides of 256 bytes.
-fn climb_lanes(mode: Mode, domains: &[u8], size: usize, s: &[u8], lanes: [Lane; 4]) -> [u8; 128]
+fn climb_lanes(
+    mode: Mode,
+    domains: &[u8],
+    size: usize,
+    s: &[u8],
+    lanes: [Lane; 4],
+    there: [bool; 4],
+) -> [u8; 128]
     requires { (size ≤ 255) × (1024 ≤ length domains.now) × (FourThere (length s.now) lanes) }
-    ensures { FourClimbed (under mode) domains.now size s.now lanes result }
+    ensures { FourClimbed (under mode) domains.now size s.now lanes there result }
 {
-    let leaves = four_leaves(mode, domains, size, s, lanes);
+    let leaves = four_leaves(mode, domains, size, s, lanes, there);
     let a = lanes[0];
     let b = lanes[1];
     let c = lanes[2];
@@ -249,7 +266,13 @@ pub fn four_ends(
     let b = or_nowhere(lanes[1]);
     let c = or_nowhere(lanes[2]);
     let d = or_nowhere(lanes[3]);
-    let digests = climb_lanes(mode, domains, size, s, [a, b, c, d]);
+    let there = [
+        lanes[0].is_some(),
+        lanes[1].is_some(),
+        lanes[2].is_some(),
+        lanes[3].is_some(),
+    ];
+    let digests = climb_lanes(mode, domains, size, s, [a, b, c, d], there);
     let first = end_in(lanes[0], digests, 0);
     let second = end_in(lanes[1], digests, 1);
     let third = end_in(lanes[2], digests, 2);

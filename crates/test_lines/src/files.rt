@@ -2,13 +2,13 @@
 use crate::answer::{Answer, no_room};
 use crate::request::{Kept, Lent, Operation, Request, Rooms};
 use crate::{answer, request};
+use export_text::read_full;
 use std::alloc::{AllocError, Global};
-use std::io::Read;
 use std::rt::Files;
 use std::{fs, io};
 
 // How many bytes of a file there is room for.
-const FILE: u64 = 262144;
+const FILE: usize = 262144;
 
 // What a line is answered that names an operation: the numbers of `run`, of what it asks for. What lines have set comes back.
 fn answered<F: Fn(Global, &Request, &mut Lent) -> Result<Answer, AllocError>>(
@@ -55,8 +55,9 @@ fn answer_lines<
 
 // As much of a file as there is room for; fails where it cannot be opened or read.
 fn read_file<R: Files + AllocGlobal>(rt: &R, name: &str) -> io::Result<Vec<u8>> {
-    let mut text = Vec::new(rt.alloc());
-    fs::open(rt, name)?.take(FILE).read_to_end(&mut text)?;
+    let mut text = vec![in rt.alloc(); 0u8; FILE]?;
+    let count = read_full(&mut fs::open(rt, name)?, text.as_mut_slice())?;
+    text.truncate(count);
     Ok(text)
 }
 

@@ -8,4 +8,4 @@ climb_four-requires c =
     (p.0, p.1, paths_there c.args.lanes _ _ _ _ p.2 c.larger.ensures c.larger-2.ensures c.larger-deepest.ensures)
 
 pub returns : goal.returns
-returns c = ends_of _ _ _ _ c.args.lanes _ _ c.four_leaves-leaves.ensures c.climb_four.ensures
+returns c = ends_of _ _ _ _ c.args.lanes _ _ _ c.four_leaves-leaves.ensures c.climb_four.ensures

@@ -9,5 +9,5 @@ climb_lanes-digests-requires c =
 
 pub returns : goal.returns
 returns c =
-    ends_read _ _ _ _ _ _ _ _ _ _ _ _ _ _ c.requires.2 c.or_nowhere-a.ensures c.or_nowhere-b.ensures c.or_nowhere-c.ensures c.or_nowhere-d.ensures
+    ends_read _ _ _ _ _ _ _ _ _ _ _ _ _ _ _ _ _ _ c.is_some.ensures c.is_some-2.ensures c.is_some-3.ensures c.is_some-4.ensures c.or_nowhere-a.ensures c.or_nowhere-b.ensures c.or_nowhere-c.ensures c.or_nowhere-d.ensures
     c.climb_lanes-digests.ensures c.end_in-first.ensures c.end_in-second.ensures c.end_in-third.ensures c.end_in-fourth.ensures

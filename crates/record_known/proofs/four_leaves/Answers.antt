@@ -9,9 +9,9 @@ leaves_four-requires c =
 
 pub returns-then-one_width : goal.returns-then-one_width
 returns-then-one_width c =
-    leaves-at-once _ _ _ _ c.args.lanes _ (c.one_width.ensures c.if-one_width.true) c.leaves_four.ensures
+    leaves-at-once _ _ _ _ c.args.lanes _ _ (c.one_width.ensures c.if-one_width.true) c.leaves_four.ensures
 
 pub returns : goal.returns
 returns c =
-    leaves-one_by_one _ _ _ _ c.args.lanes _ _ _ _ _ c.lane_leaf-i.ensures c.lane_leaf-j.ensures c.lane_leaf-l.ensures
+    leaves-one_by_one _ _ _ _ c.args.lanes _ _ _ _ _ _ c.lane_leaf-i.ensures c.lane_leaf-j.ensures c.lane_leaf-l.ensures
     c.lane_leaf-m.ensures c.end_to_end.ensures

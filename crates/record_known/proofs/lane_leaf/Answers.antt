@@ -3,4 +3,4 @@ use mathlib.Core.Path.{sym}
 use Rattle.record_known.proofs.lane_leaf.Goals as goal
 
 pub returns : goal.returns
-returns c = λ filled. rw (sym c.numbered-group.ensures) c.leaf_at.ensures
+returns c = λ there. rw (sym c.numbered-group.ensures) c.leaf_at.ensures

@@ -1,5 +1,5 @@
 -- The lanes of a first pass: what each starts from, and where it leads to.
-use Rattle.std.specs.Prelude.{ℕ, ◌+◌, ◌*◌, ◌^◌, ◌≤◌, ◌<◌, ◌≡◌, true, List, Option, Some, None, length, get_or, drop}
+use Rattle.std.specs.Prelude.{ℕ, ◌+◌, ◌*◌, ◌^◌, ◌≤◌, ◌<◌, ◌≡◌, Bool, true, false, List, Option, Some, None, length, get_or, drop}
 use Rattle.theory_laws.specs.Lists.{runs}
 use Rattle.tree_four_ways.specs.helpers.Ways.{domain_of, digest_of}
 use Rattle.theory_merkle.specs.Tree.{leaf_digest, climb}
@@ -52,7 +52,6 @@ pub record LaneThere (s : ℕ) (lane : Lane) : Type 0 where
 -- group and path are sized, and the lane leads to what they lead to
 pub record LaneOf (S : Scheme) (l place : ℕ) (s : List ℕ) (group path : ℕ) (lane : Lane) : Type 0 where
   pub lane_there : LaneThere (length s) lane
-  pub filled : 0 < lane.width
   pub both_sized : Sized S l s group path
   pub leads : lane_end S.digest (domain_at S l) s lane ≡ leads_at S l place s group path
 
@@ -69,14 +68,12 @@ maybe_at lanes k = get_or lanes k None
 pub record FourThere (s : ℕ) (lanes : List Lane) : Type 0 where
   pub there_at : (k : ℕ) → k < 4 → LaneThere s (lane_at lanes k)
 
--- where there is a lane, its group has values
-abbrev pub MaybeFilled : Option Lane → Type 0
-MaybeFilled None = Unit
-MaybeFilled (Some lane) = 0 < lane.width
+-- whether lane k is one that goes somewhere, by a list that says it of each
+abbrev pub is_there : List Bool → ℕ → Bool
+is_there there k = get_or there k false
 
 pub record AllThere (s : ℕ) (lanes : List (Option Lane)) : Type 0 where
   pub there_at : (k : ℕ) → k < 4 → LaneThere s (or_nowhere (maybe_at lanes k))
-  pub filled_at : (k : ℕ) → k < 4 → MaybeFilled (maybe_at lanes k)
 
 -- four digests one after the other
 pub record FourDigests (a b c d r : List ℕ) : Type 0 where
@@ -91,13 +88,13 @@ pub record OneWidth (lanes : List Lane) : Type 0 where
   pub third : (lane_at lanes 2).width ≡ (lane_at lanes 0).width
   pub fourth : (lane_at lanes 3).width ≡ (lane_at lanes 0).width
 
--- the digests of four lanes' groups, each under its domain of those in strides of 256 bytes, and where they lead to; of a lane that goes nowhere,
--- whose group has no value, nothing is said
-pub record FourLeaves (H : List ℕ → List ℕ) (domains : List ℕ) (size : ℕ) (s : List ℕ) (lanes : List Lane) (r : List ℕ) : Type 0 where
-  pub leaf : (k : ℕ) → k < 4 → 0 < (lane_at lanes k).width → digest_of r k ≡ leaf_in H (domain_of domains size k) s (lane_at lanes k)
+-- the digests of four lanes' groups, each under its domain of those in strides of 256 bytes, and where they lead to; of a lane that goes nowhere
+-- nothing is said
+pub record FourLeaves (H : List ℕ → List ℕ) (domains : List ℕ) (size : ℕ) (s : List ℕ) (lanes : List Lane) (there : List Bool) (r : List ℕ) : Type 0 where
+  pub leaf : (k : ℕ) → k < 4 → is_there there k ≡ true → digest_of r k ≡ leaf_in H (domain_of domains size k) s (lane_at lanes k)
 
-pub record FourClimbed (H : List ℕ → List ℕ) (domains : List ℕ) (size : ℕ) (s : List ℕ) (lanes : List Lane) (r : List ℕ) : Type 0 where
-  pub climbed : (k : ℕ) → k < 4 → 0 < (lane_at lanes k).width → digest_of r k ≡ lane_end H (domain_of domains size k) s (lane_at lanes k)
+pub record FourClimbed (H : List ℕ → List ℕ) (domains : List ℕ) (size : ℕ) (s : List ℕ) (lanes : List Lane) (there : List Bool) (r : List ℕ) : Type 0 where
+  pub climbed : (k : ℕ) → k < 4 → is_there there k ≡ true → digest_of r k ≡ lane_end H (domain_of domains size k) s (lane_at lanes k)
 
 -- where there is a lane: this digest
 abbrev pub end_read : Option Lane → List ℕ → Option (List ℕ)
