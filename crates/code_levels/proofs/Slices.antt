@@ -53,15 +53,21 @@ numbered : (a : Result ℕ Refusal) → answered a ≡ (folded a).number
 numbered (Ok m) = refl
 numbered (Err e) = refl
 
+-- what a fold answers settles its number
+pub number-folded : (m q : ℕ) (a : Result ℕ Refusal) → folded a ≡ folded_of m q → answered a ≡ q
+number-folded m q a e = numbered a ∙ ap (λ (x : Folded). x.number) e ∙ number_of m q
+
 -- what a fold answers, by the lengths of what it was lent
 pub fold-lent : (m k original var : ℕ) (list : List ℕ) (size : ℕ) {src out room : ℕ} (a : Result ℕ Refusal)
     → folded a ≡ folded_of m (fold_number m k original var list src out) → src ≡ 2 * size → out ≡ room
     → folded a ≡ folded_of m (fold_number m k original var list (2 * size) room)
 fold-lent m k original var list size a e f g = e ∙ ap₂ (λ (x y : ℕ). folded_of m (fold_number m k original var list x y)) f g
 
--- its number alone
-pub fold-number : (m q : ℕ) (a : Result ℕ Refusal) → folded a ≡ folded_of m q → answered a ≡ q
-fold-number m q a e = numbered a ∙ ap (λ (x : Folded). x.number) e ∙ number_of m q
+-- its number, by the same
+pub fold-number : (m k original var : ℕ) (list : List ℕ) (size : ℕ) {src out room : ℕ} (a : Result ℕ Refusal)
+    → folded a ≡ folded_of m (fold_number m k original var list src out) → src ≡ 2 * size → out ≡ room
+    → answered a ≡ fold_number m k original var list (2 * size) room
+fold-number m k original var list size a e f g = number-folded m _ a (fold-lent m k original var list size a e f g)
 
 -- what it leaves in the front of its buffer
 pub fold-front : (room q var by : ℕ) (half ys zs src vs : List ℕ) → length ys ≡ room

@@ -11,7 +11,7 @@ mod ring;
 use std::alloc::{AllocError, Global};
 use std::io;
 use test_lines::answer::{Answer, no_room};
-use test_lines::files::answer_files;
+use test_lines::files::answer_files_within;
 use test_lines::request::{Lent, Operation, Request, Rooms};
 
 const OPERATIONS: [Operation; 32] = [
@@ -192,7 +192,7 @@ fn answer(_alloc: Global, request: &Request, lent: &mut Lent) -> Result<Answer, 
 }
 
 fn main(rt: HostRuntime) -> io::Result<()> {
-    answer_files(
+    answer_files_within(
         &rt,
         &OPERATIONS,
         ROOMS,

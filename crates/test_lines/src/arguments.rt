@@ -70,7 +70,7 @@ pub fn number(text: &[u8]) -> usize {
 }
 
 // The number of a hexadecimal digit; 0 for any other byte.
-fn digit(c: u8) -> u8 {
+pub fn digit(c: u8) -> u8 {
     match c {
         b'0'..=b'9' => c - b'0',
         b'a'..=b'f' => c - b'a' + 10,
@@ -79,7 +79,7 @@ fn digit(c: u8) -> u8 {
 }
 
 // The word of hexadecimal digits, the highest first.
-fn word(digits: &[u8]) -> Word {
+pub fn word(digits: &[u8]) -> Word {
     let mut w = Word { lo: 0, hi: 0 };
     for c in digits {
         w = Word {
@@ -238,6 +238,15 @@ impl Halves {
             }
         }
         Ok(())
+    }
+
+    // Puts halves behind those that there are, all of them, and answers their place.
+    pub fn push(&mut self, halves: &[u64]) -> Result<Place, AllocError> {
+        let from = self.items.len();
+        self.items.extend_from_slice(halves)?;
+        let to = self.items.len();
+        self.end = to.saturating_mul(8);
+        Ok(Place { from, to })
     }
 
     // Puts what an argument stands for, and answers its place: the whole halves that it ends.

@@ -6,5 +6,6 @@ pub mod answer;
 mod arguments;
 mod draw;
 pub mod files;
+mod growing;
 pub mod request;
 pub mod values;

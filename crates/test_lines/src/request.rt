@@ -1,9 +1,11 @@
 // A request: the operation that a line names, and what it is lent. A program has a table of its operations: of each its name, and a letter for each
 // argument. `n` is a number; `w` words, `l` a list of numbers, `b` bytes; `L` is a list of numbers that is lent for writing; `W` and `B` are how many
 // halves of words and bytes an output has. With no argument, at the end, `o` is an output of one word, `p` of two words, `c` of 128 words, `d` of a digest.
-use crate::arguments;
+ghost use Rattle.std.specs.Prelude.{◌≡◌, ◌+◌, [], IsErr};
+
 use crate::arguments::{Digits, Halves, Place};
 use crate::values::{part, put};
+use crate::{arguments, growing};
 use std::alloc::{AllocError, Global};
 use std::array;
 
@@ -28,8 +30,19 @@ pub struct Rooms {
     pub key: bool,
 }
 
+// A key of 32 bytes with its count; zeros for no key.
+fn counted(key: &[u8]) -> [u8; 33] {
+    let mut counted = [0u8; 33];
+    if key.len() == 32 {
+        put(&mut counted, key);
+        counted[32] = 32;
+    }
+    counted
+}
+
 // What lines set for those after them: the bytes that they keep, at the front, and the key of trees, at the end. Behind the bytes that are kept lie those of
-// the line that was read last. The key is 32 bytes, and after them how many of them a line gave: none is set where it gave none.
+// the line that was read last. The key is 32 bytes, and after them how many of them a line gave: none is set where it gave none. With no rooms no more is
+// stored than what lines have set.
 #[derive(Clone, Drop)]
 pub struct Kept {
     stored: Vec<u8>,
@@ -38,7 +51,70 @@ pub struct Kept {
 }
 
 impl Kept {
-    pub fn new(alloc: Global, rooms: Rooms) -> Result<Kept, AllocError> {
+    // Nothing is set, and there are no rooms: what lines set is stored as it comes.
+    pub fn new(alloc: Global) -> Kept
+        ensures { (result.stored.items ≡ []) × (result.end ≡ 0) }
+    {
+        Kept {
+            stored: Vec::new(alloc),
+            end: 0,
+            rooms: Rooms {
+                words: [0; 2],
+                bytes: [0; 2],
+                key: true,
+            },
+        }
+    }
+
+    // The bytes that lines keep.
+    fn bytes(&self) -> &[u8] {
+        part(self.stored.as_slice(), 0, self.end)
+    }
+
+    // The key with its count, or zeros.
+    fn counted_key(&self) -> [u8; 33] {
+        self.stored.last_chunk().copied().unwrap_or([0; 33])
+    }
+
+    // Keeps bytes more, and sets the key with its count.
+    fn set(&mut self, more: &[u8], key: [u8; 33]) -> Result<(), AllocError>
+        ensures { IsErr result → (self.new.stored.items ≡ self.old.stored.items) × (self.new.end ≡ self.old.end) }
+    {
+        let end = self.end.saturating_add(more.len());
+        let size = end.saturating_add(33).max(self.stored.len());
+        self.stored.resize(size, 0)?;
+        let from = self.end.min(size);
+        put(&mut self.stored.as_mut_slice()[from..], more);
+        if let Some(place) = self.stored.last_chunk_mut::<33>() {
+            *place = key;
+        }
+        self.end = end;
+        Ok(())
+    }
+
+    // Whether a line asks for nothing: it keeps bytes or sets the key, is empty or begins with `# `. Where memory runs out, all stays as it was.
+    pub fn takes(&mut self, alloc: Global, line: &str) -> Result<bool, AllocError>
+        ensures { IsErr result → (self.new.stored.items ≡ self.old.stored.items) × (self.new.end ≡ self.old.end) }
+    {
+        let (name, text) = line.split_once(' ').unwrap_or((line, ""));
+        match name {
+            "=" => {
+                let more = growing::bytes(alloc, Digits::Bytes, text, self.bytes())?;
+                let key = self.counted_key();
+                self.set(more.as_slice(), key)?;
+                Ok(true)
+            }
+            "key" => {
+                let key = growing::bytes(alloc, Digits::Bytes, text, self.bytes())?;
+                self.set(&[], counted(key.as_slice()))?;
+                Ok(true)
+            }
+            _ => Ok(name == "#" || name == ""),
+        }
+    }
+
+    // Nothing is set, within the rooms of a program.
+    pub fn within(alloc: Global, rooms: Rooms) -> Result<Kept, AllocError> {
         let key = if rooms.key { 33 } else { 0 };
         Ok(Kept {
             stored: vec![in alloc; 0u8; STORED + key]?,
@@ -64,8 +140,8 @@ impl Kept {
         }
     }
 
-    // Whether a line asks for nothing: it keeps bytes or sets the key, or it has no name, or one of those for lines that are passed over.
-    pub fn takes(&mut self, line: &[u8]) -> bool {
+    // Whether a line asks for nothing, within rooms: it keeps bytes or sets the key, or it has no name, or one of those for lines that are passed over.
+    pub fn takes_within(&mut self, line: &[u8]) -> bool {
         let mut texts = line.split(|c| *c == b' ');
         let name = texts.next().unwrap_or(&[]);
         let text = texts.next().unwrap_or(&[]);
@@ -149,7 +225,28 @@ impl Request {
         self.halves.put(kind, text, self.kept.stored.as_slice())
     }
 
-    // What lines have set, once a request is answered.
+    // An input more of words, by halves.
+    fn push_words(&mut self, halves: &[u64]) -> Result<(), AllocError> {
+        let place = self.halves.push(halves)?;
+        self.words.push(place)?;
+        Ok(())
+    }
+
+    // An input more of bytes.
+    fn push_bytes(&mut self, bytes: &[u8]) -> Result<(), AllocError> {
+        let from = self.kept.stored.len();
+        self.kept.stored.extend_from_slice(bytes)?;
+        let to = self.kept.stored.len();
+        self.bytes.push(Place { from, to })?;
+        Ok(())
+    }
+
+    // The key behind all inputs.
+    fn push_key(&mut self, key: [u8; 33]) -> Result<(), AllocError> {
+        self.kept.stored.extend_from_slice(&key)
+    }
+
+    // What lines have set, once a request is answered that was read within rooms.
     pub fn into_kept(self) -> Kept {
         self.kept
     }
@@ -170,19 +267,39 @@ fn fitting(rooms: [usize; 2], outputs: usize, count: usize) -> usize {
 
 impl Lent {
     // An output of words more, of so many halves.
-    fn push_words(&mut self, alloc: Global, rooms: Rooms, halves: usize) -> Result<(), AllocError> {
-        let halves = fitting(rooms.words, self.words.len(), halves);
+    fn push_words(&mut self, alloc: Global, halves: usize) -> Result<(), AllocError> {
         let output = vec![in alloc; 0xa5a5_a5a5_a5a5_a5a5u64; halves]?;
         self.words.push(output)?;
         Ok(())
     }
 
+    // The same, of as many as rooms allow.
+    fn push_words_within(
+        &mut self,
+        alloc: Global,
+        rooms: Rooms,
+        halves: usize,
+    ) -> Result<(), AllocError> {
+        let halves = fitting(rooms.words, self.words.len(), halves);
+        self.push_words(alloc, halves)
+    }
+
     // An output of bytes more, of so many.
-    fn push_bytes(&mut self, alloc: Global, rooms: Rooms, count: usize) -> Result<(), AllocError> {
-        let count = fitting(rooms.bytes, self.bytes.len(), count);
+    fn push_bytes(&mut self, alloc: Global, count: usize) -> Result<(), AllocError> {
         let output = vec![in alloc; 0xa5u8; count]?;
         self.bytes.push(output)?;
         Ok(())
+    }
+
+    // The same, of as many as rooms allow.
+    fn push_bytes_within(
+        &mut self,
+        alloc: Global,
+        rooms: Rooms,
+        count: usize,
+    ) -> Result<(), AllocError> {
+        let count = fitting(rooms.bytes, self.bytes.len(), count);
+        self.push_bytes(alloc, count)
     }
 }
 
@@ -228,8 +345,58 @@ pub fn named<'a>(operations: &'a [Operation], line: &[u8]) -> Option<&'a Operati
         .find(|operation| operation.name.as_bytes() == name)
 }
 
-// What a line asks for that names an operation, and is lent. Its bytes lie behind those that are kept.
+// What a line of a program with these operations asks for, and is lent; none where it names no operation.
 pub fn read(
+    alloc: Global,
+    operations: &[Operation],
+    line: &str,
+    kept: &Kept,
+) -> Result<Option<(Request, Lent)>, AllocError> {
+    let mut texts = line.split(' ');
+    let name = texts.next().unwrap_or("");
+    let Some(operation) = operations.iter().find(|operation| operation.name == name) else {
+        return Ok(None);
+    };
+    let mut request = Request {
+        name: String::from_str(alloc, name)?,
+        numbers: Vec::new(alloc),
+        lists: Vec::new(alloc),
+        halves: Halves::new(alloc),
+        words: Vec::new(alloc),
+        bytes: Vec::new(alloc),
+        kept: Kept::new(alloc),
+    };
+    let mut lent = Lent {
+        list: None,
+        words: Vec::new(alloc),
+        bytes: Vec::new(alloc),
+    };
+    for letter in operation.letters.chars() {
+        let text = texts.next().unwrap_or("");
+        let number = growing::number(text) as usize;
+        match letter {
+            'l' => request.lists.push(growing::numbers(alloc, text)?)?,
+            'w' => request.push_words(growing::words(alloc, text, kept.bytes())?.as_slice())?,
+            'b' => {
+                let bytes = growing::bytes(alloc, Digits::Bytes, text, kept.bytes())?;
+                request.push_bytes(bytes.as_slice())?;
+            }
+            'L' => lent.list = Some(growing::numbers(alloc, text)?),
+            'W' => lent.push_words(alloc, number)?,
+            'B' => lent.push_bytes(alloc, number)?,
+            'o' => lent.push_words(alloc, 2)?,
+            'p' => lent.push_words(alloc, 4)?,
+            'c' => lent.push_words(alloc, 256)?,
+            'd' => lent.push_bytes(alloc, 32)?,
+            _ => request.numbers.push(number)?,
+        }
+    }
+    request.push_key(kept.counted_key())?;
+    Ok(Some((request, lent)))
+}
+
+// What a line asks for that names an operation, and is lent, within rooms. Its bytes lie behind those that are kept.
+pub fn read_within(
     alloc: Global,
     operation: &Operation,
     line: &[u8],
@@ -274,12 +441,12 @@ pub fn read(
                 let place = request.put_halves(Digits::Numbers, text)?;
                 lent.list = Some(numbers_of(alloc, request.halves.at(place), LISTED)?);
             }
-            'W' => lent.push_words(alloc, rooms, number)?,
-            'B' => lent.push_bytes(alloc, rooms, number)?,
-            'o' => lent.push_words(alloc, rooms, 2)?,
-            'p' => lent.push_words(alloc, rooms, 4)?,
-            'c' => lent.push_words(alloc, rooms, 256)?,
-            'd' => lent.push_bytes(alloc, rooms, 32)?,
+            'W' => lent.push_words_within(alloc, rooms, number)?,
+            'B' => lent.push_bytes_within(alloc, rooms, number)?,
+            'o' => lent.push_words_within(alloc, rooms, 2)?,
+            'p' => lent.push_words_within(alloc, rooms, 4)?,
+            'c' => lent.push_words_within(alloc, rooms, 256)?,
+            'd' => lent.push_bytes_within(alloc, rooms, 32)?,
             _ => request.numbers.push(number)?,
         }
     }

@@ -14,7 +14,7 @@ mod whole;
 use std::alloc::{AllocError, Global};
 use std::io;
 use test_lines::answer::{Answer, no_room};
-use test_lines::files::answer_files;
+use test_lines::files::answer_files_within;
 use test_lines::request::{Lent, Operation, Request, Rooms};
 
 const OPERATIONS: [Operation; 43] = [
@@ -250,7 +250,7 @@ fn answer(alloc: Global, request: &Request, lent: &mut Lent) -> Result<Answer, A
 }
 
 fn main(rt: HostRuntime) -> io::Result<()> {
-    answer_files(
+    answer_files_within(
         &rt,
         &OPERATIONS,
         ROOMS,

@@ -3,7 +3,7 @@ use mathlib.Core.Path.{refl, sym}
 use native.Mathlib.Omega.{arith}
 use lib.Seq.{length-take-le}
 use Rattle.code_levels.proofs.Laying.{within, next-from}
-use Rattle.code_levels.proofs.Slices.{fold-number}
+use Rattle.code_levels.proofs.Slices.{number-folded}
 use Rattle.claim_fold_calls.specs.helpers.Laid.{asked}
 use Rattle.claim_fold_calls.proofs.Turns.{too_long, err-refused, ok-done, called_refused, called_no, called_done}
 use borrow.Author.Rules.{rules}
@@ -20,7 +20,7 @@ slice_bounds-fold_level-end-2 c =
 pub returns-then-is_err : goal.returns-then-is_err
 returns-then-is_err c =
     let e = c.fold_level-folded.ensures in
-    called_no _ _ c.requires.level c.requires.below (asked c.args.x) (fold-number _ _ _ e.value) e.coordinates_after (err-refused _ (search rules))
+    called_no _ _ c.requires.level c.requires.below (asked c.args.x) (number-folded _ _ _ e.value) e.coordinates_after (err-refused _ (search rules))
 
 pub overflow_mul-to : goal.overflow_mul-to
 overflow_mul-to c = let w = within c.requires.level c.level_length.ensures in search rules
@@ -43,5 +43,5 @@ pub returns : goal.returns
 returns c =
     let p = c.requires in
     let e = c.fold_level-folded.ensures in
-    called_done _ _ p.level p.below (asked c.args.x) (fold-number _ _ _ e.value) e.coordinates_after (ok-done _ (search rules)) _ _
+    called_done _ _ p.level p.below (asked c.args.x) (number-folded _ _ _ e.value) e.coordinates_after (ok-done _ (search rules)) _ _
     (next-from _ _ _ p.level.from= c.level_length.ensures) e.half_after c.lay.ensures c.put.ensures
