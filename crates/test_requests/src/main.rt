@@ -1,5 +1,5 @@
 // Request lines with as much room as they need: those of two files, answered in one call, and those of the standard input, read one by one. The lines ask
-// for more than there is within the rooms of test_field and test_record, and for what stands otherwise there.
+// for more than there is within the rooms of test_field and test_record, and have pieces that are read otherwise there.
 #![tactic(auto)]
 
 use std::alloc::{AllocError, Global};
@@ -8,8 +8,8 @@ use test_lines::answer::{Answer, no_room};
 use test_lines::files::answer_files;
 use test_lines::request::{Kept, Lent, Operation, Request, listed, read};
 
-// Bytes, words and a list that are read; two inputs of bytes; a list and outputs that are written; and the key.
-const OPERATIONS: [Operation; 5] = [
+// Bytes, words and a list that are read; two inputs of bytes; a list and outputs that are written; outputs of one word, two words, 128 and a digest; the key.
+const OPERATIONS: [Operation; 6] = [
     Operation {
         name: "lengths",
         letters: "nbwl",
@@ -25,6 +25,10 @@ const OPERATIONS: [Operation; 5] = [
     Operation {
         name: "written",
         letters: "nLWWWBBB",
+    },
+    Operation {
+        name: "sized",
+        letters: "opcd",
     },
     Operation {
         name: "keyed",
@@ -85,6 +89,19 @@ fn written(request: &Request, lent: &mut Lent) -> Answer {
     )
 }
 
+// How many halves there are in the outputs of words, and how many bytes in the digest.
+fn sized(lent: &Lent) -> Answer {
+    let halves = lent
+        .words
+        .iter()
+        .fold(0u64, |sum, words| sum.saturating_add(words.len() as u64));
+    let bytes = lent
+        .bytes
+        .iter()
+        .fold(0u64, |sum, bytes| sum.saturating_add(bytes.len() as u64));
+    Answer::Two(halves, bytes)
+}
+
 // Whether a key is set, and its last byte.
 fn keyed(request: &Request) -> Answer {
     match request.key() {
@@ -100,12 +117,13 @@ fn answer(_alloc: Global, request: &Request, lent: &mut Lent) -> Result<Answer, 
         "ends" => ends(request),
         "both" => both(request),
         "written" => written(request, lent),
+        "sized" => sized(lent),
         "keyed" => keyed(request),
         _ => no_room(),
     })
 }
 
-// What a line that asks for something is answered by its name and the lengths of what it is lent for reading; one that names no operation by that.
+// Prints the name of the operation that a line asks for and the lengths of its inputs, or that it names none.
 fn print_read(rt: &impl Print, request: Option<(Request, Lent)>) -> io::Result<()> {
     match request {
         Some((request, _)) => println!(rt; "{}{}", request.name, lengths(&request)),
